@@ -1,0 +1,168 @@
+use ndc_event::Name;
+use std::alloc::AllocError;
+use std::marker::Model;
+
+/// What a caller asks of a workflow.
+#[derive(Debug, Drop)]
+pub enum Command {
+    /// Begins a run.
+    Start { workflow_type: Name },
+    /// Sends a signal to the current run.
+    Signal { name: Name, input: Name },
+    /// Asks the current run to cancel itself.
+    Cancel,
+    /// Closes the current run from outside.
+    Terminate { reason: Name },
+    /// Starts the scheduled decision.
+    Decide,
+    /// Completes the started decision with what the workflow decided.
+    Respond { actions: Actions },
+    /// Fails the started decision, which is scheduled again.
+    FailDecision { cause: Name },
+    /// Times the started decision out, which is scheduled again.
+    TimeoutDecision,
+    /// Starts a scheduled activity.
+    ActivityStart { id: Name },
+    /// Completes a started activity.
+    ActivityDone { id: Name, result: Name },
+    /// Fails a started activity.
+    ActivityFail { id: Name, reason: Name },
+    /// Times a pending activity out.
+    ActivityTimeout { id: Name },
+    /// Fires a pending timer.
+    Fire { id: Name },
+    /// Tells that a child has started.
+    ChildStart { id: Name },
+    /// Tells that a started child has completed.
+    ChildDone { id: Name, result: Name },
+    /// Tells that a started child has failed.
+    ChildFail { id: Name, reason: Name },
+}
+
+/// One action of a completed decision. The last four close the run.
+#[derive(Clone, Debug, Drop)]
+pub enum Action {
+    Activity { id: Name, activity_type: Name },
+    Timer { id: Name },
+    Untimer { id: Name },
+    Child { id: Name, workflow_type: Name },
+    Marker { name: Name },
+    Complete { result: Name },
+    Fail { reason: Name },
+    Canceled,
+    /// Closes the run and begins a new one of this type.
+    Continue { workflow_type: Name },
+}
+
+impl Action {
+    ghost use Rattle.std.specs.Prelude.{◌≡◌, IfOk};
+
+    /// The same action.
+    pub fn try_copy(&self) -> Result<Action, AllocError>
+        ensures { IfOk result (λ copy. copy ≡ self.now) }
+    {
+        self.clone()
+    }
+}
+
+/// A list of actions, in order.
+#[derive(Debug, Drop)]
+pub struct Actions {
+    items: Vec<Action>,
+}
+
+impl Model for Actions {
+    ghost use Rattle.std.specs.Prelude.{List};
+    ghost use Rattle.ndc_command.specs.declared.command.Action.{Action};
+
+    ghost Value = { List Action };
+
+    ghost view = { λ actions. actions.items.items };
+}
+
+impl Actions {
+    ghost use Rattle.std.specs.Prelude.{◌≡◌, IfOk};
+
+    /// The list of these actions.
+    pub fn new(items: Vec<Action>) -> Actions
+        ensures { result ≡ items.items }
+    {
+        Actions { items }
+    }
+
+    /// The actions, to be read.
+    pub fn as_slice(&self) -> &[Action]
+        ensures { result.now ≡ self.now }
+    {
+        self.items.as_slice()
+    }
+
+    /// The actions, given back.
+    pub fn into_vec(self) -> Vec<Action>
+        ensures { result.items ≡ self }
+    {
+        self.items
+    }
+
+    /// The same actions.
+    pub fn try_copy(&self) -> Result<Actions, AllocError>
+        ensures { IfOk result (λ copy. copy ≡ self.now) }
+    {
+        let mut items = Vec::with_capacity(*self.items.allocator(), self.items.len())?;
+        for action in self.items.as_slice() {
+            items.push(action.clone()?)?;
+        }
+        Ok(Actions { items })
+    }
+}
+
+impl Command {
+    ghost use Rattle.std.specs.Prelude.{◌≡◌, IfOk};
+
+    /// The same command.
+    pub fn try_copy(&self) -> Result<Command, AllocError>
+        ensures { IfOk result (λ copy. copy ≡ self.now) }
+    {
+        Ok(match self {
+            Command::Start { workflow_type } => Command::Start {
+                workflow_type: workflow_type.try_copy()?,
+            },
+            Command::Signal { name, input } => Command::Signal {
+                name: name.try_copy()?,
+                input: input.try_copy()?,
+            },
+            Command::Cancel => Command::Cancel,
+            Command::Terminate { reason } => Command::Terminate {
+                reason: reason.try_copy()?,
+            },
+            Command::Decide => Command::Decide,
+            Command::Respond { actions } => Command::Respond {
+                actions: actions.try_copy()?,
+            },
+            Command::FailDecision { cause } => Command::FailDecision {
+                cause: cause.try_copy()?,
+            },
+            Command::TimeoutDecision => Command::TimeoutDecision,
+            Command::ActivityStart { id } => Command::ActivityStart { id: id.try_copy()? },
+            Command::ActivityDone { id, result } => Command::ActivityDone {
+                id: id.try_copy()?,
+                result: result.try_copy()?,
+            },
+            Command::ActivityFail { id, reason } => Command::ActivityFail {
+                id: id.try_copy()?,
+                reason: reason.try_copy()?,
+            },
+            Command::ActivityTimeout { id } => Command::ActivityTimeout { id: id.try_copy()? },
+            Command::Fire { id } => Command::Fire { id: id.try_copy()? },
+            Command::ChildStart { id } => Command::ChildStart { id: id.try_copy()? },
+            Command::ChildDone { id, result } => Command::ChildDone {
+                id: id.try_copy()?,
+                result: result.try_copy()?,
+            },
+            Command::ChildFail { id, reason } => Command::ChildFail {
+                id: id.try_copy()?,
+                reason: reason.try_copy()?,
+            },
+        })
+    }
+}

@@ -1,0 +1,13 @@
+pub mod Writers
+pub mod Least
+pub mod Faults
+pub mod FlagEdits
+pub mod Order
+pub mod Tables
+pub mod Edits
+pub mod BothTables
+pub mod Unions
+pub mod MergeLaws
+pub mod CallLaws
+pub mod ActiveLaws
+pub mod NoNews

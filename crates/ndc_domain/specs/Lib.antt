@@ -1,0 +1,9 @@
+pub mod Clusters
+pub mod Next
+pub mod Members
+pub mod Flags
+pub mod Records
+pub mod Places
+pub mod Outcome
+pub mod Merge
+pub mod Laws

@@ -1,0 +1,6 @@
+pub mod Outcome
+pub mod Name
+pub mod Key
+pub mod Kind
+pub mod Batch
+pub mod Attributes

@@ -1,0 +1,64 @@
+ghost use Rattle.std.specs.Prelude.{◌≡◌, IfOk, List};
+ghost use Rattle.std.specs.String.{string_bytes};
+
+use std::alloc::{AllocError, Global};
+use uuid::Uuid;
+
+/// The key of a batch in its workflow: the failover version that it was written with, and its task
+/// number. Keys are ordered by version, then task.
+#[derive(Clone, Copy, Debug, PartialEq, Eq, PartialOrd, Ord, Hash)]
+pub struct BatchKey {
+    pub version: u64,
+    pub task: u64,
+}
+
+impl BatchKey {
+    ghost use Rattle.std.specs.Prelude.{◌≡◌, IsTrue, ◌↔◌};
+    ghost use Rattle.ndc_event.specs.Key.{key_lt};
+
+    /// Whether this key comes before the other.
+    pub fn is_before(self, other: BatchKey) -> bool
+        ensures { result ≡ key_lt self other }
+    {
+        self.version < other.version || self.version == other.version && self.task < other.task
+    }
+}
+
+/// The id of a run: the version of its first batch times 2^64, plus that batch's task.
+#[derive(Clone, Copy, Debug, PartialEq, Eq, PartialOrd, Ord, Hash)]
+pub struct RunId {
+    pub value: u128,
+}
+
+impl RunId {
+    ghost use Rattle.std.specs.Prelude.{◌≡◌, IfOk};
+    ghost use Rattle.std.specs.String.{string_bytes};
+    ghost use Rattle.ndc_event.specs.Key.{run_of, run_text};
+
+    /// The run whose first batch has this key.
+    pub fn of(key: BatchKey) -> RunId
+        ensures { result ≡ run_of key }
+    {
+        RunId {
+            value: u128::from(key.version) * (1 << 64) + u128::from(key.task),
+        }
+    }
+
+    /// The id in hyphenated lower-case form, 36 bytes.
+    pub fn text(&self, alloc: Global) -> Result<String, AllocError>
+        ensures { IfOk result (λ text. string_bytes text ≡ run_text self.now) }
+    {
+        let mut buffer = Uuid::encode_buffer();
+        let id = Uuid::from_u128(self.value).hyphenated();
+        String::from_str(alloc, id.encode_lower(&mut buffer))
+    }
+}
+
+/// The signal event that a signal comes from: the run, the event id and the version that it was first
+/// written with.
+#[derive(Clone, Copy, Debug, PartialEq, Eq, PartialOrd, Ord, Hash)]
+pub struct Origin {
+    pub run: RunId,
+    pub event: u64,
+    pub version: u64,
+}

@@ -1,0 +1,12 @@
+pub mod BelowCount
+pub mod Cuts
+pub mod Digits
+pub mod LineLists
+pub mod Members
+pub mod PrintedBody
+pub mod PrintedHeader
+pub mod PrintedLines
+pub mod PrintedMembers
+pub mod PrintedNumbers
+pub mod PrintedScript
+pub mod PrintedWords

@@ -1,0 +1,10 @@
+use Rattle.std.proofs.Common.{◌≡◌, ◌<◌, All}
+use Rattle.ndc_script.specs.Body.{clusters_below}
+use Rattle.ndc_script.proofs.body.clusters_below.Given as goal
+
+-- so many clusters are there
+abbrev pub invariant-loop-number : goal.invariant-loop-number
+invariant-loop-number l = record {
+  first : l.clusters.items ≡ clusters_below l.number;
+  below : All (λ cluster. cluster.number < l.count) l.clusters.items;
+}

@@ -1,0 +1,17 @@
+use Rattle.std.proofs.Common.{◌<◌, All, List, subst, sym}
+use Rattle.ndc_domain.specs.Clusters.{count_of}
+use Rattle.ndc_domain.specs.declared.clusters.ClusterNo.{ClusterNo}
+use Rattle.ndc_script.proofs.BelowCount.{members_of-below, below_eight}
+use Rattle.ndc_script.proofs.body.members_named.Goals as goal
+
+-- the clusters are among at most eight
+pub of-requires : goal.of-requires
+of-requires c =
+    subst (λ (clusters : List ClusterNo). All (λ cluster. cluster.number < 8) clusters) (sym c.as_slice.ensures.value)
+    (below_eight (count_of c.args.header.now.clusters) c.in_ok-clusters.clusters.items c.count-count.ensures.sound.count_most c.in_ok-clusters.ensures.below)
+
+-- so are the members that they are
+pub returns-clause-below : goal.returns-clause-below
+returns-clause-below c =
+    rw (c.of.ensures, c.as_slice.ensures.value)
+    (members_of-below (count_of c.args.header.now.clusters) c.in_ok-clusters.clusters.items c.in_ok-clusters.ensures.below)

@@ -1,0 +1,6 @@
+pub mod Text
+pub mod Number
+pub mod Header
+pub mod Body
+pub mod WellFormed
+pub mod Print

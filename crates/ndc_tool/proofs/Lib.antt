@@ -1,0 +1,4 @@
+pub mod Ends
+pub mod Endings
+pub mod Lines
+pub mod Pieces

@@ -1,0 +1,4 @@
+pub mod World
+pub mod Answer
+pub mod Report
+pub mod Top
