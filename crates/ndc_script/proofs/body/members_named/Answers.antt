@@ -1,7 +1,7 @@
 use Rattle.std.proofs.Common.{◌<◌, All, List, subst, sym}
 use Rattle.ndc_domain.specs.Clusters.{count_of}
 use Rattle.ndc_domain.specs.declared.clusters.ClusterNo.{ClusterNo}
-use Rattle.ndc_script.proofs.BelowCount.{members_of-below, below_eight}
+use Rattle.ndc_script.proofs.BelowCount.{below_eight}
 use Rattle.ndc_script.proofs.body.members_named.Goals as goal
 
 -- the clusters are among at most eight
@@ -13,5 +13,6 @@ of-requires c =
 -- so are the members that they are
 pub returns-clause-below : goal.returns-clause-below
 returns-clause-below c =
-    rw (c.of.ensures, c.as_slice.ensures.value)
-    (members_of-below (count_of c.args.header.now.clusters) c.in_ok-clusters.clusters.items c.in_ok-clusters.ensures.below)
+    c.of.ensures.below (count_of c.args.header.now.clusters)
+    (subst (λ (clusters : List ClusterNo). All (λ cluster. cluster.number < count_of c.args.header.now.clusters) clusters) (sym c.as_slice.ensures.value)
+    c.in_ok-clusters.ensures.below)

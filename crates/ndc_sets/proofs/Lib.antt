@@ -1,0 +1,4 @@
+pub mod KeyLemmas
+pub mod SetLemmas
+pub mod LearnedLemmas
+pub mod ArrivalLemmas

@@ -1,0 +1,11 @@
+pub mod Floats
+pub mod Names
+pub mod Lists
+pub mod Plain
+pub mod Closing
+pub mod Values
+pub mod Shapes
+pub mod Again
+pub mod Found
+pub mod Exact
+pub mod Errors

@@ -1,0 +1,6 @@
+pub mod Text
+pub mod Table
+pub mod Ranges
+pub mod Walk
+pub mod Seen
+pub mod Read
