@@ -1,0 +1,11 @@
+//! Version histories: for each failover version on a path of a run, the last event id written with it.
+#![tactic(auto)]
+
+mod history;
+mod item;
+
+pub use history::{VersionHistory, best_common};
+pub use item::{AddError, Item};
+
+#[cfg(test)]
+mod tests;

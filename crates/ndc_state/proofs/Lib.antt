@@ -1,0 +1,6 @@
+pub mod PlaceLemmas
+pub mod TextLemmas
+pub mod RowLemmas
+pub mod ReplayLemmas
+pub mod OriginLemmas
+pub mod LawProofs

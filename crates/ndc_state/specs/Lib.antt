@@ -1,0 +1,12 @@
+pub mod Counted
+pub mod Marked
+pub mod Pendings
+pub mod Places
+pub mod Origins
+pub mod OriginList
+pub mod Value
+pub mod Table
+pub mod Tracked
+pub mod Replay
+pub mod Text
+pub mod Laws

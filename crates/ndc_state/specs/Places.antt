@@ -1,0 +1,28 @@
+-- The fields of what is pending, as the entries now and at the last mark.
+use Rattle.std.specs.Prelude.{ℕ, ◌≤◌, List, length, Option, Some, None}
+use Rattle.indexmap.specs.IndexMap.{IndexMap}
+use Rattle.ndc_event.specs.declared.name.Name.{Name}
+use Rattle.ndc_state.specs.declared.pendings.Pending.{Pending}
+use Rattle.ndc_state.specs.declared.pendings.Pendings.TheInside.{Inside}
+use Rattle.ndc_state.specs.Marked.{Marked}
+use Rattle.ndc_state.specs.Pendings.{gone_back}
+
+-- the entries at the mark: those kept, or those now taken back
+abbrev pub marked_of : {S : Type 0} → Option (IndexMap Name Pending S) → ℕ → List ℕ → List (Name × Pending) → List (Name × Pending)
+marked_of None count places entries = gone_back count places entries
+marked_of (Some kept) count places entries = kept.entries
+
+-- the entries now, and at the mark
+abbrev pub pendings_of : Inside → Marked (List (Name × Pending))
+pendings_of p = record {
+  current = p.entries.entries;
+  marked = marked_of p.kept p.count p.started.items p.entries.entries;
+}
+
+-- as long as none was removed, those at the mark are among those now
+abbrev pub IsCountWithin : {S : Type 0} → Option (IndexMap Name Pending S) → ℕ → List (Name × Pending) → Type 0
+IsCountWithin None count entries = count ≤ length entries
+IsCountWithin (Some kept) count entries = Unit {0}
+
+abbrev pub IsMarkWithin : Inside → Type 0
+IsMarkWithin p = IsCountWithin p.kept p.count p.entries.entries

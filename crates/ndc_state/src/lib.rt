@@ -1,0 +1,19 @@
+//! The mutable state of a run: what its events amount to, one event after another.
+#![tactic(auto)]
+
+pub mod laws;
+mod origins;
+mod pendings;
+mod rule;
+mod state;
+mod steps;
+mod text;
+mod tracked;
+
+pub use pendings::Pending;
+pub use rule::{CloseKind, Rule, StateError};
+pub use state::State;
+pub use steps::Steps;
+
+#[cfg(test)]
+mod tests;

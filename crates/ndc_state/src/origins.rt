@@ -1,0 +1,146 @@
+ghost use Rattle.std.specs.Prelude.{◌≡◌};
+ghost use Rattle.ndc_state.specs.Origins.{origin_of};
+
+use indexmap::IndexSet;
+use ndc_event::{Event, EventKind, Origin, RunId};
+use std::alloc::{AllocError, Global};
+use std::marker::Model;
+
+/// The origins of a run's signals, in order and each once, with what takes them back to how they were at
+/// the last mark. The set finds an origin without going over the others.
+#[derive(Drop)]
+pub(crate) struct Origins {
+    listed: IndexSet<Origin>,
+    /// How many there were at the mark.
+    count: usize,
+}
+
+impl Model for Origins {
+    ghost use Rattle.std.specs.Prelude.{List};
+    ghost use Rattle.ndc_event.specs.declared.key.Origin.{Origin};
+    ghost use Rattle.ndc_state.specs.Marked.{Marked};
+
+    ghost Value = { Marked (List Origin) };
+
+    ghost use Rattle.ndc_state.specs.OriginList.{origins_of, IsMarkWithin};
+
+    ghost view = { origins_of };
+
+    ghost invariant = { IsMarkWithin };
+}
+
+/// The origin of a signal event of the run: the one that a copy names, or the event itself.
+pub(crate) fn origin_of(run: RunId, event: &Event, origin: Option<Origin>) -> Origin
+    ensures { result ≡ origin_of run event.now.id event.now.version origin }
+{
+    match origin {
+        None => Origin {
+            run,
+            event: event.id,
+            version: event.version,
+        },
+        Some(origin) => origin,
+    }
+}
+
+impl Origins {
+    ghost use Rattle.std.specs.Prelude.{◌≡◌, [], OnOk, OnErr, IfOk, length};
+    ghost use Rattle.ndc_state.specs.Origins.{is_among, with_origin};
+    ghost use Rattle.ndc_state.specs.Replay.{collected, collected_by};
+
+    /// There is no origin.
+    pub(crate) fn new(alloc: Global) -> Origins
+        ensures current { result.current ≡ [] }
+        ensures marked { result.marked ≡ [] }
+    {
+        Origins {
+            listed: IndexSet::new(alloc),
+            count: 0,
+        }
+    }
+
+    /// The origins, in order.
+    pub(crate) fn as_slice(&self) -> &[Origin]
+        ensures { result.now ≡ self.now.current }
+    {
+        self.listed.as_slice()
+    }
+
+    /// How many there are.
+    pub(crate) fn len(&self) -> usize
+        ensures { result ≡ length self.now.current }
+    {
+        self.listed.len()
+    }
+
+    /// Whether the origin is listed.
+    pub(crate) fn contains(&self, origin: Origin) -> bool
+        ensures { result ≡ is_among origin self.now.current }
+    {
+        self.listed.contains(&origin)
+    }
+
+    /// Puts the origin last, unless it is listed.
+    pub(crate) fn insert(&mut self, origin: Origin) -> Result<(), AllocError>
+        ensures current { OnOk result (self.new.current ≡ with_origin origin self.old.current) }
+        ensures marked { self.new.marked ≡ self.old.marked }
+        ensures err { OnErr result (self.new ≡ self.old) }
+    {
+        self.listed.insert(origin)?;
+        Ok(())
+    }
+
+    /// Makes the origins listed now the mark.
+    pub(crate) fn mark(&mut self)
+        ensures current { self.new.current ≡ self.old.current }
+        ensures marked { self.new.marked ≡ self.old.current }
+    {
+        self.count = self.listed.len();
+    }
+
+    /// Goes back to the mark.
+    pub(crate) fn revert(&mut self)
+        ensures current { self.new.current ≡ self.old.marked }
+        ensures marked { self.new.marked ≡ self.old.marked }
+    {
+        self.listed.truncate(self.count);
+    }
+
+    /// The same origins as they are now.
+    pub(crate) fn try_copy(&self) -> Result<Origins, AllocError>
+        ensures { IfOk result (λ copy. copy.current ≡ self.now.current) }
+    {
+        let listed = self.listed.clone()?;
+        let count = listed.len();
+        Ok(Origins { listed, count })
+    }
+
+    /// Lists the origin of the event, where it is a signal.
+    fn collect_one(&mut self, run: RunId, event: &Event) -> Result<(), AllocError>
+        ensures current { OnOk result (self.new.current ≡ collected_by run event.now.id event.now.version event.now.kind self.old.current) }
+        ensures marked { self.new.marked ≡ self.old.marked }
+    {
+        match &event.kind {
+            EventKind::WorkflowExecutionSignaled { origin, .. } => {
+                self.insert(origin_of(run, event, *origin))?;
+                Ok(())
+            }
+            _ => Ok(()),
+        }
+    }
+
+    /// Lists the origins of the signals among the events, or goes back to where it was.
+    pub(crate) fn collect(&mut self, run: RunId, events: &[Event]) -> Result<(), AllocError>
+        ensures ok { OnOk result (self.new.current ≡ collected run self.old.current events.now) }
+        ensures err { OnErr result (self.new.current ≡ self.old.current) }
+    {
+        self.mark();
+        for event in events {
+            if let Err(error) = self.collect_one(run, event) {
+                self.revert();
+                return Err(error);
+            }
+        }
+        Ok(())
+    }
+}

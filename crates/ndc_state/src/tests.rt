@@ -1,0 +1,484 @@
+ghost use Rattle.std.specs.Prelude.{◌≤◌, ◌^◌, All, IfOk};
+
+use super::*;
+use ndc_event::{Event, EventKind, Name, Origin, RunId};
+use std::alloc::{AllocError, Global};
+use std::test::Fail;
+
+// Marks the counters of these tests.
+struct Test;
+
+const RUN: RunId = RunId {
+    value: 18446744073709551617,
+};
+
+fn name(alloc: Global, text: &str) -> Result<Name, AllocError> {
+    Name::new(alloc, text.as_bytes()).map_err(|_| AllocError)
+}
+
+// The signal of this word: `signal`, or `copy` with the event id of its origin.
+fn signal(alloc: Global, word: &str) -> Result<EventKind, AllocError> {
+    let origin = match word.strip_prefix("copy") {
+        Some(event) => Some(Origin {
+            run: RUN,
+            event: event.parse().unwrap_or(0),
+            version: 1,
+        }),
+        None => None,
+    };
+    Ok(EventKind::WorkflowExecutionSignaled {
+        signal_name: name(alloc, "s")?,
+        input: name(alloc, "i")?,
+        origin,
+    })
+}
+
+fn workflow_kind(alloc: Global, word: &str) -> Result<EventKind, AllocError> {
+    match word {
+        "start" => Ok(EventKind::WorkflowExecutionStarted {
+            workflow_type: name(alloc, "t")?,
+        }),
+        "cancel" => Ok(EventKind::WorkflowExecutionCancelRequested),
+        "complete" => Ok(EventKind::WorkflowExecutionCompleted {
+            result: name(alloc, "r")?,
+        }),
+        "fail" => Ok(EventKind::WorkflowExecutionFailed {
+            reason: name(alloc, "r")?,
+        }),
+        "canceled" => Ok(EventKind::WorkflowExecutionCanceled),
+        "terminate" => Ok(EventKind::WorkflowExecutionTerminated {
+            reason: name(alloc, "r")?,
+        }),
+        "continue" => Ok(EventKind::WorkflowExecutionContinuedAsNew {
+            new_execution_run_id: RUN,
+            workflow_type: name(alloc, "t")?,
+        }),
+        "marker" => Ok(EventKind::MarkerRecorded {
+            marker_name: name(alloc, "m")?,
+        }),
+        _ => signal(alloc, word),
+    }
+}
+
+fn decision_kind(alloc: Global, word: &str) -> Result<EventKind, AllocError> {
+    match word {
+        "wake" => Ok(EventKind::DecisionTaskScheduled),
+        "decide" => Ok(EventKind::DecisionTaskStarted),
+        "respond" => Ok(EventKind::DecisionTaskCompleted),
+        "undecided" => Ok(EventKind::DecisionTaskFailed {
+            cause: name(alloc, "c")?,
+        }),
+        "overdue" => Ok(EventKind::DecisionTaskTimedOut),
+        _ => workflow_kind(alloc, word),
+    }
+}
+
+fn activity_kind(alloc: Global, word: &str, id: &str) -> Result<EventKind, AllocError> {
+    let activity_id = name(alloc, id)?;
+    match word {
+        "act" => Ok(EventKind::ActivityTaskScheduled {
+            activity_id,
+            activity_type: name(alloc, "t")?,
+        }),
+        "actstart" => Ok(EventKind::ActivityTaskStarted { activity_id }),
+        "actdone" => Ok(EventKind::ActivityTaskCompleted {
+            activity_id,
+            result: name(alloc, "r")?,
+        }),
+        "actfail" => Ok(EventKind::ActivityTaskFailed {
+            activity_id,
+            reason: name(alloc, "r")?,
+        }),
+        "acttimeout" => Ok(EventKind::ActivityTaskTimedOut { activity_id }),
+        _ => decision_kind(alloc, word),
+    }
+}
+
+fn timer_kind(alloc: Global, word: &str, id: &str) -> Result<EventKind, AllocError> {
+    let timer_id = name(alloc, id)?;
+    match word {
+        "timer" => Ok(EventKind::TimerStarted { timer_id }),
+        "fire" => Ok(EventKind::TimerFired { timer_id }),
+        "untimer" => Ok(EventKind::TimerCanceled { timer_id }),
+        _ => activity_kind(alloc, word, id),
+    }
+}
+
+fn child_kind(alloc: Global, word: &str, id: &str) -> Result<EventKind, AllocError> {
+    let workflow_id = name(alloc, id)?;
+    match word {
+        "child" => Ok(EventKind::StartChildWorkflowExecutionInitiated {
+            workflow_id,
+            workflow_type: name(alloc, "t")?,
+        }),
+        "childstart" => Ok(EventKind::ChildWorkflowExecutionStarted { workflow_id }),
+        "childdone" => Ok(EventKind::ChildWorkflowExecutionCompleted {
+            workflow_id,
+            result: name(alloc, "r")?,
+        }),
+        "childfail" => Ok(EventKind::ChildWorkflowExecutionFailed {
+            workflow_id,
+            reason: name(alloc, "r")?,
+        }),
+        _ => timer_kind(alloc, word, id),
+    }
+}
+
+// The events of words. A word may end with `@` and a version, 1 without it, or with `:` and a name, `x`
+// without it. A word that begins with `+` leaves out an id.
+// Words that begin with `10:` have ids from 10 on.
+fn events(alloc: Global, words: &str) -> Result<Vec<Event>, AllocError>
+    ensures { IfOk result (λ events. All (λ event. event.id ≤ 10 ^ 12) events.items) }
+{
+    let mut events = Vec::new(alloc);
+    let (mut id, words): (u16, &str) = match words.strip_prefix("10:") {
+        Some(rest) => (9, rest),
+        None => (0, words),
+    };
+    for word in words.split(' ') {
+        let (word, version) = match word.split_once('@') {
+            Some((word, version)) => (word, version.parse().unwrap_or(0)),
+            None => (word, 1),
+        };
+        let word = match word.strip_prefix("+") {
+            Some(word) => {
+                id = id.saturating_add(1);
+                word
+            }
+            None => word,
+        };
+        let (word, called) = word.split_once(':').unwrap_or((word, "x"));
+        id = id.saturating_add(1);
+        events.push(Event {
+            id: u64::from(id),
+            version,
+            kind: child_kind(alloc, word, called)?,
+        })?;
+    }
+    Ok(events)
+}
+
+// What a list answers at a new state.
+fn applied(alloc: Global, words: &str) -> Result<Result<(), StateError>, AllocError> {
+    let events = events(alloc, words)?;
+    let mut state = State::new(alloc, RUN);
+    let mut steps: Steps<Test> = Steps::new();
+    Ok(state.apply_all(events.as_slice(), &mut steps))
+}
+
+// What comes out: `all`, or the id and the rule of the first event that is forbidden.
+fn outcome(alloc: Global, words: &str) -> Result<String, AllocError> {
+    match applied(alloc, words)? {
+        Ok(()) => format!(in alloc; "all"),
+        Err(StateError::Invalid { id, rule }) => format!(in alloc; "{id} {rule:?}"),
+        Err(StateError::Memory) => format!(in alloc; "memory"),
+    }
+}
+
+#[test]
+fn starts_and_closes(rt: HostRuntime) -> Result<(), Fail> {
+    for (words, expected) in [
+        ("start", "all"),
+        ("wake", "1 Start"),
+        ("+start", "2 Next"),
+        ("+wake", "2 Next"),
+        ("start start", "2 Start"),
+        ("start complete start", "3 Start"),
+        ("start +wake", "3 Next"),
+        ("start complete +wake", "4 Next"),
+        ("start cancel cancel", "all"),
+        ("start complete cancel", "3 Running"),
+        ("start complete", "all"),
+        ("start wake complete", "3 Decision"),
+        ("start complete complete", "3 Running"),
+        ("start fail", "all"),
+        ("start canceled", "all"),
+        ("start wake canceled", "3 Decision"),
+        ("start continue", "all"),
+        ("start wake continue", "3 Decision"),
+        ("start wake terminate", "all"),
+        ("start wake terminate complete", "4 Running"),
+        ("start fail terminate", "3 Running"),
+        ("start wake", "all"),
+        ("start wake wake", "3 Decision"),
+        ("start marker", "all"),
+        ("start wake marker", "3 Decision"),
+        ("start complete marker", "3 Running"),
+        ("start marker marker", "all"),
+    ] {
+        let found = outcome(rt.alloc(), words)?;
+        assert_eq!(rt; found.as_str(), expected, "{words}");
+    }
+    Ok(())
+}
+
+#[test]
+fn signals(rt: HostRuntime) -> Result<(), Fail> {
+    for (words, expected) in [
+        ("start signal signal", "all"),
+        ("start wake decide signal", "all"),
+        ("start terminate signal", "3 Running"),
+        ("start signal copy2", "3 Origin"),
+        ("start copy3 signal", "3 Origin"),
+        ("start copy3 signal@2", "all"),
+        ("start copy9 copy9", "3 Origin"),
+        ("start copy9 copy8", "all"),
+    ] {
+        let found = outcome(rt.alloc(), words)?;
+        assert_eq!(rt; found.as_str(), expected, "{words}");
+    }
+    Ok(())
+}
+
+#[test]
+fn decisions(rt: HostRuntime) -> Result<(), Fail> {
+    for (words, expected) in [
+        ("start wake decide fail", "4 Decision"),
+        ("start wake decide wake", "4 Decision"),
+        ("start decide", "2 Task"),
+        ("start wake decide", "all"),
+        ("start wake decide decide", "4 Task"),
+        ("start respond", "2 Task"),
+        ("start wake respond", "3 Task"),
+        ("start wake decide respond respond", "5 Task"),
+        ("start wake undecided", "3 Task"),
+        ("start wake decide undecided wake", "all"),
+        ("start wake overdue", "3 Task"),
+        ("start wake decide overdue wake", "all"),
+    ] {
+        let found = outcome(rt.alloc(), words)?;
+        assert_eq!(rt; found.as_str(), expected, "{words}");
+    }
+    Ok(())
+}
+
+#[test]
+fn activities(rt: HostRuntime) -> Result<(), Fail> {
+    for (words, expected) in [
+        ("start act act:y", "all"),
+        ("start act act", "3 Activity"),
+        ("start act wake act", "4 Decision"),
+        ("start actstart", "2 Activity"),
+        ("start act wake actstart", "all"),
+        ("start act actstart actstart", "4 Activity"),
+        ("start act actdone", "3 Activity"),
+        ("start act actstart actdone act", "all"),
+        ("start act actstart actdone actdone", "5 Activity"),
+        ("start act actfail", "3 Activity"),
+        ("start act actstart wake actfail", "all"),
+        ("start act acttimeout", "all"),
+        ("start act actstart acttimeout", "all"),
+        ("start act:y acttimeout", "3 Activity"),
+        ("start timer act", "all"),
+        ("start child timer act", "all"),
+    ] {
+        let found = outcome(rt.alloc(), words)?;
+        assert_eq!(rt; found.as_str(), expected, "{words}");
+    }
+    Ok(())
+}
+
+#[test]
+fn timers_and_children(rt: HostRuntime) -> Result<(), Fail> {
+    for (words, expected) in [
+        ("start timer timer", "3 Timer"),
+        ("start wake timer", "3 Decision"),
+        ("start fire", "2 Timer"),
+        ("start timer wake fire", "all"),
+        ("start untimer", "2 Timer"),
+        ("start timer untimer timer", "all"),
+        ("start wake untimer", "3 Decision"),
+        ("start child child", "3 Child"),
+        ("start wake child", "3 Decision"),
+        ("start childstart", "2 Child"),
+        ("start child wake childstart", "all"),
+        ("start child childstart childstart", "4 Child"),
+        ("start child childdone", "3 Child"),
+        ("start child childstart childdone child", "all"),
+        ("start child childfail", "3 Child"),
+        ("start child childstart wake childfail", "all"),
+        ("start child childstart terminate childfail", "5 Running"),
+    ] {
+        let found = outcome(rt.alloc(), words)?;
+        assert_eq!(rt; found.as_str(), expected, "{words}");
+    }
+    Ok(())
+}
+
+// The state behind a list that is applied, or no state.
+fn state_of(alloc: Global, words: &str) -> Result<Option<State>, AllocError> {
+    let events = events(alloc, words)?;
+    let mut state = State::new(alloc, RUN);
+    let mut steps: Steps<Test> = Steps::new();
+    match state.apply_all(events.as_slice(), &mut steps) {
+        Ok(()) => Ok(Some(state)),
+        Err(_) => Ok(None),
+    }
+}
+
+// What the state shows behind a list.
+fn shown(alloc: Global, words: &str) -> Result<Vec<u8>, AllocError> {
+    match state_of(alloc, words)? {
+        Some(state) => state.text(),
+        None => Ok(Vec::new(alloc)),
+    }
+}
+
+#[test]
+fn the_line_of_a_state(rt: HostRuntime) -> Result<(), Fail> {
+    for (words, text) in [
+        (
+            "start wake",
+            "next=3 decision=2 activities=- timers=- children=- signals=0 cancel=no",
+        ),
+        (
+            "start wake signal@2 copy3@2",
+            "next=5 decision=2 activities=- timers=- children=- signals=2 cancel=no",
+        ),
+        (
+            "start wake signal@3 copy3@3 copy4@3",
+            "next=6 decision=2 activities=- timers=- children=- signals=3 cancel=no",
+        ),
+        (
+            "start wake decide respond act:pay timer:late child:ship actstart:pay actdone:pay wake decide undecided@2 wake@2 childstart:ship@2 decide@2 respond@2 untimer:late@2 complete@2",
+            "next=19 decision=- activities=- timers=- children=7+14 signals=0 cancel=no",
+        ),
+        (
+            "start act:a act:b act:c act:d actstart:c acttimeout:b wake decide cancel",
+            "next=11 decision=8+9 activities=2,4+6,5 timers=- children=- signals=0 cancel=yes",
+        ),
+        (
+            "start timer:a timer:b timer:c fire:a timer:a child:a child:b",
+            "next=9 decision=- activities=- timers=3,4,6 children=7,8 signals=0 cancel=no",
+        ),
+    ] {
+        let found = shown(rt.alloc(), words)?;
+        assert_eq!(rt; found.as_slice(), text.as_bytes(), "{words}");
+    }
+    Ok(())
+}
+
+// What a state shows after the tail, behind the words, was refused.
+fn shown_after_refusal(alloc: Global, words: &str, tail: &str) -> Result<Vec<u8>, AllocError> {
+    let Some(mut state) = state_of(alloc, words)? else {
+        return Ok(Vec::new(alloc));
+    };
+    let tail = events(alloc, tail)?;
+    let mut steps: Steps<Test> = Steps::new();
+    match state.apply_all(tail.as_slice(), &mut steps) {
+        Ok(()) => Ok(Vec::new(alloc)),
+        Err(_) => state.text(),
+    }
+}
+
+#[test]
+fn a_list_that_is_refused_is_taken_back(rt: HostRuntime) -> Result<(), Fail> {
+    let words = "start signal act:a act:b act:c actstart:b timer:t child:u childstart:u";
+    let text = "next=10 decision=- activities=3,4+6,5 timers=7 children=8+9 signals=1 cancel=no";
+    for tail in [
+        "10:signal copy50 cancel actstart:a act:d actstart:d wake wake",
+        "10:actdone:b acttimeout:a act:b actstart:c fire:t timer:t childdone:u complete signal",
+        "10:actstart:a actdone:a child:v childstart:v childfail:u timer:s untimer:t terminate marker",
+    ] {
+        let found = shown_after_refusal(rt.alloc(), words, tail)?;
+        assert_eq!(rt; found.as_slice(), text.as_bytes(), "{tail}");
+    }
+    Ok(())
+}
+
+// The numbers that a state tells: run, next id, version, signals, and those of what is pending as `a`, `t` and `u`.
+fn told(alloc: Global, words: &str) -> Result<String, AllocError> {
+    let Some(state) = state_of(alloc, words)? else {
+        return format!(in alloc; "none");
+    };
+    let activity = state.activity(&name(alloc, "a")?);
+    let timer = state.timer(&name(alloc, "t")?);
+    let child = state.child(&name(alloc, "u")?);
+    let run = state.run() == RUN;
+    let (next, version, signals) = (state.next(), state.version(), state.signals());
+    format!(in alloc; "{run} {next} {version} {signals} {activity:?} {timer:?} {child:?}")
+}
+
+// How a state stands: whether it is open, how it closed, whether its cancel was requested, its decision.
+fn standing(alloc: Global, words: &str) -> Result<String, AllocError> {
+    let Some(state) = state_of(alloc, words)? else {
+        return format!(in alloc; "none");
+    };
+    let (running, cancel) = (state.is_running(), state.cancel());
+    let (close, decision) = (state.close(), state.decision());
+    format!(in alloc; "{running} {close:?} {cancel} {decision:?}")
+}
+
+#[test]
+fn what_a_state_tells(rt: HostRuntime) -> Result<(), Fail> {
+    let alloc = rt.alloc();
+    let found = told(
+        alloc,
+        "start@3 signal@3 copy9@3 act:a@3 actstart:a@3 timer:t@3 cancel@3",
+    )?;
+    assert_eq!(rt;
+        found.as_str(),
+        "true 8 3 2 Some(Pending { scheduled: 4, started: Some(5) }) Some(Pending { scheduled: 6, started: None }) None"
+    );
+    for (words, expected) in [
+        ("start", "true None false None"),
+        (
+            "start cancel wake",
+            "true None true Some(Pending { scheduled: 3, started: None })",
+        ),
+        ("start complete", "false Some(Completed) false None"),
+        ("start fail", "false Some(Failed) false None"),
+        ("start canceled", "false Some(Canceled) false None"),
+        ("start terminate", "false Some(Terminated) false None"),
+        ("start continue", "false Some(Continued) false None"),
+    ] {
+        let found = standing(alloc, words)?;
+        assert_eq!(rt; found.as_str(), expected, "{words}");
+    }
+    Ok(())
+}
+
+// A copy of the state without its origins, and then with those of the words.
+fn refilled(alloc: Global, state: &State, words: &str) -> Result<(u64, State), AllocError> {
+    let events = events(alloc, words)?;
+    let mut copy = state.try_copy_without_origins()?;
+    let signals = copy.signals();
+    copy.collect_origins(events.as_slice())?;
+    Ok((signals, copy))
+}
+
+fn origin(event: u64, version: u64) -> Origin {
+    Origin {
+        run: RUN,
+        event,
+        version,
+    }
+}
+
+#[test]
+fn origins_of_a_state(rt: HostRuntime) -> Result<(), Fail> {
+    let words = "start@3 signal@3 copy9@3 wake@3";
+    let Some(state) = state_of(rt.alloc(), words)? else {
+        return Err(AllocError.into());
+    };
+    assert_eq!(rt; state.origins(), [origin(2, 3), origin(9, 1)].as_slice());
+    let (signals, copy) = refilled(rt.alloc(), &state, words)?;
+    assert_eq!(rt; signals, 0);
+    assert_eq!(rt; copy.origins(), state.origins());
+    Ok(())
+}
+
+#[test]
+fn one_event_after_another(rt: HostRuntime) -> Result<(), Fail> {
+    let alloc = rt.alloc();
+    let mut state = State::new(alloc, RUN);
+    let mut steps: Steps<Test> = Steps::new();
+    for event in events(alloc, "start wake decide wake respond")?.as_slice() {
+        if event.id <= 5 {
+            let _answer = state.apply(event, &mut steps);
+        }
+    }
+    assert_eq!(rt; state.next(), 4);
+    assert_eq!(rt; steps.taken(), 3);
+    Ok(())
+}
