@@ -1,13 +1,13 @@
 -- What arrival of a batch makes of a set.
-use Rattle.std.proofs.Common.{◌≡◌, Bool, true, false, List, [], ◌∷◌, ◌⊎◌, inl, inr, Option, Some, None, refl, sym, ◌∙◌, subst, ap, true≢false, ◌↔◌}
+use Rattle.std.proofs.Common.{◌≡◌, Bool, true, false, List, [], ◌∷◌, ◌⊎◌, inl, inr, Some, None, refl, sym, subst, ◌↔◌}
 use Rattle.std.specs.Prelude.{if◌then◌else◌}
 use Rattle.std.specs.List.{AllByRecursion}
 use Rattle.ndc_event.specs.Key.{key_lt, key_eq}
 use Rattle.ndc_event.specs.declared.batch.Batch.{Batch}
 use Rattle.ndc_event.specs.declared.key.BatchKey.{BatchKey}
 use Rattle.ndc_sets.specs.Sets.{earlier, PointsBack, ComeAfter, Rise, IsSet, batch_at, Has, arrived}
-use Rattle.ndc_sets.specs.Learned.{has_key, learned, ReachesTop, top, up, WaitsFor, itself, behind, IsClosed, IsPart}
-use Rattle.ndc_sets.proofs.KeyLemmas.{before-irrefl, before-trans, before-total, same-keys}
+use Rattle.ndc_sets.specs.Learned.{has_key, learned, ReachesTop, top, up, WaitsFor, itself, behind, IsPart}
+use Rattle.ndc_sets.proofs.KeyLemmas.{before-irrefl, before-total, same-keys}
 use Rattle.ndc_sets.proofs.SetLemmas.{at-cases, at-first, found-key, found-has, has-found, found-all, none-there, after-trans, at-behind}
 use Rattle.ndc_sets.proofs.LearnedLemmas.{reaches-has, reaches-on, learned-reaches, reaches-learned, reaches-more}
 

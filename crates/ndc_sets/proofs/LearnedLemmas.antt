@@ -1,15 +1,14 @@
 -- What is learned.
-use Rattle.std.proofs.Common.{◌≡◌, Bool, true, false, List, [], ◌∷◌, ◌++◌, Option, Some, None, cond, refl, sym, ◌∙◌, subst, ap, true≢false, ◌↔◌}
+use Rattle.std.proofs.Common.{◌≡◌, Bool, true, false, List, [], ◌∷◌, ◌++◌, Option, Some, None, refl, sym, ◌∙◌, subst, ap, true≢false, ◌↔◌}
 use Rattle.std.specs.Prelude.{is_some, if◌then◌else◌}
 use Rattle.std.specs.Option.{option_or}
 use Rattle.std.specs.List.{AllByRecursion}
 use Rattle.std.proofs.lemmas.List.{append_assoc}
-use Rattle.ndc_event.specs.Key.{key_lt, key_eq}
+use Rattle.ndc_event.specs.Key.{key_lt}
 use Rattle.ndc_event.specs.declared.batch.Batch.{Batch}
 use Rattle.ndc_event.specs.declared.key.BatchKey.{BatchKey}
 use Rattle.ndc_sets.specs.Sets.{earlier, PointsBack, ComeAfter, Rise, IsSet, batch_at, Has}
 use Rattle.ndc_sets.specs.Learned.{has_key, learned_behind, learned, ReachesTop, top, up, IsClosed, IsPart}
-use Rattle.ndc_sets.proofs.KeyLemmas.{before-irrefl, before-trans}
 use Rattle.ndc_sets.proofs.SetLemmas.{at-cases, at-first, found-key, found-has, has-found, found-all, none-there, after-trans, at-behind, at-append}
 
 -- what is learned of some batches, by whether the first is

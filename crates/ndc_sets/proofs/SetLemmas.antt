@@ -1,12 +1,12 @@
 -- What stands in a set.
-use Rattle.std.proofs.Common.{◌≡◌, Bool, true, false, List, [], ◌∷◌, ◌++◌, Option, Some, None, cond, refl, sym, ◌∙◌, subst, ap}
+use Rattle.std.proofs.Common.{◌≡◌, Bool, true, false, List, [], ◌∷◌, ◌++◌, Option, Some, None, cond, refl, sym, ◌∙◌, subst}
 use Rattle.std.specs.Option.{option_or}
 use Rattle.std.specs.List.{AllByRecursion}
 use Rattle.std.proofs.lemmas.List.Folds.{find-append}
 use Rattle.ndc_event.specs.Key.{key_lt, key_eq}
 use Rattle.ndc_event.specs.declared.batch.Batch.{Batch}
 use Rattle.ndc_event.specs.declared.key.BatchKey.{BatchKey}
-use Rattle.ndc_sets.specs.Sets.{earlier, PointsBack, ComeAfter, Rise, IsSet, batch_at, Has, arrived}
+use Rattle.ndc_sets.specs.Sets.{ComeAfter, batch_at, Has}
 use Rattle.ndc_sets.proofs.KeyLemmas.{before-irrefl, before-trans, same-keys, key_eq-self}
 
 -- looking a key up, by whether the first batch has it

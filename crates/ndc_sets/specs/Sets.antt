@@ -1,5 +1,5 @@
 -- Sets of batches of one workflow: lists that rise by key, so that equal sets are equal lists.
-use Rattle.std.specs.Prelude.{◌≡◌, Bool, true, List, [], ◌∷◌, Option, Some, None, find, is_some, IfSome, if◌then◌else◌}
+use Rattle.std.specs.Prelude.{◌≡◌, true, List, [], ◌∷◌, Option, Some, None, find, if◌then◌else◌}
 use Rattle.std.specs.List.{AllByRecursion}
 use Rattle.ndc_event.specs.Key.{key_lt, key_eq}
 use Rattle.ndc_event.specs.declared.batch.Batch.{Batch}
