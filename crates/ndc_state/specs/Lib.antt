@@ -8,5 +8,6 @@ pub mod Value
 pub mod Table
 pub mod Tracked
 pub mod Replay
+pub mod Written
 pub mod Text
 pub mod Laws

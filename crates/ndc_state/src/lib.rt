@@ -9,6 +9,7 @@ mod state;
 mod steps;
 mod text;
 mod tracked;
+mod written;
 
 pub use pendings::Pending;
 pub use rule::{CloseKind, Rule, StateError};

@@ -1,0 +1,70 @@
+ghost use Rattle.std.specs.Prelude.{◌≡◌, IfOk, codes};
+ghost use Rattle.ndc_state.specs.Pendings.{is_started};
+
+use crate::pendings::Pending;
+use crate::state::State;
+use ndc_event::{EventKind, Name, NameError};
+use std::alloc::{AllocError, Global};
+
+impl State {
+    ghost use Rattle.std.specs.Prelude.{◌≡◌, ◌++◌, OnOk};
+    ghost use Rattle.ndc_state.specs.Written.{is_failover_close_due, failover_close, wake};
+
+    /// Whether a batch of this version that goes below the tip of this state begins with the failover close:
+    /// the version is above the last event's, and a decision is started.
+    pub fn is_failover_close_due(&self, version: u64) -> bool
+        ensures { result ≡ is_failover_close_due self.now version }
+    {
+        self.version() < version && is_started(self.decision())
+    }
+
+    /// Appends what a batch of this version that goes below the tip of this state begins with: where it is
+    /// due, the started decision fails with the cause `failoverClose` and is scheduled again.
+    pub fn push_failover_close(
+        &self,
+        alloc: Global,
+        version: u64,
+        kinds: &mut Vec<EventKind>,
+    ) -> Result<(), AllocError>
+        ensures ok { OnOk result (kinds.new.items ≡ kinds.old.items ++ failover_close self.now version) }
+    {
+        if self.is_failover_close_due(version) {
+            kinds.push(EventKind::DecisionTaskFailed {
+                cause: failover_close_cause(alloc)?,
+            })?;
+            kinds.push(EventKind::DecisionTaskScheduled)?;
+        }
+        Ok(())
+    }
+
+    /// Appends the scheduling of a decision, where none is pending.
+    pub fn push_wake(&self, kinds: &mut Vec<EventKind>) -> Result<(), AllocError>
+        ensures ok { OnOk result (kinds.new.items ≡ kinds.old.items ++ wake self.now) }
+    {
+        if self.decision().is_none() {
+            kinds.push(EventKind::DecisionTaskScheduled)?;
+        }
+        Ok(())
+    }
+}
+
+/// Whether a decision is started.
+fn is_started(decision: Option<Pending>) -> bool
+    ensures { result ≡ is_started decision }
+{
+    match decision {
+        None => false,
+        Some(pending) => pending.started.is_some(),
+    }
+}
+
+/// The cause of the decision that a failover fails.
+fn failover_close_cause(alloc: Global) -> Result<Name, AllocError>
+    ensures { IfOk result (λ name. name ≡ codes "failoverClose") }
+{
+    match Name::new(alloc, b"failoverClose".as_slice()) {
+        Ok(name) => Ok(name),
+        Err(NameError::Memory) => Err(AllocError),
+        Err(_) => unreachable!(),
+    }
+}
