@@ -1,2 +1,4 @@
 pub mod Sets
 pub mod Learned
+pub mod Paths
+pub mod Branches

@@ -3,3 +3,4 @@
 #![tactic(auto)]
 
 pub mod arrival_laws;
+pub mod path_laws;
