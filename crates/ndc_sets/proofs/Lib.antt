@@ -1,5 +1,9 @@
+pub mod Lists
 pub mod KeyLemmas
 pub mod SetLemmas
 pub mod LearnedLemmas
 pub mod ArrivalLemmas
 pub mod PathLemmas
+pub mod BranchLemmas
+pub mod CurrentLemmas
+pub mod CurrentLaws

@@ -1,10 +1,11 @@
 -- The branches of a run, its current branch, and the current run of a workflow.
-use Rattle.std.specs.Prelude.{Bool, false, not, ◌&&◌, ◌||◌, ◌==◌, is_none, nat_lt, List, [], ◌∷◌, map, find, Option, Some, None, if◌then◌else◌}
+use Rattle.std.specs.Prelude.{◌≢◌, ◌<◌, Bool, false, not, ◌&&◌, ◌||◌, ◌==◌, is_none, nat_lt, List, [], ◌∷◌, map, find, Option, Some, None, if◌then◌else◌}
 use Rattle.std.specs.List.{filter, filter_map, list_all, list_any}
 use Rattle.ndc_event.specs.Key.{key_eq, key_lt}
 use Rattle.ndc_event.specs.declared.batch.Batch.{Batch}
 use Rattle.ndc_event.specs.declared.key.BatchKey.{BatchKey}
 use Rattle.ndc_event.specs.declared.key.RunId.{RunId}
+use Rattle.ndc_sets.specs.Sets.{Has}
 use Rattle.ndc_sets.specs.Paths.{is_wanted, path_to}
 
 -- whether two run ids are one
@@ -61,3 +62,8 @@ is_run_of run (Some tip) = same_run tip.run run
 -- whether a run is the current run of its workflow
 abbrev pub is_current_run : RunId → List Batch → Bool
 is_current_run run batches = is_run_of run (workflow_tip batches)
+
+-- a tip of a run whose version is greater than that of every other tip
+pub record IsLeading (run : RunId) (batches : List Batch) (tip : Batch) : Type 0 where
+  pub is_tip : Has (tips run batches) tip
+  pub above : (other : Batch) → Has (tips run batches) other → other ≢ tip → other.key.version < tip.key.version

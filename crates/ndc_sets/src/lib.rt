@@ -3,4 +3,5 @@
 #![tactic(auto)]
 
 pub mod arrival_laws;
+pub mod branch_laws;
 pub mod path_laws;
