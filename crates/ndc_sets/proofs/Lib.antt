@@ -7,3 +7,7 @@ pub mod PathLemmas
 pub mod BranchLemmas
 pub mod CurrentLemmas
 pub mod CurrentLaws
+pub mod FaultLemmas
+pub mod PathIds
+pub mod HistoryLemmas
+pub mod PathLaws

@@ -82,3 +82,13 @@ before_items item (next ∷ items) = if item.version == next.version then next �
 abbrev pub versions_of : List Event → List Item
 versions_of [] = []
 versions_of (event ∷ events) = before_items (item_of event) (versions_of events)
+
+-- the later id, or that of an earlier event where it is of the version
+abbrev pub later_id : Option ℕ → Bool → ℕ → Option ℕ
+later_id (Some id) mine earlier = Some id
+later_id None mine earlier = if mine then Some earlier else None
+
+-- the id of the last of these events that was written with this version
+abbrev pub last_id_of : ℕ → List Event → Option ℕ
+last_id_of version [] = None
+last_id_of version (event ∷ events) = later_id (last_id_of version events) (event.version == version) event.id

@@ -1,9 +1,14 @@
 -- Sound sets: what holds of the batches that clusters write.
-use Rattle.std.specs.Prelude.{◌≡◌, ◌<◌, ◌+◌, List, Some}
+use Rattle.std.specs.Prelude.{◌≡◌, ◌<◌, ◌+◌, List, Some, None}
 use Rattle.ndc_event.specs.declared.batch.Batch.{Batch}
 use Rattle.ndc_event.specs.declared.key.BatchKey.{BatchKey}
+use Rattle.ndc_event.specs.Batch.{fault_of}
 use Rattle.ndc_sets.specs.Sets.{batch_at, Has}
 use Rattle.ndc_sets.specs.Paths.{first_id, last_id, path_to}
+
+-- no batch has a fault
+abbrev pub AreFaultless : List Batch → Type 0
+AreFaultless batches = (b : Batch) → Has batches b → fault_of b ≡ None
 
 -- a parent is of the same run, and its last event comes just before the first of its child
 pub record IsParentFit (before b : Batch) : Type 0 where

@@ -1,13 +1,46 @@
 // Paths, as laws.
-ghost use Rattle.std.specs.Prelude.{◌≡◌, List, []};
+ghost use Rattle.std.specs.Prelude.{◌≡◌, ℕ, true, List, [], ◌∷◌, ◌++◌, Some};
 ghost use Rattle.ndc_event.specs.declared.batch.Batch.{Batch};
+ghost use Rattle.ndc_event.specs.declared.key.BatchKey.{BatchKey};
+ghost use Rattle.ndc_event.specs.Batch.{follow_from};
+ghost use Rattle.ndc_history.specs.Common.{id_of};
+ghost use Rattle.ndc_history.specs.History.{rises};
 ghost use Rattle.ndc_sets.specs.Sets.{IsSet, Has};
-ghost use Rattle.ndc_sets.specs.Learned.{IsClosed, IsPart};
-ghost use Rattle.ndc_sets.specs.Paths.{path_to, IsPath};
+ghost use Rattle.ndc_sets.specs.Learned.{IsClosed};
+ghost use Rattle.ndc_sets.specs.Paths.{path_to, IsPath, events_to, last_event, versions_of, last_id_of};
+ghost use Rattle.ndc_sets.specs.Sound.{AreFaultless, ParentsFit};
 
 /// In a closed set each batch has its path: following parents upwards from it one meets the batches of the
 /// path, up to one without a parent.
 #[tactic(auto, using(crate::proofs::PathLemmas::path_is))]
 pub fn paths_follow_parents()
     ensures { (batches : List Batch) (b : Batch) → IsSet batches → IsClosed batches → Has batches b → IsPath batches b (path_to b.key batches) }
+{}
+
+/// The events of a path have the ids 1, 2, 3 and so on, and end with those of its last batch.
+#[tactic(auto, using(crate::proofs::PathLaws::counts_from_one))]
+pub fn paths_count_from_one()
+    ensures { (batches : List Batch) (b : Batch) → IsSet batches → IsClosed batches → AreFaultless batches → ParentsFit batches → Has batches b
+        → (follow_from 0 (events_to b.key batches) ≡ true) × (last_event (events_to b.key batches) ≡ last_event b.events) }
+{}
+
+/// The path to a batch is that to its parent, and then the batch.
+#[tactic(auto, using(crate::proofs::PathLaws::behind_parent))]
+pub fn path_to_the_parent_comes_before()
+    ensures { (batches : List Batch) (b : Batch) (parent : BatchKey) → IsSet batches → Has batches b → b.parent ≡ Some parent
+        → path_to b.key batches ≡ path_to parent batches ++ b ∷ [] }
+{}
+
+/// The version history of a path rises: it has one item a version.
+#[tactic(auto, using(crate::proofs::PathLaws::histories_rise))]
+pub fn histories_of_paths_rise()
+    ensures { (batches : List Batch) (b : Batch) → IsSet batches → IsClosed batches → AreFaultless batches → ParentsFit batches → Has batches b
+        → rises (versions_of (events_to b.key batches)) ≡ true }
+{}
+
+/// The version history of a path has for each version the id of the last event written with it.
+#[tactic(auto, using(crate::proofs::PathLaws::histories_name_last_ids))]
+pub fn histories_of_paths_name_last_ids()
+    ensures { (batches : List Batch) (b : Batch) (version : ℕ) → IsSet batches → IsClosed batches → AreFaultless batches → ParentsFit batches → Has batches b
+        → id_of version (versions_of (events_to b.key batches)) ≡ last_id_of version (events_to b.key batches) }
 {}
