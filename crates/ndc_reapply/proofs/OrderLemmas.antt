@@ -1,12 +1,15 @@
 -- The order of origins.
-use Rattle.std.proofs.Common.{◌≡◌, ℕ, Bool, true, false, ◌&&◌, ◌||◌, ◌==◌, nat_lt, ap, ◌∙◌, arith, if◌then◌else◌}
+use Rattle.std.proofs.Common.{refl, ◌≡◌, ℕ, Bool, true, false, ◌&&◌, ◌||◌, ◌==◌, nat_lt, ap, ◌∙◌, arith, if◌then◌else◌}
+use Rattle.std.proofs.lemmas.Bool.{eqb-true, eq-eqb}
 use Rattle.std.proofs.lemmas.Bool.Decides.{nat_tests}
 use Rattle.std.specs.Ordering.{nat_cmp, ordering_then}
 use Rattle.std.specs.declared.cmp.Ordering.{Ordering}
 use Rattle.std.specs.declared.cmp.Ordering.TheVariants.{Less, Equal, Greater}
 use Rattle.ndc_event.specs.declared.key.Origin.{Origin}
 use Rattle.ndc_event.specs.declared.key.RunId.{RunId}
+use Rattle.ndc_event.proofs.Tests.{both, together}
 use Rattle.ndc_reapply.specs.Strays.{origin_lt}
+use Rattle.ndc_state.specs.Origins.{same_origin}
 
 -- three numbers by which an origin is ordered
 lex_lt : ℕ → ℕ → ℕ → ℕ → ℕ → ℕ → Bool
@@ -64,3 +67,24 @@ lex-cmp a b c x y z = grind (arith, nat_tests)
 pub origin_cmp-by : (one two : Origin) → ordering_then (nat_cmp one.version two.version) (ordering_then (nat_cmp one.event two.event) (nat_cmp one.run.value two.run.value)) ≡ origin_cmp one two
 unfolding lex_lt
 origin_cmp-by one two = lex-cmp one.version one.event one.run.value two.version two.event two.run.value
+
+-- origins that compare as one are one
+pub same_origin-is : (one two : Origin) → same_origin one two ≡ true → one ≡ two
+same_origin-is one two h =
+    let outer = both ((one.run.value == two.run.value) && (one.event == two.event)) (one.version == two.version) h in
+    let inner = both (one.run.value == two.run.value) (one.event == two.event) outer.0 in
+    origin-is one two (eqb-true one.version two.version outer.1) (eqb-true one.event two.event inner.1) (eqb-true one.run.value two.run.value inner.0)
+
+pub same_origin-self : (o : Origin) → same_origin o o ≡ true
+same_origin-self o =
+    together ((o.run.value == o.run.value) && (o.event == o.event)) (o.version == o.version)
+    (together (o.run.value == o.run.value) (o.event == o.event) (eq-eqb o.run.value o.run.value refl) (eq-eqb o.event o.event refl))
+    (eq-eqb o.version o.version refl)
+
+-- origins that differ do not compare as one
+pub same_origin-not : (one two : Origin) → (one ≡ two → ⊥) → same_origin one two ≡ false
+same_origin-not one two apart = by (same_origin one two) refl
+  where
+    by : (b : Bool) → same_origin one two ≡ b → b ≡ false
+    by true e = absurd (apart (same_origin-is one two e))
+    by false e = refl

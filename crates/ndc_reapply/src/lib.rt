@@ -1,6 +1,7 @@
 //! Signals that are applied again: which ones, and what is written for them.
 #![tactic(auto)]
 
+pub mod laws;
 mod order;
 mod reapply;
 mod stray;
