@@ -1,0 +1,25 @@
+use ndc_event::{Name, Origin};
+use std::alloc::AllocError;
+
+/// A signal by its origin: the signal event that it comes from, with what it says.
+#[derive(Debug, Drop)]
+pub struct Stray {
+    pub origin: Origin,
+    pub name: Name,
+    pub input: Name,
+}
+
+impl Stray {
+    ghost use Rattle.std.specs.Prelude.{◌≡◌, IfOk};
+
+    /// The same signal.
+    pub fn try_copy(&self) -> Result<Stray, AllocError>
+        ensures { IfOk result (λ copy. copy ≡ self.now) }
+    {
+        Ok(Stray {
+            origin: self.origin,
+            name: self.name.try_copy()?,
+            input: self.input.try_copy()?,
+        })
+    }
+}
