@@ -80,8 +80,12 @@ pub greatest-of-run : (batches : List Batch) (run : RunId) (m : Batch) → Rise 
 greatest-of-run batches run m rise e =
     let k = filter-among (λ b. same_run b.run run) batches m (greatest-among (of_run run batches) m e) in
     let has : Has batches m = among-has batches m rise k.1 in
-    record { has = has; mine = run-same m.run run k.0; top = (λ x h r.
-      by x h (greatest-top (of_run run batches) m x e (among-filter (λ b. same_run b.run run) batches x (same-run x.run run r) (has-among batches x h))) has) }
+    record {
+      has = has;
+      mine = run-same m.run run k.0;
+      top = (λ x h r.
+          by x h (greatest-top (of_run run batches) m x e (among-filter (λ b. same_run b.run run) batches x (same-run x.run run r) (has-among batches x h))) has);
+    }
   where
     by : (x : Batch) → Has batches x → IsUpTo m.key x.key → Has batches m → (x ≡ m) ⊎ (key_lt x.key m.key ≡ true)
     by x h (inl same) has = inl (same-batch batches x m h has same)

@@ -34,5 +34,13 @@ passes b e = by b.events refl e
         let three = passed (is_first_fit b event.id b.parent) _ _ two.1 in
         let four = passed (is_parent_fit b.key b.parent) _ _ three.1 in
         let five = passed (is_carrier_fit b.key b.parent b.carrier) _ _ four.1 in
-        record { event = event; events = events; are = at; consecutive = subst (λ (l : List Event). are_consecutive l ≡ true) at one.0;
-          versions = two.0; first = three.0; parent = four.0; carrier = five.0 }
+        record {
+          event = event;
+          events = events;
+          are = at;
+          consecutive = subst (λ (l : List Event). are_consecutive l ≡ true) at one.0;
+          versions = two.0;
+          first = three.0;
+          parent = four.0;
+          carrier = five.0;
+        }

@@ -47,9 +47,11 @@ rises-before id version item (next ∷ items) i v r = by (same-or-not item.versi
         let one : item.id < next.id = r.1.0 in
         let two : item.version ≤ next.version = r.1.1 in
         let less : item.version < next.version = strict item.version next.version two f in
-        subst (RisesBehind id version) (sym (ap (λ b. if b then next ∷ items else item ∷ next ∷ items) f))
-        (and_from (nat_lt item.id next.id && nat_lt item.version next.version) (rise_from next items)
-        (and_from (nat_lt item.id next.id) (nat_lt item.version next.version) (lt-ltb item.id next.id one) (lt-ltb item.version next.version less)) r.0, (i, v))
+        subst (RisesBehind id version) (sym (ap (λ b. if b then next ∷ items else item ∷ next ∷ items) f)) (
+          and_from (nat_lt item.id next.id && nat_lt item.version next.version) (rise_from next items)
+              (and_from (nat_lt item.id next.id) (nat_lt item.version next.version) (lt-ltb item.id next.id one) (lt-ltb item.version next.version less)) r.0,
+          (i, v),
+        )
 
 pub versions-rise : (id version : ℕ) (events : List Event) → follow_from id events ≡ true → Climbs version events → RisesBehind id version (versions_of events)
 versions-rise id version [] f c = (refl, tt)

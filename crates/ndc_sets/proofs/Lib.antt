@@ -11,3 +11,4 @@ pub mod FaultLemmas
 pub mod PathIds
 pub mod HistoryLemmas
 pub mod PathLaws
+pub mod CommonLemmas

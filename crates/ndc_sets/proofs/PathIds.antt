@@ -111,11 +111,13 @@ path-events batches b path faultless fit (first _ has e) = by (passes b (faultle
         let whole : history_of (b ∷ []) ≡ p.event ∷ p.events = append-nil b.events ∙ p.are in
         let one : (p.event.id == 1) ≡ true = (and_parts (p.event.id == 1) _ (subst (λ (o : Option BatchKey). is_first_fit b p.event.id o ≡ true) e p.first)).0 in
         subst (AreEventsTo b) (sym whole)
-        (record { follow = and_from (p.event.id == 1) (follow_from p.event.id p.events) one p.consecutive;
+        (record {
+          follow = and_from (p.event.id == 1) (follow_from p.event.id p.events) one p.consecutive;
           climb = climbs-one b.key.version 0 (p.event ∷ p.events) (omega arith) (subst (λ (l : List Event). are_of_version b.key.version l ≡ true) p.are p.versions);
           top = tops-one b.key.version 0 p.event p.events (subst (λ (l : List Event). are_of_version b.key.version l ≡ true) p.are p.versions);
           last = sym (ap last_event p.are);
-          end = ends-last 0 p.event p.events ∙ sym (ap last_id p.are) })
+          end = ends-last 0 p.event p.events ∙ sym (ap last_id p.are);
+        })
 path-events batches b path faultless fit (below _ before key front has e at r) = by (passes b (faultless b has)) (path-events batches before front faultless fit r)
   where
     not_below : (a c : ℕ) → not (nat_lt a c) ≡ true → c ≤ a
@@ -137,11 +139,13 @@ path-events batches b path faultless fit (below _ before key front has e at r) =
         let versions : are_of_version b.key.version (p.event ∷ p.events) ≡ true = subst (λ (l : List Event). are_of_version b.key.version l ≡ true) p.are p.versions in
         let whole : history_of (front ++ b ∷ []) ≡ history_of front ++ p.event ∷ p.events = history-push front b ∙ ap (λ l. history_of front ++ l) p.are in
         subst (AreEventsTo b) (sym whole)
-        (record { follow = follow-append 0 (history_of front) (p.event ∷ p.events) a.follow (and_from (p.event.id == ends 0 (history_of front) + 1) (follow_from p.event.id p.events) place p.consecutive);
+        (record {
+          follow = follow-append 0 (history_of front) (p.event ∷ p.events) a.follow (and_from (p.event.id == ends 0 (history_of front) + 1) (follow_from p.event.id p.events) place p.consecutive);
           climb = climbs-append 0 (history_of front) (p.event ∷ p.events) a.climb (climbs-one b.key.version (tops 0 (history_of front)) (p.event ∷ p.events) (omega arith) versions);
           top = tops-append 0 (history_of front) (p.event ∷ p.events) ∙ tops-one b.key.version (tops 0 (history_of front)) p.event p.events versions;
           last = last-append (history_of front) p.event p.events ∙ sym (ap last_event p.are);
-          end = ends-append 0 (history_of front) p.event p.events ∙ sym (ap last_id p.are) })
+          end = ends-append 0 (history_of front) p.event p.events ∙ sym (ap last_id p.are);
+        })
       where
         ends-append : (id : ℕ) (front : List Event) (e : Event) (es : List Event) → ends id (front ++ e ∷ es) ≡ (last_from e es).id
         ends-append id [] e es = ends-last id e es

@@ -17,9 +17,12 @@ pub events-to : (batches : List Batch) (b : Batch) → IsSet batches → IsClose
 events-to batches b set closed faultless fit has = path-events batches b (path_to b.key batches) faultless fit (path_is batches b set closed has)
 
 pub counts_from_one : (batches : List Batch) (b : Batch) → IsSet batches → IsClosed batches → AreFaultless batches → ParentsFit batches → Has batches b
-    → (follow_from 0 (events_to b.key batches) ≡ true) × (last_event (events_to b.key batches) ≡ last_event b.events)
-counts_from_one batches b set closed faultless fit has =
-    let a = events-to batches b set closed faultless fit has in (a.follow, a.last)
+    → follow_from 0 (events_to b.key batches) ≡ true
+counts_from_one batches b set closed faultless fit has = (events-to batches b set closed faultless fit has).follow
+
+pub ends_with_batch : (batches : List Batch) (b : Batch) → IsSet batches → IsClosed batches → AreFaultless batches → ParentsFit batches → Has batches b
+    → last_event (events_to b.key batches) ≡ last_event b.events
+ends_with_batch batches b set closed faultless fit has = (events-to batches b set closed faultless fit has).last
 
 pub behind_parent : (batches : List Batch) (b : Batch) (parent : BatchKey) → IsSet batches → Has batches b → b.parent ≡ Some parent → path_to b.key batches ≡ path_to parent batches ++ b ∷ []
 behind_parent batches b parent set has e = path-below batches b parent set has e

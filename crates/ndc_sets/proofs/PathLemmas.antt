@@ -79,8 +79,10 @@ walk-parent (c ∷ cs) b rise back =
         ap (walk_over c) (none-found cs c.key rise.0)
         ∙ ap (λ t. if t then record { wanted = c.parent; path = c ∷ [] } else from (Some c.key)) (key_eq-self c.key) in
         let rest : walk_down (c ∷ cs) (from c.parent) ≡ from c.parent = none-behind c cs c.parent (parent-back c own) rise.0 in
-        record { wanted = ap (λ (w : Walk). w.wanted) start ∙ sym (ap (λ (w : Walk). w.wanted) rest);
-          path = ap (λ (w : Walk). w.path) start ∙ sym (ap (λ (w : Walk). w.path ++ c ∷ []) rest) }
+        record {
+          wanted = ap (λ (w : Walk). w.wanted) start ∙ sym (ap (λ (w : Walk). w.wanted) rest);
+          path = ap (λ (w : Walk). w.path) start ∙ sym (ap (λ (w : Walk). w.path ++ c ∷ []) rest);
+        }
 
 -- the path to a batch is the path that ends at its parent, and then the batch
 pub path-parent : (batches : List Batch) (b : Batch) → IsSet batches → Has batches b → path_to b.key batches ≡ path_from b.parent batches ++ b ∷ []

@@ -1,7 +1,11 @@
-//! The batches of one workflow as a set, and what is learned of it: definitions, and laws above them. The
-//! functions do nothing: what each ensures is a law.
+//! The batches of one workflow as a set: what is learned of it, its paths and branches, the current run, what
+//! makes it sound, its strays, and the view of it. These are definitions, and laws above them: a law is what an
+//! empty function ensures.
 #![tactic(auto)]
 
 pub mod arrival_laws;
 pub mod branch_laws;
 pub mod path_laws;
+mod view;
+
+pub use view::{Batches, BranchView, BranchViews, RunStatus, RunView, RunViews, View};

@@ -18,10 +18,12 @@ pub fn paths_follow_parents()
 {}
 
 /// The events of a path have the ids 1, 2, 3 and so on, and end with those of its last batch.
-#[tactic(auto, using(crate::proofs::PathLaws::counts_from_one))]
+#[tactic(auto, using(crate::proofs::PathLaws::counts_from_one, crate::proofs::PathLaws::ends_with_batch))]
 pub fn paths_count_from_one()
-    ensures { (batches : List Batch) (b : Batch) → IsSet batches → IsClosed batches → AreFaultless batches → ParentsFit batches → Has batches b
-        → (follow_from 0 (events_to b.key batches) ≡ true) × (last_event (events_to b.key batches) ≡ last_event b.events) }
+    ensures ids { (batches : List Batch) (b : Batch) → IsSet batches → IsClosed batches → AreFaultless batches → ParentsFit batches → Has batches b
+        → follow_from 0 (events_to b.key batches) ≡ true }
+    ensures end { (batches : List Batch) (b : Batch) → IsSet batches → IsClosed batches → AreFaultless batches → ParentsFit batches → Has batches b
+        → last_event (events_to b.key batches) ≡ last_event b.events }
 {}
 
 /// The path to a batch is that to its parent, and then the batch.
