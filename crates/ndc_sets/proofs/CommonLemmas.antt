@@ -117,7 +117,7 @@ abbrev pub either_id : Option ℕ → Option ℕ → Option ℕ
 either_id (Some id) before = Some id
 either_id None before = before
 
-last-id-append : (version : ℕ) (front rest : List Event) → last_id_of version (front ++ rest) ≡ either_id (last_id_of version rest) (last_id_of version front)
+pub last-id-append : (version : ℕ) (front rest : List Event) → last_id_of version (front ++ rest) ≡ either_id (last_id_of version rest) (last_id_of version front)
 last-id-append version [] rest = by (last_id_of version rest)
   where
     by : (o : Option ℕ) → o ≡ either_id o None

@@ -12,3 +12,5 @@ pub mod PathIds
 pub mod HistoryLemmas
 pub mod PathLaws
 pub mod CommonLemmas
+pub mod ForkLemmas
+pub mod CommonPaths

@@ -1,5 +1,5 @@
 -- Paths: a batch with its ancestors in its own run.
-use Rattle.std.specs.Prelude.{◌≡◌, ◌+◌, ℕ, Bool, false, ◌==◌, List, [], ◌∷◌, ◌++◌, Option, Some, None, if◌then◌else◌}
+use Rattle.std.specs.Prelude.{◌≡◌, ◌≢◌, ◌+◌, ℕ, Bool, false, ◌==◌, List, [], ◌∷◌, ◌++◌, Option, Some, None, if◌then◌else◌}
 use Rattle.ndc_event.specs.Key.{key_eq}
 use Rattle.ndc_event.specs.declared.batch.Batch.{Batch}
 use Rattle.ndc_event.specs.declared.batch.Event.{Event}
@@ -92,3 +92,18 @@ later_id None mine earlier = if mine then Some earlier else None
 abbrev pub last_id_of : ℕ → List Event → Option ℕ
 last_id_of version [] = None
 last_id_of version (event ∷ events) = later_id (last_id_of version events) (event.version == version) event.id
+
+-- two lists go apart: they do not begin with the same item
+abbrev pub GoApart : {X : Type 0} → List X → List X → Type 0
+GoApart [] ys = Unit {0}
+GoApart (x ∷ xs) [] = Unit {0}
+GoApart (x ∷ xs) (y ∷ ys) = x ≢ y
+
+-- the item of an event, where there is one
+abbrev pub item_at : Option Event → Option Item
+item_at None = None
+item_at (Some event) = Some (item_of event)
+
+-- the item of the last of these events
+abbrev pub last_item_of : List Event → Option Item
+last_item_of events = item_at (last_event events)

@@ -3,12 +3,13 @@ ghost use Rattle.std.specs.Prelude.{◌≡◌, ℕ, true, List, [], ◌∷◌, �
 ghost use Rattle.ndc_event.specs.declared.batch.Batch.{Batch};
 ghost use Rattle.ndc_event.specs.declared.key.BatchKey.{BatchKey};
 ghost use Rattle.ndc_event.specs.Batch.{follow_from};
-ghost use Rattle.ndc_history.specs.Common.{id_of};
+ghost use Rattle.ndc_event.specs.declared.batch.Event.{Event as HistoryEvent};
+ghost use Rattle.ndc_history.specs.Common.{id_of, common_of};
 ghost use Rattle.ndc_history.specs.History.{rises};
 ghost use Rattle.ndc_sets.specs.Sets.{IsSet, Has};
 ghost use Rattle.ndc_sets.specs.Learned.{IsClosed};
-ghost use Rattle.ndc_sets.specs.Paths.{path_to, IsPath, events_to, last_event, versions_of, last_id_of};
-ghost use Rattle.ndc_sets.specs.Sound.{AreFaultless, ParentsFit};
+ghost use Rattle.ndc_sets.specs.Paths.{path_to, IsPath, events_to, last_event, versions_of, last_id_of, GoApart, last_item_of};
+ghost use Rattle.ndc_sets.specs.Sound.{AreFaultless, ParentsFit, IsSound};
 
 /// In a closed set each batch has its path: following parents upwards from it one meets the batches of the
 /// path, up to one without a parent.
@@ -45,4 +46,13 @@ pub fn histories_of_paths_rise()
 pub fn histories_of_paths_name_last_ids()
     ensures { (batches : List Batch) (b : Batch) (version : ℕ) → IsSet batches → IsClosed batches → AreFaultless batches → ParentsFit batches → Has batches b
         → id_of version (versions_of (events_to b.key batches)) ≡ last_id_of version (events_to b.key batches) }
+{}
+
+/// For two paths of one run in a sound set, what their version histories have in common is the last event of
+/// the longest list of events that both begin with; nothing, where they begin differently.
+#[tactic(auto, using(crate::proofs::CommonPaths::common_is_the_last_shared_event))]
+pub fn common_item_is_the_last_shared_event()
+    ensures { (batches : List Batch) (one two : Batch) (front rest other : List HistoryEvent) → IsSound batches → Has batches one → Has batches two → one.run ≡ two.run
+        → events_to one.key batches ≡ front ++ rest → events_to two.key batches ≡ front ++ other → GoApart rest other
+        → common_of (versions_of (events_to one.key batches)) (versions_of (events_to two.key batches)) ≡ last_item_of front }
 {}
