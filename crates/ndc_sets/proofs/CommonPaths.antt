@@ -35,7 +35,7 @@ module _ (batches : List Batch) (sound : IsSound batches) (a b : Batch) (one two
   in-two c h = subst (λ (l : List Batch). Among c l) (sym two_is) (among-right c front other h)
 
   -- a batch on both paths stands in the front
-  on-both : (c : Batch) → Among c one → Among c two → Among c front
+  pub on-both : (c : Batch) → Among c one → Among c two → Among c front
   on-both c h k =
       let s = comes-to batches a c one to_a h in
       let t = comes-to batches b c two to_b k in
@@ -101,7 +101,7 @@ module _ (batches : List Batch) (sound : IsSound batches) (a b : Batch) (one two
   events-two = subst (AreEventsTo b) (ap history_of two_is ∙ history-append front other) (path-events batches b two sound.faultless sound.parents to_b)
 
   -- the common item is that of the last event of the front
-  common-batches : common_of (versions_of (history_of one)) (versions_of (history_of two)) ≡ last_item_of (history_of front)
+  pub common-batches : common_of (versions_of (history_of one)) (versions_of (history_of two)) ≡ last_item_of (history_of front)
   common-batches =
       ap (λ (l : List Event). common_of (versions_of l) (versions_of (history_of two))) (ap history_of one_is ∙ history-append front rest)
       ∙ ap (λ (l : List Event). common_of (versions_of (history_of front ++ history_of rest)) (versions_of l)) (ap history_of two_is ∙ history-append front other)

@@ -31,10 +31,10 @@ found-last front b x key h = by (batch_at key front) refl (sym (at-append front 
     by None at g = inr (last g)
 
 -- a wanted parent is the batch of this key
-wanted-key : (key : BatchKey) (b : Batch) → b.key ≡ key → is_wanted (Some key) b ≡ true
+pub wanted-key : (key : BatchKey) (b : Batch) → b.key ≡ key → is_wanted (Some key) b ≡ true
 wanted-key key b e = subst (λ (k : BatchKey). key_eq b.key k ≡ true) e (key_eq-self b.key)
 
-key-wanted : (wanted : Option BatchKey) (b : Batch) → is_wanted wanted b ≡ true → wanted ≡ Some b.key
+pub key-wanted : (wanted : Option BatchKey) (b : Batch) → is_wanted wanted b ≡ true → wanted ≡ Some b.key
 key-wanted None b h = absurd (true≢false (sym h))
 key-wanted (Some key) b h = ap Some (sym (same-keys b.key key h))
 

@@ -14,3 +14,5 @@ pub mod PathLaws
 pub mod CommonLemmas
 pub mod ForkLemmas
 pub mod CommonPaths
+pub mod GapLemmas
+pub mod GapLaws

@@ -25,6 +25,11 @@ among-map f [] x h = absurd h
 among-map f (y ∷ ys) x (inl e) = inl (ap f e)
 among-map f (y ∷ ys) x (inr h) = inr (among-map f ys x h)
 
+pub map-among : {X Y : Type 0} (f : X → Y) (xs : List X) (y : Y) → Among y (map f xs) → (x : X) × Among x xs × (y ≡ f x)
+map-among f [] y h = absurd h
+map-among f (z ∷ zs) y (inl e) = (z, inl refl, e)
+map-among f (z ∷ zs) y (inr h) = let r = map-among f zs y h in (r.0, inr r.1, r.2)
+
 -- a filter, by whether it keeps the first
 pub filter-cases : {X : Type 0} (P : List X → Type 0) (p : X → Bool) (x : X) (xs : List X) →
     (p x ≡ true → P (x ∷ filter p xs)) → (p x ≡ false → P (filter p xs)) → P (filter p (x ∷ xs))

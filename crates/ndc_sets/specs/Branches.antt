@@ -6,7 +6,9 @@ use Rattle.ndc_event.specs.declared.batch.Batch.{Batch}
 use Rattle.ndc_event.specs.declared.key.BatchKey.{BatchKey}
 use Rattle.ndc_event.specs.declared.key.RunId.{RunId}
 use Rattle.ndc_sets.specs.Sets.{Has}
-use Rattle.ndc_sets.specs.Paths.{is_wanted, path_to}
+use Rattle.ndc_history.specs.declared.item.Item.{Item}
+use Rattle.ndc_state.specs.Replay.{history_of}
+use Rattle.ndc_sets.specs.Paths.{is_wanted, path_to, versions_of}
 
 -- whether two run ids are one
 abbrev pub same_run : RunId → RunId → Bool
@@ -67,3 +69,7 @@ is_current_run run batches = is_run_of run (workflow_tip batches)
 pub record IsLeading (run : RunId) (batches : List Batch) (tip : Batch) : Type 0 where
   pub is_tip : Has (tips run batches) tip
   pub above : (other : Batch) → Has (tips run batches) other → other ≢ tip → other.key.version < tip.key.version
+
+-- the version histories of the branches of a run
+abbrev pub histories : RunId → List Batch → List (List Item)
+histories run batches = map (λ branch. versions_of (history_of branch)) (branches run batches)

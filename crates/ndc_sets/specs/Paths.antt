@@ -107,3 +107,8 @@ item_at (Some event) = Some (item_of event)
 -- the item of the last of these events
 abbrev pub last_item_of : List Event → Option Item
 last_item_of events = item_at (last_event events)
+
+-- the item of what is best, where there is one
+abbrev pub best_item : Option (ℕ × Item) → Option Item
+best_item None = None
+best_item (Some best) = Some best.1

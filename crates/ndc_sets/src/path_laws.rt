@@ -1,14 +1,16 @@
 // Paths, as laws.
-ghost use Rattle.std.specs.Prelude.{◌≡◌, ℕ, true, List, [], ◌∷◌, ◌++◌, Some};
+ghost use Rattle.std.specs.Prelude.{◌≡◌, ℕ, true, List, [], ◌∷◌, ◌++◌, Some, None};
 ghost use Rattle.ndc_event.specs.declared.batch.Batch.{Batch};
 ghost use Rattle.ndc_event.specs.declared.key.BatchKey.{BatchKey};
 ghost use Rattle.ndc_event.specs.Batch.{follow_from};
 ghost use Rattle.ndc_event.specs.declared.batch.Event.{Event as HistoryEvent};
-ghost use Rattle.ndc_history.specs.Common.{id_of, common_of};
+ghost use Rattle.ndc_history.specs.Common.{id_of, common_of, best_from};
 ghost use Rattle.ndc_history.specs.History.{rises};
-ghost use Rattle.ndc_sets.specs.Sets.{IsSet, Has};
-ghost use Rattle.ndc_sets.specs.Learned.{IsClosed};
-ghost use Rattle.ndc_sets.specs.Paths.{path_to, IsPath, events_to, last_event, versions_of, last_id_of, GoApart, last_item_of};
+ghost use Rattle.ndc_sets.specs.Sets.{IsSet, batch_at, Has};
+ghost use Rattle.ndc_sets.specs.Learned.{IsClosed, IsPart};
+ghost use Rattle.ndc_sets.specs.Branches.{histories};
+ghost use Rattle.ndc_state.specs.Replay.{history_of};
+ghost use Rattle.ndc_sets.specs.Paths.{path_to, IsPath, events_to, last_event, versions_of, last_id_of, GoApart, last_item_of, best_item};
 ghost use Rattle.ndc_sets.specs.Sound.{AreFaultless, ParentsFit, IsSound};
 
 /// In a closed set each batch has its path: following parents upwards from it one meets the batches of the
@@ -55,4 +57,14 @@ pub fn common_item_is_the_last_shared_event()
     ensures { (batches : List Batch) (one two : Batch) (front rest other : List HistoryEvent) → IsSound batches → Has batches one → Has batches two → one.run ≡ two.run
         → events_to one.key batches ≡ front ++ rest → events_to two.key batches ≡ front ++ other → GoApart rest other
         → common_of (versions_of (events_to one.key batches)) (versions_of (events_to two.key batches)) ≡ last_item_of front }
+{}
+
+/// Of a batch whose path begins with learned batches and goes on with others, the best that its version history
+/// has in common with those of the learned branches is the last event of the last learned batch of the path;
+/// nothing, where none is learned.
+#[tactic(auto, using(crate::proofs::GapLaws::gap_names_the_last_learned))]
+pub fn best_common_item_is_that_of_the_last_learned_ancestor()
+    ensures { (batches part : List Batch) (b : Batch) (front rest : List Batch) → IsSound batches → IsSet part → IsClosed part → IsPart part batches → Has batches b
+        → path_to b.key batches ≡ front ++ rest → IsPart front part → ((c : Batch) → Has rest c → batch_at c.key part ≡ None)
+        → best_item (best_from 0 (histories b.run part) (versions_of (events_to b.key batches))) ≡ last_item_of (history_of front) }
 {}
