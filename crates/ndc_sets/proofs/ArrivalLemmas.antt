@@ -42,7 +42,7 @@ pub arrival_keeps_sets : (new : Batch) (batches : List Batch) → IsSet batches 
 arrival_keeps_sets new batches set back = record { ordered = Rise-arrived new batches set.ordered; back = All-arrived PointsBack new batches back set.back }
 
 -- what has arrived stays
-stays : (new : Batch) (batches : List Batch) → Rise batches → IsPart batches (arrived new batches)
+pub stays : (new : Batch) (batches : List Batch) → Rise batches → IsPart batches (arrived new batches)
 stays new [] rise b = λ h. absurd (cc)
 stays new (x ∷ xs) rise b =
     arrived-cases (λ l. Has (x ∷ xs) b → Has l b) new x xs
@@ -53,7 +53,7 @@ stays new (x ∷ xs) rise b =
     (λ _ h. at-behind x (arrived new xs) b.key b (All-arrived (λ y. key_lt x.key y.key ≡ true) new xs l rise.0) (stays new xs rise.1 b h)))
 
 -- what is there then was there, or is the batch
-was_or_new : (new : Batch) (batches : List Batch) (b : Batch) → Rise batches → Has (arrived new batches) b → (b ≡ new) ⊎ Has batches b
+pub was_or_new : (new : Batch) (batches : List Batch) (b : Batch) → Rise batches → Has (arrived new batches) b → (b ≡ new) ⊎ Has batches b
 was_or_new new [] b rise =
     at-cases (λ o. o ≡ Some b → (b ≡ new) ⊎ Has [] b) new [] b.key (λ _ h. let same : b ≡ new = cc in inl same) (λ _ h. absurd (cc))
 was_or_new new (x ∷ xs) b rise =
@@ -69,7 +69,7 @@ was_or_new new (x ∷ xs) b rise =
     by (inr h) = inr (at-behind x xs b.key b rise.0 h)
 
 -- a batch whose key has not arrived is there then
-is_there : (new : Batch) (batches : List Batch) → Rise batches → batch_at new.key batches ≡ None → Has (arrived new batches) new
+pub is_there : (new : Batch) (batches : List Batch) → Rise batches → batch_at new.key batches ≡ None → Has (arrived new batches) new
 is_there new [] rise none = at-first new []
 is_there new (x ∷ xs) rise none =
     arrived-cases (λ l. Has l new) new x xs

@@ -16,3 +16,6 @@ pub mod ForkLemmas
 pub mod CommonPaths
 pub mod GapLemmas
 pub mod GapLaws
+pub mod SoundLemmas
+pub mod WriteLaws
+pub mod ViewLaws

@@ -4,5 +4,7 @@ pub mod Paths
 pub mod Branches
 pub mod Origins
 pub mod Sound
+pub mod Writing
 pub mod Current
 pub mod View
+pub mod Worked

@@ -6,6 +6,9 @@
 pub mod arrival_laws;
 pub mod branch_laws;
 pub mod path_laws;
+pub mod sound_laws;
 mod view;
+pub mod view_laws;
+pub mod worked_sets;
 
 pub use view::{Batches, BranchView, BranchViews, RunStatus, RunView, RunViews, View};
