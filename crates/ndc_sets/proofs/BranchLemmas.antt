@@ -1,21 +1,17 @@
 -- One branch leads: the one that ends with the greatest batch of its run.
-use Rattle.std.proofs.Common.{◌≡◌, ◌≢◌, ℕ, ◌<◌, Bool, true, false, not, ◌&&◌, ◌||◌, ◌==◌, nat_lt, List, [], ◌∷◌, ◌++◌, ◌⊎◌, inl, inr, Option, Some, None, refl, sym, ◌∙◌, subst, ap, true≢false, arith}
-use Rattle.std.specs.Prelude.{is_none, map, find, if◌then◌else◌}
-use Rattle.std.specs.List.{AllByRecursion, filter, filter_map, list_all, list_any}
-use Rattle.std.proofs.lemmas.Bool.{and_parts, and_from, ltb-true, lt-ltb, eqb-true, eq-eqb}
+use Rattle.std.proofs.Common.{◌≡◌, ℕ, Bool, true, false, List, [], ◌∷◌, ◌⊎◌, inl, inr, Option, Some, None, refl, sym, ◌∙◌, subst, ap}
+use Rattle.std.specs.Prelude.{if◌then◌else◌}
+use Rattle.std.specs.List.{AllByRecursion, filter}
+use Rattle.std.proofs.lemmas.Bool.{eqb-true, eq-eqb}
 use Rattle.ndc_event.specs.Key.{key_lt, key_eq}
 use Rattle.ndc_event.specs.declared.batch.Batch.{Batch}
 use Rattle.ndc_event.specs.declared.key.BatchKey.{BatchKey}
 use Rattle.ndc_event.specs.declared.key.RunId.{RunId}
-use Rattle.ndc_sets.specs.Sets.{earlier_of, earlier, PointsBack, ComeAfter, Rise, IsSet, batch_at, Has}
-use Rattle.ndc_sets.specs.Learned.{IsClosed}
-use Rattle.ndc_sets.specs.Paths.{is_wanted, path_to, IsPath, first, below}
-use Rattle.ndc_sets.specs.Branches.{same_run, has_child, tips, leads, current_tip, runs, current_tips, later, greatest_key, workflow_tip}
-use Rattle.ndc_sets.specs.Sound.{IsParentFit, ParentsFit, VersionsAreChains}
-use Rattle.ndc_sets.proofs.KeyLemmas.{IsBefore, before-parts, before-irrefl, before-trans, before-total, same-keys, key_eq-self}
-use Rattle.ndc_sets.proofs.SetLemmas.{at-cases, at-first, found-key, found-has, has-found, found-all, at-behind, at-append}
-use Rattle.ndc_sets.proofs.Lists.{Among, all-among, all-from, among-map, filter-cases, among-filter, filter-among, among-filter_map, filter_map-among, list_all-each, each-list_all, list_any-none, list_any-one, find-among, find-only}
-use Rattle.ndc_sets.proofs.PathLemmas.{path_is, parent-back}
+use Rattle.ndc_sets.specs.Sets.{Rise, batch_at, Has}
+use Rattle.ndc_sets.specs.Branches.{same_run, later, greatest_key}
+use Rattle.ndc_sets.proofs.KeyLemmas.{before-irrefl, before-trans, before-total, same-keys}
+use Rattle.ndc_sets.proofs.SetLemmas.{at-cases, at-first, has-found, at-behind}
+use Rattle.ndc_sets.proofs.Lists.{Among, filter-cases}
 
 -- what a set has stands in its list
 pub has-among : (batches : List Batch) (b : Batch) → Has batches b → Among b batches

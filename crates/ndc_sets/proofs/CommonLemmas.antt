@@ -1,16 +1,15 @@
 -- What the version histories of two paths have in common.
-use Rattle.std.proofs.Common.{◌≡◌, ◌≢◌, ℕ, ◌+◌, ◌<◌, ◌≤◌, Bool, true, false, ◌&&◌, ◌==◌, nat_lt, min, List, [], ◌∷◌, ◌++◌, ◌⊎◌, inl, inr, Option, Some, None, refl, sym, ◌∙◌, subst, ap, arith}
+use Rattle.std.proofs.Common.{◌≡◌, ℕ, ◌+◌, ◌<◌, ◌≤◌, Bool, true, false, ◌&&◌, ◌==◌, nat_lt, min, List, [], ◌∷◌, ◌++◌, ◌⊎◌, inl, inr, Option, Some, None, refl, sym, ◌∙◌, subst, ap, arith}
 use Rattle.std.specs.Prelude.{if◌then◌else◌}
-use Rattle.std.proofs.lemmas.Bool.{and_parts, and_from, ltb-true, lt-ltb, eqb-true, eq-eqb, ne_eqb}
+use Rattle.std.proofs.lemmas.Bool.{and_parts, ltb-true, lt-ltb, eqb-true, eq-eqb, ne_eqb}
 use Rattle.ndc_event.specs.declared.batch.Event.{Event}
 use Rattle.ndc_event.specs.Batch.{follow_from}
 use Rattle.ndc_history.specs.declared.item.Item.{Item}
 use Rattle.ndc_history.specs.Common.{id_of, with_smaller, shared, greater, greatest, common_of}
 use Rattle.ndc_history.specs.History.{rise_from, rises}
-use Rattle.ndc_sets.specs.Paths.{item_of, versions_of, later_id, last_id_of, last_event, last_from}
-use Rattle.ndc_sets.proofs.Lists.{Among}
-use Rattle.ndc_sets.proofs.PathIds.{Climbs, ends, tops, follow-rest, ends-last}
-use Rattle.ndc_sets.proofs.HistoryLemmas.{same-or-not, versions-rise, versions-ids, below-all}
+use Rattle.ndc_sets.specs.Paths.{item_of, versions_of, later_id, last_id_of, last_from}
+use Rattle.ndc_sets.proofs.PathIds.{Climbs, ends, follow-rest, ends-last}
+use Rattle.ndc_sets.proofs.HistoryLemmas.{same-or-not, versions-rise, versions-ids}
 
 -- no version has an id in both
 abbrev pub NoneShared : (ℕ → Type 0) → List Item → List Item → Type 0

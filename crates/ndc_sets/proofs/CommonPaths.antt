@@ -1,26 +1,22 @@
 -- What the version histories of two paths of one run have in common.
-use Rattle.std.proofs.Common.{◌≡◌, ◌≢◌, ℕ, ◌+◌, ◌<◌, ◌≤◌, Bool, true, false, ◌&&◌, ◌==◌, List, [], ◌∷◌, ◌++◌, ◌⊎◌, inl, inr, Option, Some, None, refl, sym, ◌∙◌, subst, ap, arith}
-use Rattle.std.specs.Prelude.{if◌then◌else◌}
+use Rattle.std.proofs.Common.{◌≡◌, ℕ, ◌<◌, ◌≤◌, true, ◌==◌, List, [], ◌∷◌, ◌++◌, ◌⊎◌, inl, inr, Option, Some, None, refl, sym, ◌∙◌, subst, ap, arith}
 use Rattle.std.proofs.lemmas.Bool.{and_from, eq-eqb, cases_lt}
 use Rattle.ndc_event.specs.declared.batch.Batch.{Batch}
 use Rattle.ndc_event.specs.declared.batch.Event.{Event}
 use Rattle.ndc_event.specs.declared.key.BatchKey.{BatchKey}
-use Rattle.ndc_history.specs.declared.item.Item.{Item}
 use Rattle.ndc_history.specs.Common.{id_of, common_of}
 use Rattle.ndc_state.specs.Replay.{history_of}
-use Rattle.ndc_sets.specs.Sets.{IsSet, Rise, Has}
-use Rattle.ndc_sets.specs.Learned.{IsClosed}
-use Rattle.ndc_sets.specs.Paths.{IsPath, path_to, events_to, GoApart, versions_of, last_id_of, later_id, last_event, last_from, item_of, last_item_of}
+use Rattle.ndc_sets.specs.Sets.{Rise, Has}
+use Rattle.ndc_sets.specs.Paths.{IsPath, path_to, events_to, GoApart, versions_of, last_id_of, later_id, last_item_of}
 use Rattle.ndc_sets.specs.Sound.{IsSound}
 use Rattle.ndc_sets.proofs.KeyLemmas.{same-keys}
 use Rattle.ndc_sets.proofs.Lists.{Among}
 use Rattle.ndc_sets.proofs.PathLemmas.{path_is, one-path}
-use Rattle.ndc_sets.proofs.BranchLemmas.{has-among, among-has, same-batch}
-use Rattle.ndc_sets.proofs.FaultLemmas.{Passes, passes}
+use Rattle.ndc_sets.proofs.BranchLemmas.{has-among, same-batch}
 use Rattle.ndc_sets.proofs.PathIds.{AreEventsTo, path-events, history-append}
 use Rattle.ndc_sets.proofs.HistoryLemmas.{versions-rise, versions-ids}
 use Rattle.ndc_sets.proofs.CommonLemmas.{NotBoth, common-none, common-front}
-use Rattle.ndc_sets.proofs.ForkLemmas.{ComesTo, comes-to, path-run, path-rises, not-twice, shared-front, apart-once, Fork, fork, version-batch, among-left, among-right}
+use Rattle.ndc_sets.proofs.ForkLemmas.{comes-to, path-run, path-rises, not-twice, shared-front, apart-once, fork, version-batch, among-left, among-right}
 
 -- equal parts make equal keys
 key-parts : (a b : BatchKey) → a.version ≡ b.version → a.task ≡ b.task → a ≡ b

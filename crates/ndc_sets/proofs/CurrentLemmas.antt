@@ -1,9 +1,8 @@
 -- The current branch of a run ends with its greatest batch, and the current run has the greatest of all.
-use Rattle.std.proofs.Common.{◌≡◌, ◌≢◌, ◌<◌, Bool, true, false, not, ◌&&◌, ◌||◌, ◌==◌, nat_lt, List, [], ◌∷◌, ◌++◌, ◌⊎◌, inl, inr, Option, Some, None, refl, sym, ◌∙◌, subst, ap, true≢false, arith}
-use Rattle.std.specs.Prelude.{is_none, map, find}
-use Rattle.std.specs.List.{filter, filter_map, list_all, list_any}
+use Rattle.std.proofs.Common.{◌≡◌, ◌≢◌, ◌<◌, Bool, true, false, not, ◌&&◌, ◌||◌, nat_lt, List, [], ◌∷◌, ◌++◌, ◌⊎◌, inl, inr, Option, Some, None, refl, sym, ◌∙◌, subst, ap, true≢false, arith}
+use Rattle.std.specs.List.{filter}
 use Rattle.std.specs.Option.{option_or}
-use Rattle.std.proofs.lemmas.Bool.{and_parts, and_from, ltb-true, lt-ltb, eqb-true, eq-eqb}
+use Rattle.std.proofs.lemmas.Bool.{and_parts, and_from, ltb-true, lt-ltb}
 use Rattle.ndc_event.specs.Key.{key_lt, key_eq}
 use Rattle.ndc_event.specs.declared.batch.Batch.{Batch}
 use Rattle.ndc_event.specs.declared.key.BatchKey.{BatchKey}
@@ -11,13 +10,13 @@ use Rattle.ndc_event.specs.declared.key.RunId.{RunId}
 use Rattle.ndc_sets.specs.Sets.{PointsBack, Rise, IsSet, batch_at, Has}
 use Rattle.ndc_sets.specs.Learned.{IsClosed}
 use Rattle.ndc_sets.specs.Paths.{is_wanted, path_to, IsPath, first, below}
-use Rattle.ndc_sets.specs.Branches.{same_run, has_child, tips, leads, current_tip, runs, current_tips, greatest_key, workflow_tip, IsLeading}
-use Rattle.ndc_sets.specs.Sound.{IsParentFit, ParentsFit, VersionsAreChains}
+use Rattle.ndc_sets.specs.Branches.{same_run, has_child, tips, leads, current_tip, greatest_key, IsLeading}
+use Rattle.ndc_sets.specs.Sound.{ParentsFit, VersionsAreChains}
 use Rattle.ndc_sets.proofs.KeyLemmas.{IsBefore, before-parts, before-irrefl, before-trans, same-keys, key_eq-self}
-use Rattle.ndc_sets.proofs.SetLemmas.{at-cases, at-first, found-key, found-has, has-found, found-all, at-append}
-use Rattle.ndc_sets.proofs.Lists.{Among, among-map, among-filter, filter-among, among-filter_map, filter_map-among, list_all-each, each-list_all, list_any-none, list_any-one, find-among, find-only}
+use Rattle.ndc_sets.proofs.SetLemmas.{at-cases, found-key, found-all, at-append}
+use Rattle.ndc_sets.proofs.Lists.{Among, among-filter, filter-among, list_all-each, each-list_all, list_any-none, list_any-one, find-only}
 use Rattle.ndc_sets.proofs.PathLemmas.{path_is, parent-back}
-use Rattle.ndc_sets.proofs.BranchLemmas.{has-among, among-has, same-batch, Rise-filter, run-same, same-run, greatest-among, greatest-top, greatest-some, greatest-of, IsUpTo}
+use Rattle.ndc_sets.proofs.BranchLemmas.{has-among, among-has, same-batch, Rise-filter, run-same, same-run, greatest-among, greatest-top, greatest-some, IsUpTo}
 
 -- what is found in a list and one more is found in the list, or is it
 found-last : (front : List Batch) (b x : Batch) (key : BatchKey) → batch_at key (front ++ b ∷ []) ≡ Some x → (batch_at key front ≡ Some x) ⊎ (x ≡ b)

@@ -1,11 +1,10 @@
 -- What a batch without a fault is.
-use Rattle.std.proofs.Common.{◌≡◌, Bool, true, false, not, ◌&&◌, ◌==◌, nat_lt, List, [], ◌∷◌, Option, Some, None, refl, sym, ◌∙◌, subst, ap}
+use Rattle.std.proofs.Common.{◌≡◌, Bool, true, false, not, List, [], ◌∷◌, Option, Some, None, refl, subst}
 use Rattle.std.specs.Prelude.{if◌then◌else◌}
 use Rattle.ndc_event.specs.declared.batch.Batch.{Batch}
 use Rattle.ndc_event.specs.declared.batch.BatchFault.{BatchFault}
 use Rattle.ndc_event.specs.declared.batch.Event.{Event}
 use Rattle.ndc_event.specs.Batch.{follow_from, are_consecutive, are_of_version, is_first_fit, is_parent_fit, is_carrier_fit, fault_at, fault_of}
-use Rattle.ndc_sets.specs.Paths.{first_id}
 
 -- the tests that a batch without a fault passes
 pub record Passes (b : Batch) : Type 0 where

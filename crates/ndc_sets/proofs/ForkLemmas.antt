@@ -1,29 +1,25 @@
 -- Two paths of one run: they begin alike, and then share no version.
-use Rattle.std.proofs.Common.{◌≡◌, ◌≢◌, ℕ, ◌+◌, ◌<◌, ◌≤◌, Bool, true, false, ◌&&◌, ◌==◌, nat_lt, List, [], ◌∷◌, ◌++◌, ◌⊎◌, inl, inr, Option, Some, None, refl, sym, ◌∙◌, subst, ap, true≢false, arith}
+use Rattle.std.proofs.Common.{◌≡◌, ℕ, Bool, true, false, ◌==◌, List, [], ◌∷◌, ◌++◌, ◌⊎◌, inl, inr, Option, Some, None, refl, sym, ◌∙◌, subst, ap, true≢false}
 use Rattle.std.specs.Prelude.{if◌then◌else◌}
 use Rattle.std.specs.List.{AllByRecursion}
-use Rattle.std.proofs.lemmas.Bool.{and_parts, eqb-true, eq-eqb, cases_lt}
+use Rattle.std.proofs.lemmas.Bool.{and_parts, eqb-true}
 use Rattle.std.proofs.lemmas.List.{append_assoc, append-nil}
 use Rattle.ndc_event.specs.declared.batch.Batch.{Batch}
 use Rattle.ndc_event.specs.declared.batch.Event.{Event}
 use Rattle.ndc_event.specs.declared.key.BatchKey.{BatchKey}
-use Rattle.ndc_event.specs.Batch.{follow_from, are_of_version}
+use Rattle.ndc_event.specs.Batch.{are_of_version}
 use Rattle.ndc_event.specs.Key.{key_lt, key_eq}
-use Rattle.ndc_history.specs.Common.{id_of, common_of}
 use Rattle.ndc_state.specs.Replay.{history_of}
-use Rattle.ndc_sets.specs.Sets.{IsSet, PointsBack, ComeAfter, Rise, batch_at, Has}
-use Rattle.ndc_sets.specs.Learned.{IsClosed}
-use Rattle.ndc_sets.specs.Paths.{IsPath, first, below, path_to, events_to, GoApart, versions_of, last_id_of, later_id, last_event, last_from, item_of, item_at, last_item_of}
-use Rattle.ndc_sets.specs.Sound.{IsParentFit, ParentsFit, AreFaultless, VersionsAreChains}
+use Rattle.ndc_sets.specs.Sets.{IsSet, PointsBack, Rise, Has}
+use Rattle.ndc_sets.specs.Paths.{IsPath, first, below, GoApart, last_id_of, later_id}
+use Rattle.ndc_sets.specs.Sound.{ParentsFit, AreFaultless}
 use Rattle.ndc_sets.proofs.KeyLemmas.{before-irrefl, before-trans, same-keys, key_eq-self}
-use Rattle.ndc_sets.proofs.SetLemmas.{found-key, found-has, found-all}
+use Rattle.ndc_sets.proofs.SetLemmas.{found-key, found-all}
 use Rattle.ndc_sets.proofs.Lists.{Among, all-among}
-use Rattle.ndc_sets.proofs.PathLemmas.{path_is, path-has, one-path, parent-back}
-use Rattle.ndc_sets.proofs.BranchLemmas.{has-among, among-has, same-batch}
-use Rattle.ndc_sets.proofs.FaultLemmas.{Passes, passes}
-use Rattle.ndc_sets.proofs.PathIds.{AreEventsTo, path-events, history-append}
-use Rattle.ndc_sets.proofs.HistoryLemmas.{versions-rise, versions-ids}
-use Rattle.ndc_sets.proofs.CommonLemmas.{NotBoth, either_id, last-id-append, common-none, common-front}
+use Rattle.ndc_sets.proofs.PathLemmas.{parent-back}
+use Rattle.ndc_sets.proofs.BranchLemmas.{same-batch}
+use Rattle.ndc_sets.proofs.FaultLemmas.{passes}
+use Rattle.ndc_sets.proofs.CommonLemmas.{either_id, last-id-append}
 
 pub among-left : {X : Type 0} (x : X) (xs ys : List X) → Among x xs → Among x (xs ++ ys)
 among-left x [] ys h = absurd h
@@ -164,11 +160,23 @@ fork batches (x ∷ xs) (y ∷ ys) h k =
     by : (t : Bool) → key_eq x.key y.key ≡ t → Fork xs ys → Fork (x ∷ xs) (y ∷ ys)
     by true e rest =
         let same : x ≡ y = same-batch batches x y (h x (inl refl)) (k y (inl refl)) (same-keys x.key y.key e) in
-        record { front = x ∷ rest.front; rest = rest.rest; other = rest.other; one_is = ap (λ l. x ∷ l) rest.one_is;
-          two_is = ap (λ b. b ∷ ys) (sym same) ∙ ap (λ l. x ∷ l) rest.two_is; apart = rest.apart }
+        record {
+          front = x ∷ rest.front;
+          rest = rest.rest;
+          other = rest.other;
+          one_is = ap (λ l. x ∷ l) rest.one_is;
+          two_is = ap (λ b. b ∷ ys) (sym same) ∙ ap (λ l. x ∷ l) rest.two_is;
+          apart = rest.apart;
+        }
     by false e rest =
-        record { front = []; rest = x ∷ xs; other = y ∷ ys; one_is = refl; two_is = refl;
-          apart = (λ same. true≢false (sym (subst (λ (b : Batch). key_eq x.key b.key ≡ true) same (key_eq-self x.key)) ∙ e)) }
+        record {
+          front = [];
+          rest = x ∷ xs;
+          other = y ∷ ys;
+          one_is = refl;
+          two_is = refl;
+          apart = (λ same. true≢false (sym (subst (λ (b : Batch). key_eq x.key b.key ≡ true) same (key_eq-self x.key)) ∙ e));
+        }
 
 -- a version of the events is that of one of the batches
 pub version-batch : (batches path : List Batch) (version id : ℕ) → AreFaultless batches → ((c : Batch) → Among c path → Has batches c) → last_id_of version (history_of path) ≡ Some id

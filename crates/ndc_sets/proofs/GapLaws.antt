@@ -1,6 +1,5 @@
 -- The best common item of the learned branches is the last event of the last learned ancestor.
-use Rattle.std.proofs.Common.{◌≡◌, ◌≢◌, ℕ, ◌+◌, ◌<◌, ◌≤◌, Bool, true, false, not, ◌&&◌, ◌==◌, List, [], ◌∷◌, ◌++◌, ◌⊎◌, inl, inr, Option, Some, None, refl, sym, ◌∙◌, subst, ap, arith}
-use Rattle.std.specs.Prelude.{map}
+use Rattle.std.proofs.Common.{◌≡◌, ℕ, ◌+◌, ◌<◌, true, not, ◌&&◌, ◌==◌, List, [], ◌∷◌, ◌++◌, inl, inr, Some, None, refl, sym, ◌∙◌, subst, ap, arith}
 use Rattle.std.specs.List.{AllByRecursion}
 use Rattle.std.proofs.lemmas.List.{append-nil}
 use Rattle.ndc_event.specs.Key.{key_lt}
@@ -18,13 +17,13 @@ use Rattle.ndc_sets.specs.Branches.{same_run, has_child, tips, branches, histori
 use Rattle.ndc_sets.specs.Sound.{ParentsFit, IsSound}
 use Rattle.ndc_sets.proofs.SetLemmas.{found-key, found-has, has-found}
 use Rattle.ndc_sets.proofs.Lists.{Among, among-map, map-among, filter-among}
-use Rattle.ndc_sets.proofs.PathLemmas.{path_is, path-has, part-path}
-use Rattle.ndc_sets.proofs.BranchLemmas.{has-among, among-has, run-same}
+use Rattle.ndc_sets.proofs.PathLemmas.{path_is, part-path}
+use Rattle.ndc_sets.proofs.BranchLemmas.{among-has, run-same}
 use Rattle.ndc_sets.proofs.FaultLemmas.{Passes, passes}
-use Rattle.ndc_sets.proofs.PathIds.{AreEventsTo, path-events, history-append, ends, ends-last, follow-rest, follow-front, last-append}
-use Rattle.ndc_sets.proofs.ForkLemmas.{path-run, path-rises, not-twice, Fork, fork, among-left, among-right, among-cases}
+use Rattle.ndc_sets.proofs.PathIds.{path-events, history-append, ends, ends-last, follow-rest, follow-front, last-append}
+use Rattle.ndc_sets.proofs.ForkLemmas.{path-run, path-rises, not-twice, fork, among-left, among-right}
 use Rattle.ndc_sets.proofs.CommonPaths.{on-both, common-batches}
-use Rattle.ndc_sets.proofs.GapLemmas.{IsAtMost, at-most, best-is, best-none, branch-above}
+use Rattle.ndc_sets.proofs.GapLemmas.{IsAtMost, best-is, best-none, branch-above}
 
 -- what is good in one cut of a list, and bad behind another, stands before it
 cut-before : {X : Type 0} (Good Bad : X → Type 0) → ((x : X) → Good x → Bad x → ⊥) → (cut more front rest : List X) → cut ++ more ≡ front ++ rest
@@ -101,9 +100,13 @@ module _ (batches part : List Batch) (b : Batch) (front rest : List Batch) (soun
       let cut = cut-before (λ (c : Batch). Has part c) (λ (c : Batch). batch_at c.key part ≡ None) (λ c good bad. absurd (cc)) f.front f.other front rest (sym f.two_is)
       (λ c h. (path-run part t c (path_to t.key part) parents (path_is part t set closed has_t) (subst (λ (l : List Batch). Among c l) (sym f.one_is) (among-left c f.front f.rest h))).0)
       (λ c h. missing c (among-has rest c (rise-rest front rest rise) h)) in
-      record { shared = f.front; between = cut.0; front_is = cut.1;
+      record {
+        shared = f.front;
+        between = cut.0;
+        front_is = cut.1;
         item_is = common-batches batches sound t b (path_to t.key part) (front ++ rest) to_t to_b runs f.front f.rest f.other f.one_is f.two_is f.apart;
-        both = on-both batches sound t b (path_to t.key part) (front ++ rest) to_t to_b runs f.front f.rest f.other f.one_is f.two_is f.apart }
+        both = on-both batches sound t b (path_to t.key part) (front ++ rest) to_t to_b runs f.front f.rest f.other f.one_is f.two_is f.apart;
+      }
 
   follow : follow_from 0 (history_of front) ≡ true
   follow = follow-front 0 (history_of front) (history_of rest)
@@ -135,9 +138,13 @@ module _ (batches part : List Batch) (b : Batch) (front rest : List Batch) (soun
   of-tip h there =
       let one = map-among (λ branch. versions_of (history_of branch)) (branches b.run part) h there in
       let two = map-among (λ tip. path_to tip.key part) (tips b.run part) one.0 one.1 in
-      let k = filter-among (λ x. same_run x.run b.run && not (has_child x part)) part two.0 two.1 in
-      (two.0, among-has part two.0 set.ordered k.1, run-same two.0.run b.run (and_parts (same_run two.0.run b.run) (not (has_child two.0 part)) k.0).0, two.1,
-      one.2 ∙ ap (λ branch. versions_of (history_of branch)) two.2)
+      let k = filter-among (λ x. same_run x.run b.run && not (has_child x part)) part two.0 two.1 in (
+        two.0,
+        among-has part two.0 set.ordered k.1,
+        run-same two.0.run b.run (and_parts (same_run two.0.run b.run) (not (has_child two.0 part)) k.0).0,
+        two.1,
+        one.2 ∙ ap (λ branch. versions_of (history_of branch)) two.2,
+      )
 
   remote : versions_of (events_to b.key batches) ≡ versions_of (history_of (front ++ rest))
   remote = ap (λ l. versions_of (history_of l)) path
@@ -167,10 +174,11 @@ module _ (batches part : List Batch) (b : Batch) (front rest : List Batch) (soun
       let runs : t.0.run ≡ b.run = run-same t.0.run b.run (and_parts (same_run t.0.run b.run) (not (has_child t.0 part)) k.0).0 in
       let s = shares t.0 has_t runs in
       let shared : Among a s.shared = s.both a t.2 (among-left a front rest on) in
-      let whole : front ≡ s.shared = ends a before is s.shared s.between s.front_is shared in
-      (versions_of (events_to t.0.key part),
-      among-map (λ branch. versions_of (history_of branch)) (branches b.run part) (path_to t.0.key part) (among-map (λ tip. path_to tip.key part) (tips b.run part) t.0 mine),
-      ap (common_of (versions_of (events_to t.0.key part))) remote ∙ s.item_is ∙ ap (λ l. last_item_of (history_of l)) (sym whole))
+      let whole : front ≡ s.shared = ends a before is s.shared s.between s.front_is shared in (
+        versions_of (events_to t.0.key part),
+        among-map (λ branch. versions_of (history_of branch)) (branches b.run part) (path_to t.0.key part) (among-map (λ tip. path_to tip.key part) (tips b.run part) t.0 mine),
+        ap (common_of (versions_of (events_to t.0.key part))) remote ∙ s.item_is ∙ ap (λ l. last_item_of (history_of l)) (sym whole),
+      )
     where
       ends : (a : Batch) (before : List Batch) → front ≡ before ++ a ∷ [] → (shared between : List Batch) → front ≡ shared ++ between → Among a shared → front ≡ shared
       ends a before is shared [] e h = e ∙ append-nil shared

@@ -1,31 +1,25 @@
 -- The gap between what is learned and a batch that is put off.
-use Rattle.std.proofs.Common.{◌≡◌, ◌≢◌, ℕ, ◌+◌, ◌<◌, ◌≤◌, Bool, true, false, not, ◌&&◌, ◌==◌, nat_lt, List, [], ◌∷◌, ◌++◌, ◌⊎◌, inl, inr, Option, Some, None, refl, sym, ◌∙◌, subst, ap, true≢false, arith}
-use Rattle.std.specs.Prelude.{if◌then◌else◌, is_some, map}
-use Rattle.std.specs.List.{filter, list_any}
-use Rattle.std.proofs.lemmas.Bool.{and_parts, and_from, ltb-true, lt-ltb, le-leb}
-use Rattle.ndc_event.specs.Key.{key_lt, key_eq}
+use Rattle.std.proofs.Common.{◌≡◌, ℕ, ◌+◌, ◌<◌, Bool, true, false, not, ◌&&◌, nat_lt, List, [], ◌∷◌, ◌++◌, ◌⊎◌, inl, inr, Option, Some, None, refl, sym, ◌∙◌, subst, ap, true≢false, arith}
+use Rattle.std.specs.Prelude.{if◌then◌else◌, is_some}
+use Rattle.std.specs.List.{filter}
+use Rattle.std.proofs.lemmas.Bool.{and_from, ltb-true, lt-ltb}
+use Rattle.ndc_event.specs.Key.{key_lt}
 use Rattle.ndc_event.specs.declared.batch.Batch.{Batch}
-use Rattle.ndc_event.specs.declared.batch.Event.{Event}
 use Rattle.ndc_event.specs.declared.key.BatchKey.{BatchKey}
-use Rattle.ndc_event.specs.Batch.{follow_from}
 use Rattle.ndc_history.specs.declared.item.Item.{Item}
 use Rattle.ndc_history.specs.Common.{common_of, better, best_from}
-use Rattle.ndc_state.specs.Replay.{history_of}
-use Rattle.ndc_sets.specs.Sets.{IsSet, PointsBack, Rise, batch_at, Has}
-use Rattle.ndc_sets.specs.Learned.{IsClosed, IsPart}
-use Rattle.ndc_sets.specs.Paths.{IsPath, first, below, path_to, events_to, versions_of, last_event, last_from, item_of, last_item_of, is_wanted, best_item}
-use Rattle.ndc_sets.specs.Branches.{same_run, has_child, tips, branches, histories, greatest_key}
-use Rattle.ndc_sets.specs.Sound.{IsParentFit, ParentsFit, IsSound}
+use Rattle.ndc_sets.specs.Sets.{IsSet, PointsBack, batch_at, Has}
+use Rattle.ndc_sets.specs.Learned.{IsClosed}
+use Rattle.ndc_sets.specs.Paths.{IsPath, first, below, path_to, is_wanted, best_item}
+use Rattle.ndc_sets.specs.Branches.{same_run, has_child, tips, greatest_key}
+use Rattle.ndc_sets.specs.Sound.{ParentsFit}
 use Rattle.ndc_sets.proofs.KeyLemmas.{before-irrefl, before-trans}
-use Rattle.ndc_sets.proofs.SetLemmas.{found-key, found-has, found-all, has-found, none-there}
-use Rattle.ndc_sets.proofs.Lists.{Among, among-map, among-filter, filter-among, list_any-none}
-use Rattle.ndc_sets.proofs.PathLemmas.{path_is, path-has, one-path, part-path, path-below, parent-back}
-use Rattle.ndc_sets.proofs.BranchLemmas.{has-among, among-has, same-batch, run-same, same-run, greatest-among, greatest-top, greatest-some, IsUpTo}
+use Rattle.ndc_sets.proofs.SetLemmas.{found-key, found-has, found-all}
+use Rattle.ndc_sets.proofs.Lists.{Among, among-filter, filter-among, list_any-none}
+use Rattle.ndc_sets.proofs.PathLemmas.{path_is, path-below, parent-back}
+use Rattle.ndc_sets.proofs.BranchLemmas.{has-among, among-has, same-batch, same-run, greatest-among, greatest-top, greatest-some, IsUpTo}
 use Rattle.ndc_sets.proofs.CurrentLemmas.{key-wanted}
-use Rattle.ndc_sets.proofs.FaultLemmas.{Passes, passes}
-use Rattle.ndc_sets.proofs.PathIds.{AreEventsTo, path-events, history-append, ends, ends-last, follow-rest, follow-front, last-append}
-use Rattle.ndc_sets.proofs.ForkLemmas.{ComesTo, comes-to, path-run, path-rises, not-twice, Fork, fork, among-left, among-right, among-cases}
-use Rattle.ndc_sets.proofs.CommonPaths.{on-both, common-batches}
+use Rattle.ndc_sets.proofs.ForkLemmas.{path-run, path-rises, among-left, among-right}
 
 -- the item is this one, or of a smaller id, or there is none
 abbrev pub IsAtMost : Item → Option Item → Type 0
@@ -129,9 +123,12 @@ module _ (batches : List Batch) (set : IsSet batches) (closed : IsClosed batches
           let on : Among a (path_to m.key batches) = on-path m has_m k.0 in
           let own : a.run ≡ m.run = (path-run batches m a (path_to m.key batches) fit (path_is batches m set closed has_m) on).1 in
           let none : has_child m batches ≡ false =
-          list_any-none (λ c. is_wanted c.parent m) batches (λ c h. childless m e has_m on c (among-has batches c set.ordered h) (is_wanted c.parent m) refl) in
-          (m, among-filter (λ x. same_run x.run a.run && not (has_child x batches)) batches m
-          (and_from (same_run m.run a.run) (not (has_child m batches)) (same-run m.run a.run (sym own)) (ap not none)) k.1, on)
+          list_any-none (λ c. is_wanted c.parent m) batches (λ c h. childless m e has_m on c (among-has batches c set.ordered h) (is_wanted c.parent m) refl) in (
+            m,
+            among-filter (λ x. same_run x.run a.run && not (has_child x batches)) batches m
+                (and_from (same_run m.run a.run) (not (has_child m batches)) (same-run m.run a.run (sym own)) (ap not none)) k.1,
+            on,
+          )
         where
           childless : (m : Batch) → greatest_key (filter (is_on batches a) batches) ≡ Some m → Has batches m → Among a (path_to m.key batches) → (c : Batch) → Has batches c → (t : Bool) → is_wanted c.parent m ≡ t → is_wanted c.parent m ≡ false
           childless m e has_m on c h false w = w

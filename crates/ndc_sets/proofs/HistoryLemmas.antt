@@ -1,11 +1,11 @@
 -- The version history of events, and what two of them have in common.
-use Rattle.std.proofs.Common.{◌≡◌, ℕ, ◌+◌, ◌<◌, ◌≤◌, Bool, true, false, not, ◌&&◌, ◌==◌, nat_lt, min, List, [], ◌∷◌, ◌++◌, ◌⊎◌, inl, inr, Option, Some, None, refl, sym, ◌∙◌, subst, ap, true≢false, arith}
+use Rattle.std.proofs.Common.{◌≡◌, ℕ, ◌+◌, ◌<◌, ◌≤◌, Bool, true, false, ◌&&◌, ◌==◌, nat_lt, List, [], ◌∷◌, ◌⊎◌, inl, inr, Option, Some, None, refl, sym, ◌∙◌, subst, ap, true≢false, arith}
 use Rattle.std.specs.Prelude.{if◌then◌else◌}
-use Rattle.std.proofs.lemmas.Bool.{and_parts, and_from, ltb-true, lt-ltb, eqb-true, eq-eqb, ne_eqb}
+use Rattle.std.proofs.lemmas.Bool.{and_parts, and_from, lt-ltb, eqb-true, eq-eqb, ne_eqb}
 use Rattle.ndc_event.specs.declared.batch.Event.{Event}
 use Rattle.ndc_event.specs.Batch.{follow_from}
 use Rattle.ndc_history.specs.declared.item.Item.{Item}
-use Rattle.ndc_history.specs.Common.{id_of, with_smaller, shared, greater, greatest, common_of}
+use Rattle.ndc_history.specs.Common.{id_of}
 use Rattle.ndc_history.specs.History.{rise_from, rises}
 use Rattle.ndc_sets.specs.Paths.{item_of, before_items, versions_of, later_id, last_id_of}
 use Rattle.ndc_sets.proofs.PathIds.{Climbs}

@@ -1,6 +1,6 @@
 -- What stands in lists.
-use Rattle.std.proofs.Common.{◌≡◌, Bool, true, false, List, [], ◌∷◌, ◌++◌, ◌⊎◌, inl, inr, Option, Some, None, refl, sym, ◌∙◌, subst, ap, true≢false, cond}
-use Rattle.std.specs.Prelude.{◌&&◌, ◌||◌, map, find}
+use Rattle.std.proofs.Common.{◌≡◌, Bool, true, false, List, [], ◌∷◌, ◌⊎◌, inl, inr, Option, Some, None, refl, sym, ◌∙◌, subst, ap, true≢false, cond}
+use Rattle.std.specs.Prelude.{◌||◌, map, find}
 use Rattle.std.proofs.lemmas.Bool.{and_parts, and_from}
 use Rattle.std.specs.List.{AllByRecursion, cons_option, filter, filter_map, list_all, list_any}
 

@@ -1,19 +1,16 @@
 -- The events of a path: ids from 1 on, versions that do not fall.
-use Rattle.std.proofs.Common.{◌≡◌, ℕ, zero, suc, ◌+◌, ◌<◌, ◌≤◌, Bool, true, false, not, ◌&&◌, ◌==◌, nat_lt, List, [], ◌∷◌, ◌++◌, ◌⊎◌, inl, inr, Option, Some, None, refl, sym, ◌∙◌, subst, ap, arith}
-use Rattle.std.specs.List.{list_all}
+use Rattle.std.proofs.Common.{◌≡◌, ℕ, ◌+◌, ◌≤◌, Bool, true, false, not, ◌==◌, nat_lt, List, [], ◌∷◌, ◌++◌, Option, Some, refl, sym, ◌∙◌, subst, ap, arith}
 use Rattle.std.proofs.lemmas.Bool.{and_parts, and_from, ltb-false, eqb-true, eq-eqb}
 use Rattle.std.proofs.lemmas.List.{append-nil, append_assoc}
 use Rattle.ndc_event.specs.declared.batch.Batch.{Batch}
 use Rattle.ndc_event.specs.declared.batch.Event.{Event}
 use Rattle.ndc_event.specs.declared.key.BatchKey.{BatchKey}
-use Rattle.ndc_event.specs.Batch.{follow_from, are_consecutive, are_of_version, is_first_fit, is_parent_fit, is_carrier_fit, fault_of}
+use Rattle.ndc_event.specs.Batch.{follow_from, are_of_version, is_first_fit, is_parent_fit}
 use Rattle.ndc_state.specs.Replay.{history_of}
-use Rattle.ndc_sets.specs.Sets.{batch_at, Has}
-use Rattle.ndc_sets.specs.Paths.{IsPath, first, below, first_id, last_id, last_event, last_from, id_or_zero}
+use Rattle.ndc_sets.specs.Paths.{IsPath, first, below, first_id, last_id, last_event, last_from}
 use Rattle.ndc_sets.specs.Sound.{IsParentFit, ParentsFit, AreFaultless}
-use Rattle.ndc_sets.proofs.SetLemmas.{found-key, found-has}
+use Rattle.ndc_sets.proofs.SetLemmas.{found-key}
 use Rattle.ndc_sets.proofs.FaultLemmas.{Passes, passes}
-use Rattle.ndc_sets.proofs.Lists.{Among}
 
 pub history-append : (front rest : List Batch) → history_of (front ++ rest) ≡ history_of front ++ history_of rest
 history-append [] rest = refl

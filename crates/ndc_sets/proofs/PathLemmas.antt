@@ -1,16 +1,14 @@
 -- What the walk down a set finds.
-use Rattle.std.proofs.Common.{◌≡◌, Bool, true, false, List, [], ◌∷◌, ◌++◌, Option, Some, None, if◌then◌else◌, refl, sym, ◌∙◌, subst, ap, true≢false}
-use Rattle.std.specs.List.{AllByRecursion}
-use Rattle.std.proofs.lemmas.List.{append_assoc}
+use Rattle.std.proofs.Common.{◌≡◌, Bool, true, false, List, [], ◌∷◌, ◌++◌, Option, Some, None, if◌then◌else◌, refl, sym, ◌∙◌, subst, ap}
 use Rattle.ndc_event.specs.Key.{key_lt, key_eq}
 use Rattle.ndc_event.specs.declared.batch.Batch.{Batch}
 use Rattle.ndc_event.specs.declared.key.BatchKey.{BatchKey}
 use Rattle.ndc_sets.specs.Sets.{earlier_of, earlier, PointsBack, ComeAfter, Rise, IsSet, batch_at, Has}
-use Rattle.ndc_sets.specs.Learned.{ReachesTop, top, up, learned, IsClosed, IsPart}
+use Rattle.ndc_sets.specs.Learned.{ReachesTop, top, up, IsClosed, IsPart}
 use Rattle.ndc_sets.specs.Paths.{Walk, is_wanted, walk_over, walk_down, path_from, path_to, IsPath, first, below}
 use Rattle.ndc_sets.proofs.KeyLemmas.{before-irrefl, same-keys, key_eq-self}
 use Rattle.ndc_sets.proofs.SetLemmas.{at-cases, found-key, found-all, has-found, after-trans}
-use Rattle.ndc_sets.proofs.LearnedLemmas.{learned-reaches, reaches-has, closed_whole}
+use Rattle.ndc_sets.proofs.LearnedLemmas.{learned-reaches, closed_whole}
 
 -- a walk that wants this, and has found nothing yet
 abbrev pub from : Option BatchKey → Walk

@@ -1,30 +1,25 @@
 -- Closed parts of sound sets, and sets with one more batch.
-use Rattle.std.proofs.Common.{◌≡◌, ◌≢◌, ℕ, ◌+◌, ◌<◌, ◌≤◌, Bool, true, false, not, ◌&&◌, ◌==◌, nat_lt, List, [], ◌∷◌, ◌++◌, ◌⊎◌, inl, inr, Option, Some, None, IsOk, refl, sym, ◌∙◌, subst, ap, true≢false, arith}
+use Rattle.std.proofs.Common.{◌≡◌, ◌+◌, ◌≤◌, Bool, true, false, not, ◌==◌, nat_lt, List, ◌⊎◌, inl, inr, Option, Some, None, IsOk, refl, sym, ◌∙◌, subst, ap, true≢false, arith}
 use Rattle.std.specs.Prelude.{is_some}
 use Rattle.std.specs.List.{AllByRecursion}
-use Rattle.std.specs.Option.{option_or}
-use Rattle.std.proofs.lemmas.Bool.{and_parts, and_from, ltb-false, ltb-true, eqb-true, eq-eqb}
-use Rattle.ndc_event.specs.Key.{key_lt, key_eq}
+use Rattle.std.proofs.lemmas.Bool.{and_parts, ltb-false, ltb-true, eqb-true}
+use Rattle.ndc_event.specs.Key.{key_lt}
 use Rattle.ndc_event.specs.declared.batch.Batch.{Batch}
-use Rattle.ndc_event.specs.declared.batch.Event.{Event}
 use Rattle.ndc_event.specs.declared.key.BatchKey.{BatchKey}
 use Rattle.ndc_event.specs.Batch.{is_parent_fit, is_carrier_fit, fault_of}
 use Rattle.ndc_state.specs.Laws.{AreApart}
 use Rattle.ndc_state.specs.Replay.{history_of, replay_of}
 use Rattle.ndc_sets.specs.Sets.{earlier_of, earlier, PointsBack, IsSet, batch_at, Has, arrived}
 use Rattle.ndc_sets.specs.Learned.{has_key, IsClosed, IsPart}
-use Rattle.ndc_sets.specs.Paths.{first_id, last_id, path_to, events_to}
-use Rattle.ndc_sets.specs.Branches.{greatest_key}
+use Rattle.ndc_sets.specs.Paths.{path_to, events_to}
 use Rattle.ndc_sets.specs.Origins.{origins_in}
-use Rattle.ndc_sets.specs.Sound.{AreFaultless, IsParentFit, ParentsFit, VersionsAreChains, OriginsDiffer, IsCopyFit, CopiesFit, PathsReplay, ContinuesAs, CarriersFit, IsSound}
-use Rattle.ndc_sets.specs.Writing.{GoesBelow, Begins, CopiesFitBothWays, CopiesFitWith}
-use Rattle.ndc_sets.proofs.KeyLemmas.{IsBefore, before-parts, before-from, before-irrefl, before-trans, same-keys}
-use Rattle.ndc_sets.proofs.SetLemmas.{at-first, found-key, found-has, has-found, at-append}
+use Rattle.ndc_sets.specs.Sound.{AreFaultless, IsParentFit, ParentsFit, OriginsDiffer, IsCopyFit, CopiesFit, PathsReplay, ContinuesAs, CarriersFit, IsSound}
+use Rattle.ndc_sets.specs.Writing.{CopiesFitWith}
+use Rattle.ndc_sets.proofs.KeyLemmas.{before-from}
+use Rattle.ndc_sets.proofs.SetLemmas.{found-key, found-has, has-found}
 use Rattle.ndc_sets.proofs.ArrivalLemmas.{arrival_keeps_sets, stays, was_or_new, is_there}
-use Rattle.ndc_sets.proofs.PathLemmas.{path_is, part-path, path-below, path-first}
-use Rattle.ndc_sets.proofs.BranchLemmas.{has-among, among-has, same-batch, greatest-among, greatest-top, IsUpTo}
+use Rattle.ndc_sets.proofs.PathLemmas.{part-path}
 use Rattle.ndc_sets.proofs.FaultLemmas.{Passes, passes}
-use Rattle.ndc_sets.proofs.PathIds.{history-push}
 
 -- a closed part of a sound set is sound
 pub part_is_sound : (batches part : List Batch) → IsSound batches → IsSet part → IsClosed part → IsPart part batches → IsSound part
@@ -35,7 +30,7 @@ part_is_sound batches part sound set closed within =
       faultless = λ b has. sound.faultless b (within b has);
       parents = λ b before key has e at. sound.parents b before key (within b has) e (found key before at);
       chains = λ one two has other run version less.
-        subst (λ (l : List Batch). Has l one) (sym (path two other)) (sound.chains one two (within one has) (within two other) run version less);
+          subst (λ (l : List Batch). Has l one) (sym (path two other)) (sound.chains one two (within one has) (within two other) run version less);
       origins = λ b has. subst (λ (l : List Batch). AreApart (origins_in b.run (history_of l))) (sym (path b has)) (sound.origins b (within b has));
       copies = λ b other has there. sound.copies b other (within b has) (within other there);
       replays = λ b has. subst (λ (l : List Batch). IsOk (replay_of b.run (history_of l))) (sym (path b has)) (sound.replays b (within b has));

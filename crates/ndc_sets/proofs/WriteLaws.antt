@@ -1,32 +1,28 @@
 -- What one write keeps.
-use Rattle.std.proofs.Common.{◌≡◌, ◌≢◌, ℕ, ◌+◌, ◌<◌, ◌≤◌, Bool, true, false, ◌&&◌, ◌==◌, List, [], ◌∷◌, ◌++◌, ◌⊎◌, inl, inr, Option, Some, None, IsOk, refl, sym, ◌∙◌, subst, ap, arith}
+use Rattle.std.proofs.Common.{◌≡◌, ◌<◌, true, List, [], ◌∷◌, ◌++◌, ◌⊎◌, inl, inr, Option, Some, None, IsOk, refl, sym, ◌∙◌, subst, ap, arith}
 use Rattle.std.specs.Prelude.{is_some}
 use Rattle.std.specs.Option.{option_or}
-use Rattle.std.proofs.lemmas.Bool.{and_parts, eqb-true}
 use Rattle.std.proofs.lemmas.List.{append-nil}
 use Rattle.ndc_event.specs.Key.{key_lt}
 use Rattle.ndc_event.specs.declared.batch.Batch.{Batch}
 use Rattle.ndc_event.specs.declared.batch.Event.{Event}
 use Rattle.ndc_event.specs.declared.key.BatchKey.{BatchKey}
-use Rattle.ndc_event.specs.declared.key.RunId.{RunId}
-use Rattle.ndc_event.specs.Batch.{fault_of}
 use Rattle.ndc_state.specs.Laws.{AreApart}
 use Rattle.ndc_state.specs.Replay.{history_of, replay_of}
-use Rattle.ndc_sets.specs.Sets.{earlier_of, earlier, IsSet, batch_at, Has, arrived}
-use Rattle.ndc_sets.specs.Learned.{has_key, IsClosed, IsPart}
+use Rattle.ndc_sets.specs.Sets.{earlier_of, earlier, batch_at, Has, arrived}
+use Rattle.ndc_sets.specs.Learned.{has_key}
 use Rattle.ndc_sets.specs.Paths.{IsPath, first, below, path_to, events_to}
-use Rattle.ndc_sets.specs.Branches.{greatest_key}
 use Rattle.ndc_sets.specs.Origins.{origins_in}
 use Rattle.ndc_sets.specs.Sound.{IsParentFit, ParentsFit, VersionsAreChains, OriginsDiffer, CopiesFit, PathsReplay, ContinuesAs, CarriersFit, IsSound}
 use Rattle.ndc_sets.specs.Writing.{GoesBelow, Begins, CopiesFitWith}
-use Rattle.ndc_sets.proofs.KeyLemmas.{IsBefore, before-parts, before-irrefl, before-trans}
-use Rattle.ndc_sets.proofs.SetLemmas.{found-key, found-has, has-found, at-first, at-append}
+use Rattle.ndc_sets.proofs.KeyLemmas.{IsBefore, before-parts}
+use Rattle.ndc_sets.proofs.SetLemmas.{has-found, at-append}
 use Rattle.ndc_sets.proofs.PathLemmas.{path-below, path-first, path_is}
 use Rattle.ndc_sets.proofs.BranchLemmas.{has-among, among-has, same-batch, greatest-among, greatest-top, IsUpTo}
 use Rattle.ndc_sets.proofs.PathIds.{history-push}
 use Rattle.ndc_sets.proofs.Lists.{Among}
 use Rattle.ndc_sets.proofs.ForkLemmas.{path-rises, among-right}
-use Rattle.ndc_sets.proofs.SoundLemmas.{parent-alone, which, new-set, new-closed, new-there, old-there, old-path, all-faultless, all-parents, all-origins, all-replay, all-copies, all-carriers}
+use Rattle.ndc_sets.proofs.SoundLemmas.{parent-alone, which, new-set, new-closed, new-there, old-path, all-faultless, all-parents, all-origins, all-replay, all-copies, all-carriers}
 
 module _ (batches part : List Batch) (tip new : Batch) (sound : IsSound batches) (w : GoesBelow batches part tip new) where
   tip-part : Has part tip

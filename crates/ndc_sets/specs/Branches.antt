@@ -3,7 +3,6 @@ use Rattle.std.specs.Prelude.{◌≢◌, ◌<◌, Bool, false, not, ◌&&◌, �
 use Rattle.std.specs.List.{filter, filter_map, list_all, list_any}
 use Rattle.ndc_event.specs.Key.{key_eq, key_lt}
 use Rattle.ndc_event.specs.declared.batch.Batch.{Batch}
-use Rattle.ndc_event.specs.declared.key.BatchKey.{BatchKey}
 use Rattle.ndc_event.specs.declared.key.RunId.{RunId}
 use Rattle.ndc_sets.specs.Sets.{Has}
 use Rattle.ndc_history.specs.declared.item.Item.{Item}

@@ -1,12 +1,11 @@
 -- Sound sets: what holds of the batches that clusters write.
-use Rattle.std.specs.Prelude.{◌≡◌, ◌≢◌, ◌<◌, ◌+◌, List, Option, Some, None, IsOk, AllPairs}
+use Rattle.std.specs.Prelude.{◌≡◌, ◌<◌, ◌+◌, List, Some, None, IsOk}
 use Rattle.std.specs.List.{AllByRecursion}
 use Rattle.ndc_event.specs.declared.batch.Batch.{Batch}
 use Rattle.ndc_event.specs.declared.batch.Event.{Event}
 use Rattle.ndc_event.specs.declared.key.BatchKey.{BatchKey}
 use Rattle.ndc_event.specs.declared.key.Origin.{Origin}
 use Rattle.ndc_event.specs.declared.key.RunId.{RunId}
-use Rattle.ndc_event.specs.declared.kind.EventKind.{EventKind}
 use Rattle.ndc_event.specs.declared.kind.EventKind.TheVariants.{WorkflowExecutionSignaled, WorkflowExecutionContinuedAsNew}
 use Rattle.ndc_event.specs.declared.name.Name.{Name}
 use Rattle.ndc_event.specs.Batch.{fault_of}

@@ -1,17 +1,14 @@
 -- What one write does to a sound set: a batch below the tip of a closed part of it, or the first batch of a new run.
-use Rattle.std.specs.Prelude.{◌≡◌, ◌≢◌, ◌+◌, true, List, ◌++◌, Option, Some, None, IsOk}
+use Rattle.std.specs.Prelude.{◌≡◌, ◌≢◌, ◌+◌, true, List, Some, None}
 use Rattle.std.specs.List.{AllByRecursion}
 use Rattle.ndc_event.specs.Key.{key_lt}
 use Rattle.ndc_event.specs.declared.batch.Batch.{Batch}
 use Rattle.ndc_event.specs.declared.key.BatchKey.{BatchKey}
 use Rattle.ndc_event.specs.Batch.{fault_of}
-use Rattle.ndc_state.specs.Laws.{AreApart}
-use Rattle.ndc_state.specs.Replay.{replay_of}
 use Rattle.ndc_sets.specs.Sets.{IsSet, batch_at, Has}
 use Rattle.ndc_sets.specs.Learned.{IsClosed, IsPart}
-use Rattle.ndc_sets.specs.Paths.{first_id, last_id, events_to}
+use Rattle.ndc_sets.specs.Paths.{first_id, last_id}
 use Rattle.ndc_sets.specs.Branches.{greatest_key}
-use Rattle.ndc_sets.specs.Origins.{origins_in}
 use Rattle.ndc_sets.specs.Sound.{IsCopyFit, ContinuesAs}
 
 -- a batch goes below a tip: the greatest batch of what its writer has learned, which is a closed part of the set
