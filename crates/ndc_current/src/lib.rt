@@ -1,0 +1,11 @@
+//! The current run of a workflow: the greatest tip, and what runs are beside it.
+#![tactic(auto)]
+
+mod current;
+pub mod laws;
+
+pub use current::{pick, status};
+pub use ndc_sets::RunStatus;
+
+#[cfg(test)]
+mod tests;
