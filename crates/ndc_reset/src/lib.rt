@@ -5,3 +5,6 @@ pub mod laws;
 mod plan;
 
 pub use plan::{ResetError, plan_reset};
+
+#[cfg(test)]
+mod tests;

@@ -152,7 +152,8 @@ fn push_onward(
 {
     for event in history {
         if !(event.id < point) && is_signal(&event.kind) {
-            kinds.push(repeated(run, event)?)?;
+            let copy = repeated(run, event)?;
+            kinds.push(copy)?;
         }
     }
     Ok(())
