@@ -176,7 +176,7 @@ fn signals_are_applied_again(rt: HostRuntime) -> Result<(), Fail> {
     for (words, version, want) in cases {
         match reapplied(alloc, words, version) {
             Ok(text) => assert_eq!(rt; text.as_str(), want),
-            Err(error) => assert!(rt; false, "refused"),
+            Err(_) => assert!(rt; false, "refused at {version}"),
         }
     }
     Ok(())
