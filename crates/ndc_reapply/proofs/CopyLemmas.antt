@@ -60,11 +60,13 @@ started-pending (Some pending) h = refl
 -- what is written where the failover close is due
 reapplied-due : (s : StateValue) (v : ℕ) (list : List Stray) → is_failover_close_due s v ≡ true → is_some s.decision ≡ true
     → reapplied s v list ≡ DecisionTaskFailed (codes "failoverClose") ∷ DecisionTaskScheduled ∷ (map copy_of list ++ [])
+unfolding reapplied
 reapplied-due s v list e p = rw (e, p) refl
 
 -- the kinds replay, and leave their origins, a decision, and the rest as it was
 pub replay_kinds-reapplied : (s : StateValue) (v : ℕ) (list : List Stray) → IsOpen s → AreApart (origins_of list) → are_unlisted (origins_of list) s.origins ≡ true
     → (after : StateValue) × (replay_kinds s v (reapplied s v list) ≡ Ok after) × IsReapplied s v list after
+unfolding reapplied
 replay_kinds-reapplied s v list opened apart new = by (is_failover_close_due s v) refl
   where
     Answer : Type 0

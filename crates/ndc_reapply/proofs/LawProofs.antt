@@ -11,7 +11,7 @@ use Rattle.ndc_reapply.specs.Laws.{rises, signal_at, are_unlisted, AreAmong, IsO
 use Rattle.ndc_reapply.specs.Reapplied.{reapplied}
 use Rattle.ndc_reapply.specs.Strays.{origins_of, strays_of}
 use Rattle.ndc_reapply.proofs.CopyLemmas.{replay_kinds-reapplied}
-use Rattle.ndc_reapply.proofs.MeaningLemmas.{rises-strays_of, AreApart-rises, signal_at-strays_of, is_among-strays_of, are_unlisted-strays_of}
+use Rattle.ndc_reapply.proofs.MeaningLemmas.{rises-strays_of, AreApart-rises, signal_at-strays_of, is_among-strays_of, are_unlisted-strays_of, strays_of-determined}
 
 pub strays_rise : (signals : List Stray) (settled : List Origin) → IsTrue (rises (origins_of (strays_of signals settled)))
 strays_rise = rises-strays_of
@@ -26,6 +26,10 @@ first_unsettled = signal_at-strays_of
 pub unsettled_origins : (origin : Origin) (signals : List Stray) (settled : List Origin)
     → is_among origin (origins_of (strays_of signals settled)) ≡ (is_among origin (origins_of signals) && not (is_among origin settled))
 unsettled_origins = is_among-strays_of
+
+pub told_by_first : (one two : List Stray) (settled others : List Origin) → ((origin : Origin) → signal_at origin one ≡ signal_at origin two)
+    → ((origin : Origin) → is_among origin settled ≡ is_among origin others) → strays_of one settled ≡ strays_of two others
+told_by_first = strays_of-determined
 
 pub copies_replay : (s : StateValue) (version : ℕ) (list : List Stray) → IsOpen s → AreApart (origins_of list) → IsTrue (are_unlisted (origins_of list) s.origins)
     → IsOkAnd (replay_kinds s version (reapplied s version list)) (IsReapplied s version list)

@@ -174,3 +174,63 @@ are_unlisted-strays_of signals settled listed among =
     apart a b false h k = refl
     apart true b true h k = absurd (true≢false (sym k ∙ ap not (h refl)))
     apart false b true h k = absurd (cc)
+
+-- no signal has an origin that comes before those of all
+signal_at-after : (o : Origin) (list : List Stray) → list_all (origin_lt o) (origins_of list) ≡ true → signal_at o list ≡ None
+signal_at-after o [] all = refl
+signal_at-after o (s ∷ list) all =
+    let rest = both (origin_lt o s.origin) (list_all (origin_lt o) (origins_of list)) all in
+    rw (same_origin-not o s.origin (before-apart o s.origin rest.0)) (signal_at-after o list rest.1)
+
+signal_at-first : (s : Stray) (list : List Stray) → signal_at s.origin (s ∷ list) ≡ Some s
+signal_at-first s list = rw (same_origin-self s.origin) refl
+
+signal_at-other : (o : Origin) (s : Stray) (list : List Stray) → same_origin o s.origin ≡ false → signal_at o (s ∷ list) ≡ signal_at o list
+signal_at-other o s list h = rw h refl
+
+no_signal : (s : Stray) (found : Option Stray) → found ≡ Some s → found ≡ None → ⊥
+no_signal s found h k = absurd (cc)
+
+-- lists that rise and have the same signal at each origin are one
+rises-determined : (xs ys : List Stray) → rises (origins_of xs) ≡ true → rises (origins_of ys) ≡ true → ((o : Origin) → signal_at o xs ≡ signal_at o ys) → xs ≡ ys
+rises-determined [] [] h k same = refl
+rises-determined [] (y ∷ ys) h k same = absurd (no_signal y (signal_at y.origin (y ∷ ys)) (signal_at-first y ys) (sym (same y.origin)))
+rises-determined (x ∷ xs) [] h k same = absurd (no_signal x (signal_at x.origin (x ∷ xs)) (signal_at-first x xs) (same x.origin))
+rises-determined (x ∷ xs) (y ∷ ys) h k same =
+    by (origin_lt x.origin y.origin) (origin_lt y.origin x.origin) refl refl (rises-determined xs ys of_xs.1 of_ys.1)
+  where
+    of_xs : (list_all (origin_lt x.origin) (origins_of xs) ≡ true) × (rises (origins_of xs) ≡ true)
+    of_xs = both (list_all (origin_lt x.origin) (origins_of xs)) (rises (origins_of xs)) h
+
+    of_ys : (list_all (origin_lt y.origin) (origins_of ys) ≡ true) × (rises (origins_of ys) ≡ true)
+    of_ys = both (list_all (origin_lt y.origin) (origins_of ys)) (rises (origins_of ys)) k
+
+    -- what comes before the first of a list that rises is not in it
+    ahead : (s t : Stray) (list : List Stray) → origin_lt s.origin t.origin ≡ true → list_all (origin_lt t.origin) (origins_of list) ≡ true → signal_at s.origin (t ∷ list) ≡ None
+    ahead s t list lt all =
+        signal_at-after s.origin (t ∷ list)
+        (together (origin_lt s.origin t.origin) (list_all (origin_lt s.origin) (origins_of list)) lt (list_all-before s.origin t.origin (origins_of list) lt all))
+
+    by : (b d : Bool) → origin_lt x.origin y.origin ≡ b → origin_lt y.origin x.origin ≡ d → (((o : Origin) → signal_at o xs ≡ signal_at o ys) → xs ≡ ys) → x ∷ xs ≡ y ∷ ys
+    by true d e g rest = absurd (no_signal x (signal_at x.origin (x ∷ xs)) (signal_at-first x xs) (same x.origin ∙ ahead x y ys e of_ys.0))
+    by false true e g rest = absurd (no_signal y (signal_at y.origin (y ∷ ys)) (signal_at-first y ys) (sym (same y.origin) ∙ ahead y x xs g of_xs.0))
+    by false false e g rest = ap (λ s. s ∷ xs) one ∙ ap (λ l. y ∷ l) (rest (λ o. behind o (same_origin o x.origin) refl))
+      where
+        at : x.origin ≡ y.origin
+        at = origin_lt-neither x.origin y.origin e g
+
+        one : x ≡ y
+        one = let found : Some x ≡ Some y = sym (signal_at-first x xs) ∙ same x.origin ∙ ap (λ o. signal_at o (y ∷ ys)) at ∙ signal_at-first y ys in cc
+
+        behind : (o : Origin) (b : Bool) → same_origin o x.origin ≡ b → signal_at o xs ≡ signal_at o ys
+        behind o true h =
+            let o_is : o ≡ x.origin = same_origin-is o x.origin h in
+            ap (λ p. signal_at p xs) o_is ∙ signal_at-after x.origin xs of_xs.0 ∙ sym (ap (λ p. signal_at p ys) (o_is ∙ at) ∙ signal_at-after y.origin ys of_ys.0)
+        behind o false h = sym (signal_at-other o x xs h) ∙ same o ∙ signal_at-other o y ys (ap (same_origin o) (sym at) ∙ h)
+
+-- strays are told by the first signal of each origin and by what is settled
+pub strays_of-determined : (one two : List Stray) (settled others : List Origin) → ((o : Origin) → signal_at o one ≡ signal_at o two) → ((o : Origin) → is_among o settled ≡ is_among o others)
+    → strays_of one settled ≡ strays_of two others
+strays_of-determined one two settled others signals origins =
+    rises-determined (strays_of one settled) (strays_of two others) (rises-strays_of one settled) (rises-strays_of two others)
+    (λ o. signal_at-strays_of o one settled ∙ ap (λ b. if b then None else signal_at o one) (origins o) ∙ ap (λ s. if is_among o others then None else s) (signals o) ∙ sym (signal_at-strays_of o two others))

@@ -11,5 +11,5 @@ abbrev pub copy_of : Stray → EventKind
 copy_of stray = WorkflowExecutionSignaled stray.name stray.input (Some stray.origin)
 
 -- the failover close where it is due, a copy of each signal, and a decision where none is pending
-abbrev pub reapplied : StateValue → ℕ → List Stray → List EventKind
+unfoldable pub reapplied : StateValue → ℕ → List Stray → List EventKind
 reapplied s version list = failover_close s version ++ map copy_of list ++ wake s

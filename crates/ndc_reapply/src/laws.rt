@@ -34,6 +34,12 @@ pub fn strays_are_the_first_signals()
     ensures { (origin : Origin) (signals : List Stray) (settled : List Origin) → signal_at origin (strays_of signals settled) ≡ (if is_among origin settled then None else signal_at origin signals) }
 {}
 
+/// Strays depend on the first signal of each origin and on what is settled alone, not on the order of either.
+#[tactic(auto, using(crate::proofs::LawProofs::told_by_first))]
+pub fn strays_are_told_by_the_first_signals()
+    ensures { (one two : List Stray) (settled others : List Origin) → ((origin : Origin) → signal_at origin one ≡ signal_at origin two) → ((origin : Origin) → is_among origin settled ≡ is_among origin others) → strays_of one settled ≡ strays_of two others }
+{}
+
 /// Signals whose origins are new to an open state, each once, are applied again by what is written for them:
 /// it replays, lists their origins behind those listed before, and leaves a decision pending.
 #[tactic(auto, using(crate::proofs::LawProofs::copies_replay))]

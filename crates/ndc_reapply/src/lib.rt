@@ -9,3 +9,6 @@ mod stray;
 pub use order::strays;
 pub use reapply::reapply_events;
 pub use stray::Stray;
+
+#[cfg(test)]
+mod tests;

@@ -117,7 +117,8 @@ fn unsettled(
 {
     let mut found = Ordered::new(alloc);
     for taken in 0..signals.len() {
-        let signal = &signals[signals.len() - 1 - taken];
+        let place = signals.len() - 1 - taken;
+        let signal = &signals[place];
         if !is_settled(settled, signal.origin) {
             found.put(signal.try_copy()?)?;
         }

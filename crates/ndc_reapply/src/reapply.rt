@@ -23,6 +23,7 @@ fn push_copies(kinds: &mut Vec<EventKind>, list: &[Stray]) -> Result<(), AllocEr
 /// The kinds of the batch of this version that applies the signals again below the tip of this state: the
 /// failover close where it is due, a copy of each signal, and the scheduling of a decision where none is
 /// pending.
+#[tactic(auto, unfolding(crate::specs::Reapplied::reapplied))]
 pub fn reapply_events(
     alloc: Global,
     state: &State,

@@ -1,0 +1,5 @@
+pub mod CountLemmas
+pub mod PointLemmas
+pub mod MovedLemmas
+pub mod LaterLemmas
+pub mod LawProofs
