@@ -1,6 +1,11 @@
-//! Commands to a workflow: what a caller asks of a cluster.
+//! Commands to a workflow: what a caller asks of a cluster, and what each writes.
 #![tactic(auto)]
 
 mod command;
+mod judge;
+mod refusal;
+mod stage;
+mod tip;
 
 pub use command::{Action, Actions, Command};
+pub use refusal::{CommandError, Refusal};

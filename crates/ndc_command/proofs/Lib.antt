@@ -1,0 +1,4 @@
+pub mod TipLemmas
+pub mod JudgeLemmas
+pub mod NameLemmas
+pub mod SeenLemmas
