@@ -2,3 +2,4 @@ pub mod TipLemmas
 pub mod JudgeLemmas
 pub mod NameLemmas
 pub mod SeenLemmas
+pub mod JoinLemmas

@@ -29,7 +29,7 @@ started-pending : (pending : Option Pending) → is_started pending ≡ true →
 started-pending None h = absurd (cc)
 started-pending (Some pending) h = refl
 
-judged-like : (s : StateValue) (version : ℕ) → IsJudgedLike s (judged_at s version) (is_failover_close_due s version)
+pub judged-like : (s : StateValue) (version : ℕ) → IsJudgedLike s (judged_at s version) (is_failover_close_due s version)
 unfolding judged_at row
 judged-like s version = by (is_failover_close_due s version) refl
   where

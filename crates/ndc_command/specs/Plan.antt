@@ -64,8 +64,16 @@ plan_below s command version limit next_run =
     refuse (not s.running) Closed
     >> (behind (failover_close s version) (written version next_run (judged_at s version) command) >>= λ kinds. within limit (s.next - 1) kinds)
 
--- what a command writes in a run with this state, or in a new run where it is a start
+-- what a start writes in a new run
+unfoldable pub start_of : Option StateValue → Name → ℕ → Result (List EventKind) CommandError
+start_of state workflow_type limit = refuse (has_open_run state) AlreadyRunning >> within limit 0 (beginning workflow_type)
+
+-- what any other command writes in the current run
+abbrev pub plan_in_run : Option StateValue → Command → ℕ → ℕ → RunId → Result (List EventKind) CommandError
+plan_in_run None command version limit next_run = Err (Refused NoWorkflow)
+plan_in_run (Some s) command version limit next_run = plan_below s command version limit next_run
+
+-- what a command writes in a workflow whose current run has this state, where it has one
 unfoldable pub plan_of : Option StateValue → Command → ℕ → ℕ → RunId → Result (List EventKind) CommandError
-plan_of state (Start workflow_type) version limit next_run = refuse (has_open_run state) AlreadyRunning >> within limit 0 (beginning workflow_type)
-plan_of None command version limit next_run = Err (Refused NoWorkflow)
-plan_of (Some s) command version limit next_run = plan_below s command version limit next_run
+plan_of state (Start workflow_type) version limit next_run = start_of state workflow_type limit
+plan_of state command version limit next_run = plan_in_run state command version limit next_run

@@ -3,9 +3,11 @@
 
 mod command;
 mod judge;
+mod planning;
 mod refusal;
 mod stage;
 mod tip;
 
 pub use command::{Action, Actions, Command};
+pub use planning::plan;
 pub use refusal::{CommandError, Refusal};
