@@ -12,7 +12,7 @@ use Rattle.ndc_command.specs.declared.refusal.CommandError.{CommandError}
 use Rattle.ndc_command.specs.declared.refusal.CommandError.TheVariants.{Memory}
 use Rattle.ndc_command.specs.declared.refusal.Refusal.{Refusal}
 use Rattle.ndc_command.specs.declared.refusal.Refusal.TheVariants.{Closed, NoDecision, DecisionNotStarted, DuplicateTimer}
-use Rattle.ndc_command.specs.Actions.{Names, names_of, action_kind, action_refusal, judged, behind, after_kind, actions_written}
+use Rattle.ndc_command.specs.Actions.{names_of, action_kind, action_refusal, judged, behind, after_kind, actions_written}
 use Rattle.ndc_command.specs.Judge.{noted, actions_by}
 use Rattle.ndc_command.specs.Plan.{judged_at, written}
 use Rattle.ndc_command.specs.Seen.{are_apart}
@@ -22,7 +22,7 @@ use Rattle.ndc_command.specs.declared.stage.Stage.{Stage}
 use Rattle.ndc_command.specs.declared.command.Command.TheVariants.{Respond}
 use Rattle.ndc_command.proofs.JudgeLemmas.{behind-behind}
 use Rattle.ndc_command.proofs.NameLemmas.{pending-put, pending-without, apart-put, apart-without}
-use Rattle.ndc_command.proofs.TipLemmas.{IsJudgedLike, judged-like}
+use Rattle.ndc_command.proofs.TipLemmas.{judged-like}
 
 -- what is pending behind an action's event is what the action makes of what was pending
 names-after : (version : ℕ) (next_run : RunId) (s : StateValue) (action : Action) → are_apart s.timers ≡ true
@@ -92,11 +92,11 @@ response_joined version version' next_run s actions apart =
     let like = judged-like s version' in
     let t : StateValue = judged_at s version' in
     let same : names_of t ≡ names_of s = λ i. record {
-        running = like.running i;
-        activity = λ q. is_some (pending_of q (like.activities i));
-        timer = λ q. is_some (pending_of q (like.timers i));
-        child = λ q. is_some (pending_of q (like.children i));
-      } in
+      running = like.running i;
+      activity = λ q. is_some (pending_of q (like.activities i));
+      timer = λ q. is_some (pending_of q (like.timers i));
+      child = λ q. is_some (pending_of q (like.children i));
+    } in
     actions-joined version next_run (after_kind version t DecisionTaskCompleted) actions (ap are_apart like.timers ∙ apart)
     ∙ ap (λ names. actions_by next_run names actions) same
 

@@ -3,3 +3,6 @@ pub mod JudgeLemmas
 pub mod NameLemmas
 pub mod SeenLemmas
 pub mod JoinLemmas
+pub mod AllowedLemmas
+pub mod WrittenLemmas
+pub mod LawProofs

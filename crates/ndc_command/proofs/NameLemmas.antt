@@ -1,5 +1,5 @@
 -- Names that are pending, when one is put last or taken out.
-use Rattle.std.proofs.Common.{◌≡◌, ℕ, Bool, true, false, ◌&&◌, cond, not, is_some, is_none, List, [], ◌∷◌, ◌++◌, Option, None, Some, if◌then◌else◌, refl, ap, sym, ◌∙◌, true≢false}
+use Rattle.std.proofs.Common.{◌≡◌, Bool, true, false, cond, is_some, is_none, List, [], ◌∷◌, ◌++◌, Option, None, Some, if◌then◌else◌, refl, ap, sym, ◌∙◌, true≢false}
 use Rattle.std.proofs.lemmas.Cmp.{nat_list_eq_equiv}
 use Rattle.std.proofs.lemmas.Slice.Eq.{bytes_eq-Decides}
 use Rattle.ndc_event.proofs.Tests.{both, together}
@@ -93,6 +93,6 @@ apart-without name (e ∷ es) h = by (same_name name e.0) refl (apart-without na
     by false s rest =
         together _ _
         (is_some-none _ (pending-without e.0 name es (both (is_none (pending_of e.0 es)) (are_apart es) h).1
-            ∙ ap (λ b. if b then false else is_some (pending_of e.0 es)) s
-            ∙ is_none-some (pending_of e.0 es) (both (is_none (pending_of e.0 es)) (are_apart es) h).0))
+        ∙ ap (λ b. if b then false else is_some (pending_of e.0 es)) s
+        ∙ is_none-some (pending_of e.0 es) (both (is_none (pending_of e.0 es)) (are_apart es) h).0))
         rest

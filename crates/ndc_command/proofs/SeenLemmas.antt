@@ -1,5 +1,5 @@
 -- What is known of a state that has seen events.
-use Rattle.std.proofs.Common.{◌≡◌, ℕ, Bool, true, false, not, is_some, is_none, List, [], ◌∷◌, Option, None, Some, Ok, refl, ap, sym, ◌∙◌}
+use Rattle.std.proofs.Common.{◌≡◌, ℕ, Bool, true, false, is_some, is_none, List, [], ◌∷◌, Option, None, Some, Ok, refl}
 use Rattle.ndc_event.specs.declared.batch.Event.{Event}
 use Rattle.ndc_event.specs.declared.kind.EventKind.{EventKind}
 use Rattle.ndc_event.specs.declared.kind.EventKind.TheVariants.{TimerStarted, TimerFired, TimerCanceled}

@@ -1,5 +1,5 @@
 -- The state at which a command is judged, against that of the tip.
-use Rattle.std.proofs.Common.{◌≡◌, ℕ, Bool, true, false, nat_lt, is_some, List, [], ◌∷◌, ◌++◌, append_assoc, Option, None, Some, codes, if◌then◌else◌, refl, ap, sym, ◌∙◌}
+use Rattle.std.proofs.Common.{◌≡◌, ◌≤◌, ℕ, Bool, true, false, nat_lt, is_some, List, [], ◌∷◌, ◌++◌, append_assoc, Option, None, Some, codes, if◌then◌else◌, refl, ap, sym, ◌∙◌, arith}
 use Rattle.ndc_event.proofs.Tests.{both}
 use Rattle.ndc_event.specs.declared.kind.EventKind.{EventKind}
 use Rattle.ndc_event.specs.declared.kind.EventKind.TheVariants.{DecisionTaskScheduled, DecisionTaskFailed}
@@ -16,6 +16,7 @@ use Rattle.ndc_command.specs.Stage.{stage_of}
 -- the failover close touches nothing but the decision, the next id and the version
 pub record IsJudgedLike (s t : StateValue) (due : Bool) : Type 0 where
   pub run : t.run ≡ s.run
+  pub next : s.next ≤ t.next
   pub running : t.running ≡ s.running
   pub activities : t.activities ≡ s.activities
   pub timers : t.timers ≡ s.timers
@@ -41,6 +42,7 @@ judged-like s version = by (is_failover_close_due s version) refl
         let pending : is_some s.decision ≡ true = started-pending s.decision (both (nat_lt s.version version) (is_started s.decision) e).1 in
         record {
           run = refl;
+          next = omega arith;
           running = refl;
           activities = refl;
           timers = refl;
@@ -49,7 +51,7 @@ judged-like s version = by (is_failover_close_due s version) refl
           decision = refl;
           wake = sym (ap (λ b. if b then [] else DecisionTaskScheduled ∷ []) pending);
         }
-    by false e = record { run = refl; running = refl; activities = refl; timers = refl; children = refl; origins = refl; decision = refl; wake = refl }
+    by false e = record { run = refl; next = omega arith; running = refl; activities = refl; timers = refl; children = refl; origins = refl; decision = refl; wake = refl }
 
 pub decision_stage : (s : StateValue) (version : ℕ) → stage_of (judged_at s version).decision ≡ (if is_failover_close_due s version then Waiting else stage_of s.decision)
 decision_stage s version = (judged-like s version).decision

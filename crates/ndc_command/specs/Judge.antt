@@ -1,5 +1,5 @@
 -- What is pending while the actions of a response are judged in turn: what was before them, and what they have changed since.
-use Rattle.std.specs.Prelude.{ℕ, Bool, true, false, is_some, unwrap_or, List, [], ◌∷◌, Result, Ok, if◌then◌else◌}
+use Rattle.std.specs.Prelude.{Bool, true, false, is_some, unwrap_or, List, [], ◌∷◌, Result, Ok, if◌then◌else◌}
 use Rattle.std.specs.HashMap.{HashMap, get}
 use Rattle.ndc_event.specs.declared.key.RunId.{RunId}
 use Rattle.ndc_event.specs.declared.kind.EventKind.{EventKind}

@@ -4,3 +4,4 @@ pub mod Plan
 pub mod Tip
 pub mod Judge
 pub mod Seen
+pub mod Laws

@@ -1,5 +1,5 @@
 -- What a command needs of the thing that it speaks of, and the refusals where it is not so.
-use Rattle.std.specs.Prelude.{ℕ, Bool, true, false, Option, None, Some, Result, Ok, Err, if◌then◌else◌}
+use Rattle.std.specs.Prelude.{ℕ, Bool, true, false, Option, None, Some, Result, Ok, Err}
 use Rattle.ndc_command.specs.declared.refusal.CommandError.{CommandError}
 use Rattle.ndc_command.specs.declared.refusal.CommandError.TheVariants.{Refused}
 use Rattle.ndc_command.specs.declared.refusal.Refusal.{Refusal}

@@ -1,5 +1,5 @@
 -- The tip below which a command writes, as the code holds it.
-use Rattle.std.specs.Prelude.{ℕ, Bool, ◌&&◌, not, List, Result}
+use Rattle.std.specs.Prelude.{List, Result}
 use Rattle.ndc_event.specs.declared.kind.EventKind.{EventKind}
 use Rattle.ndc_event.specs.Outcome.{Gives}
 use Rattle.ndc_state.specs.Value.{StateValue}

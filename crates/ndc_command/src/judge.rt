@@ -65,8 +65,12 @@ fn kind_of(action: &Action, next_run: RunId) -> Result<EventKind, AllocError>
             activity_id: id.try_copy()?,
             activity_type: activity_type.try_copy()?,
         },
-        Action::Timer { id } => EventKind::TimerStarted { timer_id: id.try_copy()? },
-        Action::Untimer { id } => EventKind::TimerCanceled { timer_id: id.try_copy()? },
+        Action::Timer { id } => EventKind::TimerStarted {
+            timer_id: id.try_copy()?,
+        },
+        Action::Untimer { id } => EventKind::TimerCanceled {
+            timer_id: id.try_copy()?,
+        },
         Action::Child { id, workflow_type } => EventKind::StartChildWorkflowExecutionInitiated {
             workflow_id: id.try_copy()?,
             workflow_type: workflow_type.try_copy()?,

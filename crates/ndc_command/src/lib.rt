@@ -3,6 +3,7 @@
 
 mod command;
 mod judge;
+pub mod laws;
 mod planning;
 mod refusal;
 mod stage;

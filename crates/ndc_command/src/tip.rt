@@ -20,7 +20,10 @@ pub(crate) struct Tip<'a> {
 }
 
 /// Appends what a run begins with.
-pub(crate) fn push_beginning(workflow_type: &Name, kinds: &mut Vec<EventKind>) -> Result<(), AllocError>
+pub(crate) fn push_beginning(
+    workflow_type: &Name,
+    kinds: &mut Vec<EventKind>,
+) -> Result<(), AllocError>
     ensures { OnOk result (kinds.new.items ≡ kinds.old.items ++ beginning workflow_type.now) }
 {
     let kind = EventKind::WorkflowExecutionStarted {
@@ -86,7 +89,11 @@ impl<'a> Tip<'a> {
 
     /// What a start writes.
     #[tactic(auto, unfolding(crate::specs::Plan::written))]
-    fn push_start(&self, workflow_type: &Name, kinds: &mut Vec<EventKind>) -> Result<(), CommandError>
+    fn push_start(
+        &self,
+        workflow_type: &Name,
+        kinds: &mut Vec<EventKind>,
+    ) -> Result<(), CommandError>
         ensures { Adds self.now (Start workflow_type.now) kinds.old.items kinds.new.items result }
     {
         push_beginning(workflow_type, kinds)?;
@@ -95,7 +102,12 @@ impl<'a> Tip<'a> {
 
     /// What a signal writes.
     #[tactic(auto, unfolding(crate::specs::Plan::written, ndc_state::specs::Table::row))]
-    fn push_signal(&self, name: &Name, input: &Name, kinds: &mut Vec<EventKind>) -> Result<(), CommandError>
+    fn push_signal(
+        &self,
+        name: &Name,
+        input: &Name,
+        kinds: &mut Vec<EventKind>,
+    ) -> Result<(), CommandError>
         ensures { Adds self.now (Signal name.now input.now) kinds.old.items kinds.new.items result }
     {
         let kind = EventKind::WorkflowExecutionSignaled {
@@ -133,28 +145,48 @@ impl<'a> Tip<'a> {
     fn push_decide(&self, kinds: &mut Vec<EventKind>) -> Result<(), CommandError>
         ensures { Adds self.now Decide kinds.old.items kinds.new.items result }
     {
-        needs_waiting(self.decision(), Refusal::NoDecision, Refusal::DecisionStarted)?;
+        needs_waiting(
+            self.decision(),
+            Refusal::NoDecision,
+            Refusal::DecisionStarted,
+        )?;
         kinds.push(EventKind::DecisionTaskStarted)?;
         Ok(())
     }
 
     /// What completing the decision with these actions writes.
     #[tactic(auto, unfolding(crate::specs::Plan::written))]
-    fn push_respond(&self, actions: &Actions, kinds: &mut Vec<EventKind>) -> Result<(), CommandError>
+    fn push_respond(
+        &self,
+        actions: &Actions,
+        kinds: &mut Vec<EventKind>,
+    ) -> Result<(), CommandError>
         requires { IsTrue (are_apart self.now.state.now.timers) }
         ensures { Adds self.now (Respond actions.now) kinds.old.items kinds.new.items result }
     {
-        needs_started(self.decision(), Refusal::NoDecision, Refusal::DecisionNotStarted)?;
+        needs_started(
+            self.decision(),
+            Refusal::NoDecision,
+            Refusal::DecisionNotStarted,
+        )?;
         kinds.push(EventKind::DecisionTaskCompleted)?;
         push_actions(self.state, actions.as_slice(), self.next_run, kinds)
     }
 
     /// What failing the decision writes.
     #[tactic(auto, unfolding(crate::specs::Plan::written, ndc_state::specs::Table::row))]
-    fn push_fail_decision(&self, cause: &Name, kinds: &mut Vec<EventKind>) -> Result<(), CommandError>
+    fn push_fail_decision(
+        &self,
+        cause: &Name,
+        kinds: &mut Vec<EventKind>,
+    ) -> Result<(), CommandError>
         ensures { Adds self.now (FailDecision cause.now) kinds.old.items kinds.new.items result }
     {
-        needs_started(self.decision(), Refusal::NoDecision, Refusal::DecisionNotStarted)?;
+        needs_started(
+            self.decision(),
+            Refusal::NoDecision,
+            Refusal::DecisionNotStarted,
+        )?;
         let kind = EventKind::DecisionTaskFailed {
             cause: cause.try_copy()?,
         };
@@ -168,7 +200,11 @@ impl<'a> Tip<'a> {
     fn push_timeout_decision(&self, kinds: &mut Vec<EventKind>) -> Result<(), CommandError>
         ensures { Adds self.now TimeoutDecision kinds.old.items kinds.new.items result }
     {
-        needs_started(self.decision(), Refusal::NoDecision, Refusal::DecisionNotStarted)?;
+        needs_started(
+            self.decision(),
+            Refusal::NoDecision,
+            Refusal::DecisionNotStarted,
+        )?;
         kinds.push(EventKind::DecisionTaskTimedOut)?;
         kinds.push(EventKind::DecisionTaskScheduled)?;
         Ok(())
@@ -179,7 +215,11 @@ impl<'a> Tip<'a> {
     fn push_activity_start(&self, id: &Name, kinds: &mut Vec<EventKind>) -> Result<(), CommandError>
         ensures { Adds self.now (ActivityStart id.now) kinds.old.items kinds.new.items result }
     {
-        needs_waiting(self.activity(id), Refusal::NoSuchActivity, Refusal::ActivityStarted)?;
+        needs_waiting(
+            self.activity(id),
+            Refusal::NoSuchActivity,
+            Refusal::ActivityStarted,
+        )?;
         let kind = EventKind::ActivityTaskStarted {
             activity_id: id.try_copy()?,
         };
@@ -189,10 +229,19 @@ impl<'a> Tip<'a> {
 
     /// What completing an activity writes.
     #[tactic(auto, unfolding(crate::specs::Plan::written, ndc_state::specs::Table::row))]
-    fn push_activity_done(&self, id: &Name, outcome: &Name, kinds: &mut Vec<EventKind>) -> Result<(), CommandError>
+    fn push_activity_done(
+        &self,
+        id: &Name,
+        outcome: &Name,
+        kinds: &mut Vec<EventKind>,
+    ) -> Result<(), CommandError>
         ensures { Adds self.now (ActivityDone id.now outcome.now) kinds.old.items kinds.new.items result }
     {
-        needs_started(self.activity(id), Refusal::NoSuchActivity, Refusal::ActivityNotStarted)?;
+        needs_started(
+            self.activity(id),
+            Refusal::NoSuchActivity,
+            Refusal::ActivityNotStarted,
+        )?;
         let kind = EventKind::ActivityTaskCompleted {
             activity_id: id.try_copy()?,
             result: outcome.try_copy()?,
@@ -203,10 +252,19 @@ impl<'a> Tip<'a> {
 
     /// What failing an activity writes.
     #[tactic(auto, unfolding(crate::specs::Plan::written, ndc_state::specs::Table::row))]
-    fn push_activity_fail(&self, id: &Name, reason: &Name, kinds: &mut Vec<EventKind>) -> Result<(), CommandError>
+    fn push_activity_fail(
+        &self,
+        id: &Name,
+        reason: &Name,
+        kinds: &mut Vec<EventKind>,
+    ) -> Result<(), CommandError>
         ensures { Adds self.now (ActivityFail id.now reason.now) kinds.old.items kinds.new.items result }
     {
-        needs_started(self.activity(id), Refusal::NoSuchActivity, Refusal::ActivityNotStarted)?;
+        needs_started(
+            self.activity(id),
+            Refusal::NoSuchActivity,
+            Refusal::ActivityNotStarted,
+        )?;
         let kind = EventKind::ActivityTaskFailed {
             activity_id: id.try_copy()?,
             reason: reason.try_copy()?,
@@ -217,7 +275,11 @@ impl<'a> Tip<'a> {
 
     /// What timing an activity out writes.
     #[tactic(auto, unfolding(crate::specs::Plan::written, ndc_state::specs::Table::row))]
-    fn push_activity_timeout(&self, id: &Name, kinds: &mut Vec<EventKind>) -> Result<(), CommandError>
+    fn push_activity_timeout(
+        &self,
+        id: &Name,
+        kinds: &mut Vec<EventKind>,
+    ) -> Result<(), CommandError>
         ensures { Adds self.now (ActivityTimeout id.now) kinds.old.items kinds.new.items result }
     {
         needs_pending(self.activity(id), Refusal::NoSuchActivity)?;
@@ -256,10 +318,19 @@ impl<'a> Tip<'a> {
 
     /// What the completion of a child writes.
     #[tactic(auto, unfolding(crate::specs::Plan::written, ndc_state::specs::Table::row))]
-    fn push_child_done(&self, id: &Name, outcome: &Name, kinds: &mut Vec<EventKind>) -> Result<(), CommandError>
+    fn push_child_done(
+        &self,
+        id: &Name,
+        outcome: &Name,
+        kinds: &mut Vec<EventKind>,
+    ) -> Result<(), CommandError>
         ensures { Adds self.now (ChildDone id.now outcome.now) kinds.old.items kinds.new.items result }
     {
-        needs_started(self.child(id), Refusal::NoSuchChild, Refusal::ChildNotStarted)?;
+        needs_started(
+            self.child(id),
+            Refusal::NoSuchChild,
+            Refusal::ChildNotStarted,
+        )?;
         let kind = EventKind::ChildWorkflowExecutionCompleted {
             workflow_id: id.try_copy()?,
             result: outcome.try_copy()?,
@@ -270,10 +341,19 @@ impl<'a> Tip<'a> {
 
     /// What the failure of a child writes.
     #[tactic(auto, unfolding(crate::specs::Plan::written, ndc_state::specs::Table::row))]
-    fn push_child_fail(&self, id: &Name, reason: &Name, kinds: &mut Vec<EventKind>) -> Result<(), CommandError>
+    fn push_child_fail(
+        &self,
+        id: &Name,
+        reason: &Name,
+        kinds: &mut Vec<EventKind>,
+    ) -> Result<(), CommandError>
         ensures { Adds self.now (ChildFail id.now reason.now) kinds.old.items kinds.new.items result }
     {
-        needs_started(self.child(id), Refusal::NoSuchChild, Refusal::ChildNotStarted)?;
+        needs_started(
+            self.child(id),
+            Refusal::NoSuchChild,
+            Refusal::ChildNotStarted,
+        )?;
         let kind = EventKind::ChildWorkflowExecutionFailed {
             workflow_id: id.try_copy()?,
             reason: reason.try_copy()?,
@@ -284,7 +364,11 @@ impl<'a> Tip<'a> {
 
     /// What the command writes below the tip, behind the failover close where it is due. Refused with the
     /// first of the command's own refusals that holds.
-    pub(crate) fn push(&self, command: &Command, kinds: &mut Vec<EventKind>) -> Result<(), CommandError>
+    pub(crate) fn push(
+        &self,
+        command: &Command,
+        kinds: &mut Vec<EventKind>,
+    ) -> Result<(), CommandError>
         requires { IsTrue (are_apart self.now.state.now.timers) }
         ensures { Adds self.now command.now kinds.old.items kinds.new.items result }
     {
