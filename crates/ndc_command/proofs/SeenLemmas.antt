@@ -1,5 +1,5 @@
 -- What is known of a state that has seen events.
-use Rattle.std.proofs.Common.{◌≡◌, ℕ, Bool, true, false, is_some, is_none, List, [], ◌∷◌, Option, None, Some, Ok, refl}
+use Rattle.std.proofs.Common.{◌≡◌, ℕ, Bool, true, false, is_some, is_none, List, [], ◌∷◌, Option, None, Some, Ok, refl, subst, ◌<◌, ap, ◌∙◌}
 use Rattle.ndc_event.specs.declared.batch.Event.{Event}
 use Rattle.ndc_event.specs.declared.kind.EventKind.{EventKind}
 use Rattle.ndc_event.specs.declared.kind.EventKind.TheVariants.{TimerStarted, TimerFired, TimerCanceled}
@@ -8,8 +8,9 @@ use Rattle.ndc_state.specs.declared.rule.Rule.TheVariants.{Timer}
 use Rattle.ndc_state.specs.Pendings.{pending_of, scheduled_by}
 use Rattle.ndc_state.specs.Replay.{replay}
 use Rattle.ndc_state.specs.Table.{row, after, needs}
-use Rattle.ndc_state.specs.Value.{StateValue}
-use Rattle.ndc_state.proofs.ReplayLemmas.{replay-cons}
+use Rattle.ndc_event.specs.declared.key.RunId.{RunId}
+use Rattle.ndc_state.specs.Value.{StateValue, new_state}
+use Rattle.ndc_state.proofs.ReplayLemmas.{replay-cons, run-replay}
 use Rattle.ndc_state.proofs.RowLemmas.{IsAllowed-rule_of}
 use Rattle.ndc_command.specs.Seen.{are_apart, HasSeenEvents}
 use Rattle.ndc_command.proofs.NameLemmas.{apart-put, apart-without}
@@ -39,3 +40,9 @@ apart-replay s t (event ∷ events) h apart =
 -- no two timers of a state that has seen events have one name
 pub timers_apart : (s : StateValue) → HasSeenEvents s → are_apart s.timers ≡ true
 timers_apart s (events, (replayed, later)) = apart-replay _ s events replayed refl
+
+-- events that replay are those that the state has seen
+pub seen_events : (run : RunId) (s t : StateValue) (events : List Event) → s ≡ new_state run → replay s events ≡ Ok t → 1 < t.next → HasSeenEvents t
+seen_events run s t events new h later =
+    let from_new : replay (new_state run) events ≡ Ok t = subst (λ z. replay z events ≡ Ok t) new h in
+    (events, (ap (λ r. replay (new_state r) events) (run-replay (new_state run) t events from_new) ∙ from_new, later))

@@ -34,6 +34,7 @@ pub record Names : Type 0 where
   pub timer : Name → Bool
   pub child : Name → Bool
 
+-- what is so at a state
 abbrev pub names_of : StateValue → Names
 names_of s = record {
   running = s.running;

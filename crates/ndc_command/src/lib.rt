@@ -12,3 +12,6 @@ mod tip;
 pub use command::{Action, Actions, Command};
 pub use planning::plan;
 pub use refusal::{CommandError, Refusal};
+
+#[cfg(test)]
+mod tests;

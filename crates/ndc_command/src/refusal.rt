@@ -1,8 +1,8 @@
 use std::alloc::{AllocError, AllocFailed};
 use thiserror::Error;
 
-/// Why a cluster refuses a command, in the order in which the reasons are tested; the names follow the
-/// order too.
+/// Why a cluster refuses a command, or another line that writes, in the order in which the reasons are
+/// tested. The last one is a reset's alone, which tests it before the limit.
 #[derive(Clone, Copy, Debug, PartialEq, Eq)]
 pub enum Refusal {
     /// The cluster has no record of the domain.

@@ -9,8 +9,8 @@ use ndc_event::{EventKind, Name, RunId};
 use ndc_state::State;
 use std::alloc::AllocError;
 
-/// The tip of a run below which a command writes with a version, where the failover close is written already
-/// if it is due. The state is that of the tip, which the failover close has not been applied to.
+/// Where a command writes: below the tip of a run with this state, with this version, and behind the failover
+/// close where that is due. The methods answer for the state that the failover close leaves, without making it.
 #[derive(Clone, Copy)]
 pub(crate) struct Tip<'a> {
     pub(crate) state: &'a State,
