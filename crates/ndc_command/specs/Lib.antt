@@ -1,0 +1,7 @@
+pub mod Stage
+pub mod Actions
+pub mod Plan
+pub mod Tip
+pub mod Judge
+pub mod Seen
+pub mod Laws
