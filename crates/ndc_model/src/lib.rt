@@ -1,0 +1,5 @@
+//! The model of the whole: what each cell of each cluster holds, and what changes it. These are definitions, and
+//! laws above them: a law is what an empty function ensures.
+#![tactic(auto)]
+
+pub mod cell_laws;
