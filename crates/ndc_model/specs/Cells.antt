@@ -1,6 +1,6 @@
 -- Cells: one shard of one cluster, as what has arrived there and what it has written.
-use Rattle.std.specs.Prelude.{Bool, true, false, ◌&&◌, not, List, [], ◌∷◌, Option, Some, if◌then◌else◌}
-use Rattle.std.specs.List.{filter}
+use Rattle.std.specs.Prelude.{◌≡◌, Bool, true, false, ◌&&◌, not, List, [], ◌∷◌, Option, Some, if◌then◌else◌}
+use Rattle.std.specs.List.{AllByRecursion, filter}
 use Rattle.std.specs.Str.{bytes_eq}
 use Rattle.std.specs.declared.cmp.Ordering.{Ordering}
 use Rattle.std.specs.declared.cmp.Ordering.TheVariants.{Less, Equal, Greater}
@@ -11,7 +11,7 @@ use Rattle.ndc_event.specs.declared.key.BatchKey.{BatchKey}
 use Rattle.ndc_event.specs.declared.name.Name.{Name}
 use Rattle.ndc_sets.specs.Learned.{has_key, learned}
 use Rattle.ndc_sets.specs.Paths.{is_wanted}
-use Rattle.ndc_sets.specs.Sets.{earlier}
+use Rattle.ndc_sets.specs.Sets.{earlier, PointsBack}
 
 -- the place of a batch: its workflow, and its key there
 pub record Place : Type 0 where
@@ -80,3 +80,17 @@ wanted_below (b ∷ batches) wanted = wanted_over b (wanted_below batches wanted
 -- the nearest ancestor of a batch that has not arrived, where there is one
 abbrev pub missing_of : Batch → List Batch → Option BatchKey
 missing_of b batches = wanted_below batches (earlier b)
+
+-- all of the batches come after this place
+abbrev pub AreBehind : Place → List Batch → Type 0
+AreBehind place batches = AllByRecursion (λ b. place_lt place (place_of b) ≡ true) batches
+
+-- the batches stand in order of place
+abbrev pub AreInOrder : List Batch → Type 0
+AreInOrder [] = Unit {0}
+AreInOrder (b ∷ batches) = AreBehind (place_of b) batches × AreInOrder batches
+
+-- a cell as it should be: what has arrived stands in order of place, and each batch comes after its earlier key
+pub record IsCell (cell : Cell) : Type 0 where
+  pub ordered : AreInOrder cell.arrived
+  pub back : AllByRecursion PointsBack cell.arrived

@@ -1,8 +1,10 @@
 // Cells, as laws.
-ghost use Rattle.std.specs.Prelude.{◌≡◌, false, List};
+ghost use Rattle.std.specs.Prelude.{◌≡◌, true, false, List};
 ghost use Rattle.ndc_event.specs.declared.batch.Batch.{Batch as Written};
 ghost use Rattle.ndc_event.specs.declared.name.Name.{Name as Text};
-ghost use Rattle.ndc_model.specs.Cells.{Cell, is_of, arrived_of, learned_of};
+ghost use Rattle.ndc_sets.specs.Learned.{IsPart};
+ghost use Rattle.ndc_sets.specs.Sets.{PointsBack, IsSet, arrived};
+ghost use Rattle.ndc_model.specs.Cells.{Cell, IsCell, is_of, arrived_of, learned_of};
 ghost use Rattle.ndc_model.specs.Writing.{with_written};
 
 /// What is written to one workflow leaves what has arrived and what is learned of all others as it was.
@@ -12,4 +14,21 @@ pub fn writing_leaves_other_workflows()
         → arrived_of domain workflow (with_written b cell) ≡ arrived_of domain workflow cell }
     ensures learned { (domain workflow : Text) (b : Written) (cell : Cell) → is_of domain workflow b ≡ false
         → learned_of domain workflow (with_written b cell) ≡ learned_of domain workflow cell }
+{}
+
+/// What has arrived of a workflow is a set, and a batch that is written to it arrives in this set. The cell stays
+/// in order.
+#[tactic(auto, using(crate::proofs::PlaceLemmas::set_of_workflow, crate::proofs::PlaceLemmas::own_arrived, crate::proofs::PlaceLemmas::writing_keeps))]
+pub fn writing_is_arrival_in_the_workflow()
+    ensures set { (domain workflow : Text) (cell : Cell) → IsCell cell → IsSet (arrived_of domain workflow cell) }
+    ensures arrives { (domain workflow : Text) (b : Written) (cell : Cell) → IsCell cell → is_of domain workflow b ≡ true
+        → arrived_of domain workflow (with_written b cell) ≡ arrived b (arrived_of domain workflow cell) }
+    ensures order { (b : Written) (cell : Cell) → IsCell cell → PointsBack b → IsCell (with_written b cell) }
+{}
+
+/// What a cell has learned of a workflow only grows.
+#[tactic(auto, using(crate::proofs::PlaceLemmas::writing_only_adds))]
+pub fn writing_only_adds_learned_batches()
+    ensures { (domain workflow : Text) (b : Written) (cell : Cell) → IsCell cell → PointsBack b → is_of domain workflow b ≡ true
+        → IsPart (learned_of domain workflow cell) (learned_of domain workflow (with_written b cell)) }
 {}
