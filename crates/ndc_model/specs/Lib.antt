@@ -1,3 +1,4 @@
 pub mod Cells
 pub mod Arrival
 pub mod Writing
+pub mod Queues

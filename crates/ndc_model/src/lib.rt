@@ -3,3 +3,4 @@
 #![tactic(auto)]
 
 pub mod cell_laws;
+pub mod level_laws;
