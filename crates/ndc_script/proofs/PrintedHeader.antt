@@ -15,7 +15,7 @@ use Rattle.ndc_script.specs.Text.{KeptLine}
 use Rattle.ndc_script.specs.Number.{number_of}
 use Rattle.ndc_script.specs.Header.{Setting, within, number_read, setting_of, increment_at, cluster_words, member_of, members_of, before_members, behind_members, is_cluster_line, body_lines, clusters_read, header_of, named_initial}
 use Rattle.ndc_script.specs.WellFormed.{IsWellFormedHeader}
-use Rattle.ndc_script.specs.Print.{cluster_line, header_lines}
+use Rattle.ndc_script.specs.Print.{cluster_line_of, header_lines}
 use Rattle.ndc_script.proofs.PrintedNumbers.{number_of-decimal}
 use Rattle.ndc_script.proofs.PrintedLines.{kept_numbered}
 use Rattle.ndc_script.proofs.PrintedWords.{differs, name_parts}
@@ -48,7 +48,7 @@ name_of-name word h =
 abbrev pub IsMember : List ℕ × ℕ → Type 0
 IsMember member = (is_name member.0 ≡ true) × (member.1 < 10 ^ 18)
 
-member-line : (number : ℕ) (member : List ℕ × ℕ) → IsMember member → member_of (record { number = number; reading = Readable; words = cluster_line member }) ≡ Some member
+member-line : (number : ℕ) (member : List ℕ × ℕ) → IsMember member → member_of (record { number = number; reading = Readable; words = cluster_line_of member }) ≡ Some member
 member-line number member h =
     ap (λ (r : Result (List ℕ) _). named_initial r (number_of (decimal member.1))) (name_of-name member.0 h.0)
     ∙ ap (named_initial (Ok member.0)) (number_of-decimal member.1 h.1)
@@ -69,13 +69,13 @@ no_members number [] h = refl
 no_members number (words ∷ lines) h =
     ap (λ (m : Option (List ℕ × ℕ)). before_members m (members_of (kept_numbered (number + 1) lines))) (no_member-line words h.0)
 
-members-lines : (number : ℕ) (members : List (List ℕ × ℕ)) (lines : List (List (List ℕ))) → ByRecursion IsMember members → NoClusterLines lines → members_of (kept_numbered number (map cluster_line members ++ lines)) ≡ members
+members-lines : (number : ℕ) (members : List (List ℕ × ℕ)) (lines : List (List (List ℕ))) → ByRecursion IsMember members → NoClusterLines lines → members_of (kept_numbered number (map cluster_line_of members ++ lines)) ≡ members
 members-lines number [] lines h none = no_members number lines none
 members-lines number (member ∷ members) lines h none =
-    ap (λ (m : Option (List ℕ × ℕ)). before_members m (members_of (kept_numbered (number + 1) (map cluster_line members ++ lines)))) (member-line number member h.0)
+    ap (λ (m : Option (List ℕ × ℕ)). before_members m (members_of (kept_numbered (number + 1) (map cluster_line_of members ++ lines)))) (member-line number member h.0)
     ∙ ap (λ (ms : List (List ℕ × ℕ)). member ∷ ms) (members-lines (number + 1) members lines h.1 none)
 
-behind-lines : (number : ℕ) (members : List (List ℕ × ℕ)) (lines : List (List (List ℕ))) → drop (length members) (kept_numbered number (map cluster_line members ++ lines)) ≡ kept_numbered (number + length members) lines
+behind-lines : (number : ℕ) (members : List (List ℕ × ℕ)) (lines : List (List (List ℕ))) → drop (length members) (kept_numbered number (map cluster_line_of members ++ lines)) ≡ kept_numbered (number + length members) lines
 behind-lines number [] lines = let same : number ≡ number + 0 = omega arith in ap (λ (k : ℕ). kept_numbered k lines) same
 behind-lines number (member ∷ members) lines =
     let same : number + 1 + length members ≡ number + suc (length members) = omega arith in
@@ -94,10 +94,10 @@ members-fit n (member ∷ members) most names below =
     ((p.0, omega (arith, first, most)), members-fit n members most p.1 (λ i l. below (suc i) (omega (arith, l))))
 
 -- the clusters and the body are read again
-clusters-lines : (end : ℕ) (increment : Setting) (header : Header) (number : ℕ) (lines : List (List (List ℕ))) → increment.value ≡ header.clusters.increment → IsWellFormedHeader header → list_all (λ member. is_name member.0) header.clusters.members ≡ true → NoClusterLines lines → clusters_read end increment header.shards header.limit (kept_numbered number (map cluster_line header.clusters.members ++ lines)) ≡ Ok (record { header = header; body = kept_numbered (number + length header.clusters.members) lines })
+clusters-lines : (end : ℕ) (increment : Setting) (header : Header) (number : ℕ) (lines : List (List (List ℕ))) → increment.value ≡ header.clusters.increment → IsWellFormedHeader header → list_all (λ member. is_name member.0) header.clusters.members ≡ true → NoClusterLines lines → clusters_read end increment header.shards header.limit (kept_numbered number (map cluster_line_of header.clusters.members ++ lines)) ≡ Ok (record { header = header; body = kept_numbered (number + length header.clusters.members) lines })
 unfolding clusters_read
 clusters-lines end increment header number lines value sound names none =
-    let all = kept_numbered number (map cluster_line header.clusters.members ++ lines) in
+    let all = kept_numbered number (map cluster_line_of header.clusters.members ++ lines) in
     let fit : ByRecursion IsMember header.clusters.members =
     members-fit header.clusters.increment header.clusters.members sound.clusters.increment_most names sound.clusters.initials_below in
     let members : members_of all ≡ header.clusters.members = members-lines number header.clusters.members lines fit none in
@@ -116,7 +116,7 @@ increment-line line n least most = rw (differs n 0 (λ e. omega (arith, e, least
 pub header_of-lines : (end : ℕ) (header : Header) (lines : List (List (List ℕ))) → IsWellFormedHeader header → list_all (λ member. is_name member.0) header.clusters.members ≡ true → NoClusterLines lines → header_of end (kept_numbered 1 (header_lines header ++ lines)) ≡ Ok (record { header = header; body = kept_numbered (5 + length header.clusters.members) lines })
 unfolding header_of
 header_of-lines end header lines sound names none =
-    let clusters = kept_numbered 5 (map cluster_line header.clusters.members ++ lines) in
+    let clusters = kept_numbered 5 (map cluster_line_of header.clusters.members ++ lines) in
     let limit = record { number = 4; reading = Readable; words = codes "limit" ∷ decimal header.limit ∷ [] } ∷ clusters in
     let shards = record { number = 3; reading = Readable; words = codes "shards" ∷ decimal header.shards ∷ [] } ∷ limit in
     let increment = record { number = 2; reading = Readable; words = codes "increment" ∷ decimal header.clusters.increment ∷ [] } ∷ shards in

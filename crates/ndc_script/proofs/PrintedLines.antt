@@ -1,5 +1,5 @@
 -- Printed lines are kept as they are.
-use Rattle.std.proofs.Common.{◌≡◌, ℕ, ◌+◌, ◌≤◌, Bool, true, false, ◌&&◌, not, List, [], ◌∷◌, length, nat_le, Option, Some, None, if◌then◌else◌, refl, ap, ◌∙◌, arith}
+use Rattle.std.proofs.Common.{◌≡◌, ℕ, ◌+◌, ◌≤◌, Bool, true, false, ◌&&◌, not, List, [], ◌∷◌, length, nat_le, Option, Some, None, if◌then◌else◌, append_assoc, refl, ap, ◌∙◌, arith}
 use Rattle.std.specs.List.{list_all, cons_option}
 use Rattle.std.proofs.lemmas.Bool.{le-leb}
 use Rattle.ndc_event.specs.Name.{is_name}
@@ -73,7 +73,8 @@ kept_from-lines number (words ∷ lines) h few =
     let names : AreNames words = line_names words p.0 in
     let within : nat_le number 100000 ≡ true = le-leb number 100000 (omega (arith, few)) in
     let less : number + 1 + length lines ≤ 100001 = omega (arith, few) in
-    ap (kept_from number) (text_lines-line (spaced words) (lines_text lines) (line_bytes-spaced words names))
+    ap (λ (text : List ℕ). kept_from number (text_lines text)) (append_assoc (spaced words) (10 ∷ []) (lines_text lines))
+    ∙ ap (kept_from number) (text_lines-line (spaced words) (lines_text lines) (line_bytes-spaced words names))
     ∙ ap (λ (t : Bool). if t then cons_option (kept_line number (spaced words)) (kept_from (number + 1) (text_lines (lines_text lines))) else past number) within
     ∙ ap (λ (k : Option KeptLine). cons_option k (kept_from (number + 1) (text_lines (lines_text lines)))) (kept_line-spaced number words p.0)
     ∙ ap (λ (ks : List KeptLine). record { number = number; reading = Readable; words = words } ∷ ks) (kept_from-lines (number + 1) lines p.1 less)

@@ -10,8 +10,9 @@ use Rattle.ndc_domain.specs.Members.{AreMembers, has_member, members_of, numbers
 use Rattle.ndc_domain.specs.declared.clusters.ClusterNo.{ClusterNo}
 use Rattle.ndc_domain.proofs.Writers.{not_true, found_by_name}
 use Rattle.ndc_script.specs.declared.script.Header.{Header}
-use Rattle.ndc_script.specs.Body.{known, cluster_or_unknown, all_differ, clusters_named, clusters_below, clusters_for, members_named}
-use Rattle.ndc_script.specs.Print.{member_words}
+use Rattle.ndc_script.specs.Operands.{known, cluster_or_unknown}
+use Rattle.ndc_script.specs.Register.{all_differ, clusters_named, clusters_below, clusters_for, members_named}
+use Rattle.ndc_script.specs.Print.{member_name, member_words}
 use Rattle.std.proofs.lemmas.Slice.Eq.{bytes_eq-Decides}
 
 -- a cluster's name is that of the cluster again
@@ -56,10 +57,6 @@ distinct_where : (p : ℕ → Bool) → distinct (numbers_where p) ≡ true
 unfolding numbers_where numbers distinct
 distinct_where p = distinct_filtered p numbers refl
 
--- the name of a member
-abbrev member_name : Header → ℕ → List ℕ
-member_name header member = name_of header.clusters (cluster_no member)
-
 number_or_zero : Option ClusterNo → ℕ
 number_or_zero None = 0
 number_or_zero (Some cluster) = cluster.number
@@ -68,7 +65,7 @@ number_is : (m n : ℕ) → Some (cluster_no m) ≡ Some (cluster_no n) → m �
 unfolding number_or_zero
 number_is m n e = ap number_or_zero e
 
-names_differ : (header : Header) → AreClusters header.clusters → (m n : ℕ) → m < count_of header.clusters → n < count_of header.clusters → (m == n) ≡ false → bytes_eq (member_name header m) (member_name header n) ≡ false
+pub names_differ : (header : Header) → AreClusters header.clusters → (m n : ℕ) → m < count_of header.clusters → n < count_of header.clusters → (m == n) ≡ false → bytes_eq (member_name header m) (member_name header n) ≡ false
 names_differ header sound m n below_m below_n other =
     not_true (bytes_eq (member_name header m) (member_name header n)) (λ e.
     let same_name : member_name header m ≡ member_name header n = (bytes_eq-Decides (member_name header m) (member_name header n)).0 e in

@@ -2,6 +2,7 @@
 use Rattle.std.proofs.Common.{◌≡◌, ℕ, ◌≤◌, true, false, ◌&&◌, ◌==◌, not, List, [], ◌∷◌, ◌++◌, length, filter, nat_le, All, refl, ap, ◌∙◌, arith, eqb-true}
 use Rattle.std.specs.List.{list_all, slice_split, onto_first, AllByRecursion as ByRecursion}
 use Rattle.std.proofs.lemmas.Bool.{leb-true, le-leb}
+use Rattle.std.proofs.lemmas.List.{append-nil}
 use Rattle.std.proofs.lemmas.List.Elements.{All-from_recursion}
 use Rattle.std.proofs.lemmas.List.Folds.{list_all-append}
 use Rattle.std.proofs.lemmas.List.Splits.{slice_split_none, slice_split_at}
@@ -41,13 +42,17 @@ not_empty word h = rw (differs (length word) 0 (λ e. omega (arith, e, (name_par
 kept_first : (word : List ℕ) (words : List (List ℕ)) → is_name word ≡ true → filter (λ w. not (length w == 0)) (word ∷ words) ≡ word ∷ filter (λ w. not (length w == 0)) words
 kept_first word words h = rw (not_empty word h) refl
 
+-- one word stands alone
+spaced_one : (word : List ℕ) → spaced (word ∷ []) ≡ word
+spaced_one word = append-nil word
+
 -- the words are found between their spaces
 pub words_of-spaced : (words : List (List ℕ)) → AreNames words → words_of (spaced words) ≡ words
 words_of-spaced [] h = refl
 words_of-spaced (word ∷ []) h =
     let name : is_name word ≡ true = (both (is_name word) (list_all is_name []) h).0 in
     let plain : All (λ b. (b == 32) ≡ false) word = All-from_recursion (λ (b : ℕ). (b == 32) ≡ false) word (no_space word ((name_parts word name).2)) in
-    ap (filter (λ w. not (length w == 0))) (slice_split_none (λ b. b == 32) word plain) ∙ kept_first word [] name
+    ap words_of (spaced_one word) ∙ ap (filter (λ w. not (length w == 0))) (slice_split_none (λ b. b == 32) word plain) ∙ kept_first word [] name
 words_of-spaced (word ∷ next ∷ words) h =
     let p : (is_name word ≡ true) × AreNames (next ∷ words) = both (is_name word) (list_all is_name (next ∷ words)) h in
     let plain : All (λ b. (b == 32) ≡ false) word = All-from_recursion (λ (b : ℕ). (b == 32) ≡ false) word (no_space word ((name_parts word p.0).2)) in
@@ -67,7 +72,8 @@ line_bytes (b ∷ bs) h =
 -- so have words with spaces between them
 pub line_bytes-spaced : (words : List (List ℕ)) → AreNames words → list_all is_line_byte (spaced words) ≡ true
 line_bytes-spaced [] h = refl
-line_bytes-spaced (word ∷ []) h = line_bytes word ((name_parts word ((both (is_name word) (list_all is_name []) h).0)).2)
+line_bytes-spaced (word ∷ []) h =
+    ap (list_all is_line_byte) (spaced_one word) ∙ line_bytes word ((name_parts word ((both (is_name word) (list_all is_name []) h).0)).2)
 line_bytes-spaced (word ∷ next ∷ words) h =
     let p : (is_name word ≡ true) × AreNames (next ∷ words) = both (is_name word) (list_all is_name (next ∷ words)) h in
     list_all-append is_line_byte word (32 ∷ spaced (next ∷ words))

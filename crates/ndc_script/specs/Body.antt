@@ -1,227 +1,151 @@
--- The lines of a script's body, one definition a kind.
-use Rattle.std.specs.Prelude.{ℕ, zero, suc, Bool, true, ◌&&◌, ◌||◌, not, Option, None, Some, List, [], ◌∷◌, ◌++◌, Result, Ok, Err, codes, if◌then◌else◌}
-use Rattle.std.specs.List.{list_any}
+-- The lines of a script's body, bursts, and the script that bytes are.
+use Rattle.std.specs.Prelude.{ℕ, zero, suc, ◌+◌, Bool, false, Option, None, Some, List, [], ◌∷◌, length, Result, Ok, codes, if◌then◌else◌}
 use Rattle.std.specs.Str.{bytes_eq}
 use Rattle.ndc_event.specs.Outcome.{◌>>=◌}
-use Rattle.ndc_event.specs.Name.{name_of}
-use Rattle.ndc_event.specs.declared.name.NameError.{NameError}
-use Rattle.ndc_command.specs.declared.command.Command.{Command}
-use Rattle.ndc_command.specs.declared.command.Command.TheVariants as command
-use Rattle.ndc_domain.specs.Clusters.{find_of, count_of, cluster_no}
-use Rattle.ndc_domain.specs.Members.{members_of}
-use Rattle.ndc_domain.specs.declared.clusters.ClusterNo.{ClusterNo}
 use Rattle.ndc_script.specs.declared.script.Act.{Act}
 use Rattle.ndc_script.specs.declared.script.Act.TheVariants as act
+use Rattle.ndc_script.specs.declared.script.BurstJob.{BurstJob}
 use Rattle.ndc_script.specs.declared.script.Header.{Header}
 use Rattle.ndc_script.specs.declared.script.Line.{Line}
 use Rattle.ndc_script.specs.declared.script.Script.{Script}
-use Rattle.ndc_script.specs.declared.script.ScriptCause.{ScriptCause}
-use Rattle.ndc_script.specs.declared.script.ScriptCause.TheVariants.{BadLine, UnknownName, LineLimit, Unbuilt}
+use Rattle.ndc_script.specs.declared.script.ScriptCause.TheVariants.{BadLine, LineLimit}
 use Rattle.ndc_script.specs.declared.script.ScriptError.{ScriptError}
 use Rattle.ndc_script.specs.declared.text.Reading.{Reading}
 use Rattle.ndc_script.specs.declared.text.Reading.TheVariants.{Readable, Unreadable, PastLimit}
+use Rattle.ndc_script.specs.declared.verb.CommandVerb.{CommandVerb}
+use Rattle.ndc_script.specs.declared.verb.Verb.{Verb}
+use Rattle.ndc_script.specs.declared.verb.Verb.TheVariants as verb
 use Rattle.ndc_script.specs.Text.{KeptLine, kept_of, line_after}
-use Rattle.ndc_script.specs.Number.{number_of}
-use Rattle.ndc_script.specs.Header.{refused, within, HeaderRead, header_of}
+use Rattle.ndc_script.specs.Header.{refused, HeaderRead, header_of}
+use Rattle.ndc_script.specs.Operands.{named, known}
+use Rattle.ndc_script.specs.Commands.{command_of, command_line}
+use Rattle.ndc_script.specs.Register.{register_line}
+use Rattle.ndc_script.specs.Verbs.{verb_of}
+use Rattle.ndc_script.specs.Lines.{cluster_line, pair_line, domain_line, retain_line, target_line, handover_line, levels_line, place_line, pull_line, places_line, settle_line, workflow_line, compare_line, reset_line, beat_line, progress_line}
 
--- the name, or a bad line
-abbrev pub name_or_bad : ℕ → Result (List ℕ) NameError → Result (List ℕ) ScriptError
-name_or_bad line (Ok name) = Ok name
-name_or_bad line (Err error) = refused line BadLine
-
--- the name that a word is
-abbrev pub named : ℕ → List ℕ → Result (List ℕ) ScriptError
-named line word = name_or_bad line (name_of word)
-
--- the number, or a bad line
-abbrev pub number_or_bad : ℕ → Option ℕ → Result ℕ ScriptError
-number_or_bad line (Some number) = Ok number
-number_or_bad line None = refused line BadLine
-
--- the number within bounds that a word is
-abbrev pub numbered : ℕ → ℕ → ℕ → List ℕ → Result ℕ ScriptError
-numbered line low high word = number_or_bad line (within low high (number_of word))
-
--- the cluster, or an unknown name
-abbrev pub cluster_or_unknown : ℕ → Option ClusterNo → Result ClusterNo ScriptError
-cluster_or_unknown line (Some cluster) = Ok cluster
-cluster_or_unknown line None = refused line UnknownName
-
--- the cluster of this name in the header
-unfoldable pub known : Header → ℕ → List ℕ → Result ClusterNo ScriptError
-known header line word = cluster_or_unknown line (find_of header.clusters word)
-
--- `start C D W TYPE`, behind the workflow
-abbrev pub start_of : ℕ → List (List ℕ) → Result Command ScriptError
-start_of line (workflow_type ∷ []) = do
-  workflow_type ← named line workflow_type
-  Ok (command.Start workflow_type)
-start_of line _ = refused line BadLine
-
--- `signal C D W NAME INPUT`, behind the workflow
-abbrev pub signal_of : ℕ → List (List ℕ) → Result Command ScriptError
-signal_of line (name ∷ input ∷ []) = do
-  name ← named line name
-  input ← named line input
-  Ok (command.Signal name input)
-signal_of line _ = refused line BadLine
-
--- the words that begin command lines
-abbrev pub is_command_word : List ℕ → Bool
-is_command_word word = bytes_eq word (codes "start") || bytes_eq word (codes "signal")
-
--- the command of a command line, by its first word and those behind the workflow
-abbrev pub command_of : ℕ → List ℕ → List (List ℕ) → Result Command ScriptError
-command_of line word operands =
-    if bytes_eq word (codes "start") then start_of line operands
-    else signal_of line operands
-
--- a command line: its word, then a cluster, a domain, a workflow and what the command needs
-unfoldable pub command_line : Header → ℕ → List ℕ → List (List ℕ) → Result Act ScriptError
-command_line header line word (cluster ∷ domain ∷ workflow ∷ operands) = do
+-- the job of a command line, behind the workflow
+unfoldable pub job_at : ℕ → CommandVerb → List ℕ → List ℕ → List (List ℕ) → Result BurstJob ScriptError
+job_at line verb domain workflow operands = do
+  command ← command_of line verb operands
   domain ← named line domain
   workflow ← named line workflow
-  command ← command_of line word operands
-  cluster ← known header line cluster
-  Ok (act.Command cluster domain workflow command)
-command_line header line word _ = refused line BadLine
+  Ok (record { number = line; domain = domain; workflow = workflow; command = command })
 
--- `history C D W`
-unfoldable pub history_line : Header → ℕ → List (List ℕ) → Result Act ScriptError
-history_line header line (cluster ∷ domain ∷ workflow ∷ []) = do
-  domain ← named line domain
-  workflow ← named line workflow
-  cluster ← known header line cluster
-  Ok (act.History cluster domain workflow)
-history_line header line _ = refused line BadLine
+-- the job of a command line at the cluster of this name, behind its first word
+unfoldable pub job_line : List ℕ → ℕ → CommandVerb → List (List ℕ) → Result BurstJob ScriptError
+job_line name line verb (cluster ∷ domain ∷ workflow ∷ operands) =
+    if bytes_eq cluster name then job_at line verb domain workflow operands else refused line BadLine
+job_line name line verb _ = refused line BadLine
 
--- no word stands twice
-abbrev pub all_differ : List (List ℕ) → Bool
-all_differ [] = true
-all_differ (word ∷ words) = not (list_any (λ other. bytes_eq other word) words) && all_differ words
+-- the job of a line of a burst, by what its first word begins: command lines alone stand in a burst
+abbrev pub job_by : List ℕ → ℕ → Option Verb → List (List ℕ) → Result BurstJob ScriptError
+job_by name line (Some (verb.Command command)) words = job_line name line command words
+job_by name line _ words = refused line BadLine
 
--- the words, where they differ
-abbrev pub differing : ℕ → List (List ℕ) → Result (List (List ℕ)) ScriptError
-differing line words = if all_differ words then Ok words else refused line BadLine
+-- the job that words are, by the first
+unfoldable pub words_job : List ℕ → ℕ → List (List ℕ) → Result BurstJob ScriptError
+words_job name line [] = refused line BadLine
+words_job name line (word ∷ words) = job_by name line (verb_of word) words
 
--- the clusters of these names
-unfoldable pub clusters_named : Header → ℕ → List (List ℕ) → Result (List ClusterNo) ScriptError
-clusters_named header line [] = Ok []
-clusters_named header line (word ∷ words) = do
-  cluster ← known header line word
-  more ← clusters_named header line words
-  Ok (cluster ∷ more)
+-- the job of a line of a burst, by how it can be read
+abbrev pub job_read : List ℕ → ℕ → Reading → List (List ℕ) → Result BurstJob ScriptError
+job_read name line PastLimit words = refused line LineLimit
+job_read name line Unreadable words = refused line BadLine
+job_read name line Readable words = words_job name line words
 
--- the first clusters, as many as this
-abbrev pub clusters_below : ℕ → List ClusterNo
-clusters_below zero = []
-clusters_below (suc count) = clusters_below count ++ cluster_no count ∷ []
+-- the words are the one word `end`
+abbrev pub are_end : List (List ℕ) → Bool
+are_end (word ∷ []) = bytes_eq word (codes "end")
+are_end _ = false
 
--- the clusters that a line names, all where it names none
-unfoldable pub clusters_for : Header → ℕ → List (List ℕ) → Result (List ClusterNo) ScriptError
-clusters_for header line [] = Ok (clusters_below (count_of header.clusters))
-clusters_for header line (word ∷ words) = clusters_named header line (word ∷ words)
+-- the line ends a burst
+abbrev pub is_end : Reading → List (List ℕ) → Bool
+is_end Readable words = are_end words
+is_end Unreadable words = false
+is_end PastLimit words = false
 
--- the members that a line names
-unfoldable pub members_named : Header → ℕ → List (List ℕ) → Result (List ℕ) ScriptError
-members_named header line words = do
-  clusters ← clusters_for header line words
-  Ok (members_of clusters)
+-- the jobs of a burst at the cluster of this name, up to its line `end`; a text ends at the line behind the last
+unfoldable pub jobs_of : ℕ → List ℕ → List KeptLine → Result (List BurstJob) ScriptError
+jobs_of end name [] = refused end BadLine
+jobs_of end name (line ∷ lines) =
+    if is_end line.reading line.words then Ok []
+    else do
+      job ← job_read name line.number line.reading line.words
+      more ← jobs_of end name lines
+      Ok (job ∷ more)
 
--- a line `register`, by its domain and days, and the words for the clusters
-unfoldable pub register_with : Header → ℕ → List ℕ → ℕ → List ℕ → List ℕ → List (List ℕ) → Result Act ScriptError
-register_with header line domain days at target names = do
-  at ← known header line at
-  target ← known header line target
-  members ← members_named header line names
-  Ok (act.Register at domain target days members)
+-- `burst C`, by its words behind the first and the lines behind it
+unfoldable pub burst_line : Header → ℕ → ℕ → List (List ℕ) → List KeptLine → Result Act ScriptError
+burst_line header end line (name ∷ []) lines = do
+  cluster ← known header line name
+  jobs ← jobs_of end name lines
+  Ok (act.Burst cluster jobs)
+burst_line header end line _ lines = refused line BadLine
 
--- `register C D ACTIVE DAYS CLUSTER ..`, whose words CLUSTER differ
-unfoldable pub register_line : Header → ℕ → List (List ℕ) → Result Act ScriptError
-register_line header line (at ∷ domain ∷ target ∷ days ∷ names) = do
-  domain ← named line domain
-  days ← numbered line 1 1000 days
-  names ← differing line names
-  register_with header line domain days at target names
-register_line header line _ = refused line BadLine
+-- the line that begins with a verb, by its words behind the first and the lines behind it
+unfoldable pub verb_act : Header → ℕ → ℕ → Verb → List (List ℕ) → List KeptLine → Result Act ScriptError
+verb_act header end line (verb.Command command) words lines = command_line header line command words
+verb_act header end line verb.Burst words lines = burst_line header end line words lines
+verb_act header end line verb.Register words lines = register_line header line words
+verb_act header end line verb.Retain words lines = retain_line header line words
+verb_act header end line (verb.Domain domain) words lines = domain_line header line domain words
+verb_act header end line (verb.Target target) words lines = target_line header line target words
+verb_act header end line verb.Handover words lines = handover_line header line words
+verb_act header end line (verb.Pair pair) words lines = pair_line header line pair words
+verb_act header end line verb.Pull words lines = pull_line header line words
+verb_act header end line (verb.Place place) words lines = place_line header line place words
+verb_act header end line (verb.Places places) words lines = places_line header line places words
+verb_act header end line verb.Levels words lines = levels_line header line words
+verb_act header end line (verb.Cluster cluster) words lines = cluster_line header line cluster words
+verb_act header end line verb.Settle words lines = settle_line line words
+verb_act header end line (verb.Workflow workflow) words lines = workflow_line header line workflow words
+verb_act header end line verb.Compare words lines = compare_line header line words
+verb_act header end line verb.Reset words lines = reset_line header line words
+verb_act header end line verb.Beat words lines = beat_line header line words
+verb_act header end line verb.Progress words lines = progress_line header line words
 
--- first words of command lines that are not read yet
-abbrev pub is_unbuilt_command : List ℕ → Bool
-is_unbuilt_command word =
-    bytes_eq word (codes "cancel") || bytes_eq word (codes "terminate") || bytes_eq word (codes "decide") || bytes_eq word (codes "respond")
-    || bytes_eq word (codes "faildecision") || bytes_eq word (codes "timeoutdecision") || bytes_eq word (codes "fire")
+-- the same, where the first word is one of the language
+abbrev pub act_by : Header → ℕ → ℕ → Option Verb → List (List ℕ) → List KeptLine → Result Act ScriptError
+act_by header end line None words lines = refused line BadLine
+act_by header end line (Some verb) words lines = verb_act header end line verb words lines
 
--- first words of command lines on activities and children that are not read yet
-abbrev pub is_unbuilt_report : List ℕ → Bool
-is_unbuilt_report word =
-    bytes_eq word (codes "actstart") || bytes_eq word (codes "actdone") || bytes_eq word (codes "actfail") || bytes_eq word (codes "acttimeout")
-    || bytes_eq word (codes "childstart") || bytes_eq word (codes "childdone") || bytes_eq word (codes "childfail")
-
--- first words of lines on domains that are not read yet
-abbrev pub is_unbuilt_domain : List ℕ → Bool
-is_unbuilt_domain word =
-    bytes_eq word (codes "retain") || bytes_eq word (codes "join") || bytes_eq word (codes "failover") || bytes_eq word (codes "domains")
-    || bytes_eq word (codes "domain") || bytes_eq word (codes "members") || bytes_eq word (codes "handover") || bytes_eq word (codes "complete")
-
--- first words of lines on queues that are not read yet
-abbrev pub is_unbuilt_queue : List ℕ → Bool
-is_unbuilt_queue word =
-    bytes_eq word (codes "pull") || bytes_eq word (codes "lose") || bytes_eq word (codes "repeat") || bytes_eq word (codes "move")
-    || bytes_eq word (codes "rewind") || bytes_eq word (codes "trim") || bytes_eq word (codes "levels") || bytes_eq word (codes "work")
-
--- first words of lines that repair that are not read yet
-abbrev pub is_unbuilt_repair : List ℕ → Bool
-is_unbuilt_repair word =
-    bytes_eq word (codes "gaps") || bytes_eq word (codes "resend") || bytes_eq word (codes "bootstrap") || bytes_eq word (codes "settle")
-    || bytes_eq word (codes "damage") || bytes_eq word (codes "letters") || bytes_eq word (codes "purge") || bytes_eq word (codes "mergeletters")
-
--- first words of the other lines that are not read yet
-abbrev pub is_unbuilt_other : List ℕ → Bool
-is_unbuilt_other word =
-    bytes_eq word (codes "branches") || bytes_eq word (codes "current") || bytes_eq word (codes "state") || bytes_eq word (codes "dump")
-    || bytes_eq word (codes "compare") || bytes_eq word (codes "burst") || bytes_eq word (codes "reset") || bytes_eq word (codes "beat")
-    || bytes_eq word (codes "sync") || bytes_eq word (codes "progress")
-
--- lines that begin so are of the language, and not read yet
-abbrev pub is_unbuilt : List ℕ → Bool
-is_unbuilt word =
-    is_unbuilt_command word || is_unbuilt_report word || is_unbuilt_domain word || is_unbuilt_queue word || is_unbuilt_repair word || is_unbuilt_other word
-
--- the cause at a line that begins with no word of the lines that are read
-abbrev pub unread_cause : List ℕ → ScriptCause
-unread_cause word = if is_unbuilt word then Unbuilt else BadLine
-
--- the line that these words are, by the first
-unfoldable pub words_act : Header → ℕ → List (List ℕ) → Result Act ScriptError
-words_act header line [] = refused line BadLine
-words_act header line (word ∷ words) =
-    if is_command_word word then command_line header line word words
-    else if bytes_eq word (codes "register") then register_line header line words
-    else if bytes_eq word (codes "history") then history_line header line words
-    else refused line (unread_cause word)
+-- the line that these words are, by the first; the lines behind it are those of a burst
+unfoldable pub words_act : Header → ℕ → ℕ → List (List ℕ) → List KeptLine → Result Act ScriptError
+words_act header end line [] lines = refused line BadLine
+words_act header end line (word ∷ words) lines = act_by header end line (verb_of word) words lines
 
 -- what a line asks for, by how it can be read
-abbrev pub act_read : Header → ℕ → Reading → List (List ℕ) → Result Act ScriptError
-act_read header line PastLimit words = refused line LineLimit
-act_read header line Unreadable words = refused line BadLine
-act_read header line Readable words = words_act header line words
+abbrev pub act_read : Header → ℕ → ℕ → Reading → List (List ℕ) → List KeptLine → Result Act ScriptError
+act_read header end line PastLimit words lines = refused line LineLimit
+act_read header end line Unreadable words lines = refused line BadLine
+act_read header end line Readable words lines = words_act header end line words lines
 
--- the lines of the body, or the first faulty one
-unfoldable pub body_of : Header → List KeptLine → Result (List Line) ScriptError
-body_of header [] = Ok []
-body_of header (line ∷ lines) = do
-  act ← act_read header line.number line.reading line.words
-  more ← body_of header lines
+-- how many lines behind the first belong to a line: those of a burst
+abbrev pub lines_within : Act → ℕ
+lines_within (act.Burst cluster jobs) = length jobs + 1
+lines_within _ = 0
+
+-- the lines of the body, behind those that belong to the line before
+unfoldable pub body_behind : Header → ℕ → ℕ → List KeptLine → Result (List Line) ScriptError
+body_behind header end within [] = Ok []
+body_behind header end (suc within) (line ∷ lines) = body_behind header end within lines
+body_behind header end zero (line ∷ lines) = do
+  act ← act_read header end line.number line.reading line.words lines
+  more ← body_behind header end (lines_within act) lines
   Ok (record { number = line.number; act = act } ∷ more)
 
+-- the lines of the body, or the first faulty one
+abbrev pub body_of : Header → ℕ → List KeptLine → Result (List Line) ScriptError
+body_of header end lines = body_behind header end 0 lines
+
 -- the script of a header and its body
-abbrev pub script_in : HeaderRead → Result Script ScriptError
-script_in read = do
-  lines ← body_of read.header read.body
+abbrev pub script_in : ℕ → HeaderRead → Result Script ScriptError
+script_in end read = do
+  lines ← body_of read.header end read.body
   Ok (record { header = read.header; lines = lines })
 
 -- the script that bytes are, or the first faulty line with its cause
 unfoldable pub script_of : List ℕ → Result Script ScriptError
 script_of bytes = do
   read ← header_of (line_after bytes) (kept_of bytes)
-  script_in read
+  script_in (line_after bytes) read

@@ -1,477 +1,298 @@
-ghost use Rattle.std.specs.Prelude.{◌≡◌, ◌≤◌, ◌<◌, map, All, IfOk};
-ghost use Rattle.std.specs.List.{list_any};
-ghost use Rattle.std.specs.Str.{bytes_eq};
+ghost use Rattle.std.specs.Prelude.{◌≡◌, ◌<◌, map, All, IfOk};
 ghost use Rattle.ndc_event.specs.Outcome.{Gives};
-ghost use Rattle.ndc_script.specs.declared.script.ScriptCause.TheVariants.{BadLine};
+ghost use Rattle.ndc_script.specs.declared.script.ScriptCause.TheVariants.{BadLine, LineLimit};
 ghost use Rattle.ndc_script.specs.declared.script.ScriptError.TheVariants.{Refused, Memory};
-ghost use Rattle.ndc_domain.specs.Clusters.{AreClusters, count_of};
-ghost use Rattle.ndc_script.specs.WellFormed.{IsWellFormedAct, AreWellFormedLines};
-ghost use Rattle.ndc_script.specs.Body.{named, numbered, known, all_differ, clusters_named, clusters_below, clusters_for, members_named, register_with, register_line, start_of, signal_of, is_command_word, command_of, command_line, history_line, is_unbuilt_command, is_unbuilt_report, is_unbuilt_domain, is_unbuilt_queue, is_unbuilt_repair, is_unbuilt_other, is_unbuilt, unread_cause, words_act, act_read, body_of};
+ghost use Rattle.ndc_script.specs.Body.{job_at, job_line, job_by, words_job, job_read, are_end, is_end, jobs_of, burst_line, verb_act, act_by, words_act, act_read, lines_within, body_behind, body_of};
+ghost use Rattle.ndc_script.specs.WellFormed.{IsWellFormedHeader, IsWellFormedJob, IsWellFormedAct, AreWellFormedLines};
 
-use crate::header::within;
-use crate::number::number_of;
-use crate::script::{Act, Header, Line, ScriptCause, ScriptError};
+use crate::command::{command_line, command_of};
+use crate::line::{
+    beat_line, cluster_line, compare_line, domain_line, handover_line, levels_line, pair_line,
+    place_line, places_line, progress_line, pull_line, reset_line, retain_line, settle_line,
+    target_line, workflow_line,
+};
+use crate::operand::{bad, known, named};
+use crate::register::register_line;
+use crate::script::{Act, BurstJob, Header, Jobs, Line, ScriptCause, ScriptError};
 use crate::text::{KeptLine, Reading};
-use ndc_command::Command;
-use ndc_domain::{ClusterNo, Members};
-use ndc_event::{Name, NameError};
-use std::alloc::{AllocError, Global};
+use crate::verb::{CommandVerb, Verb, verb_of};
+use std::alloc::Global;
 
-/// The refusal of a line that is none of the language.
-fn bad(line: u64) -> ScriptError
-    ensures { result ≡ Refused line BadLine }
+/// The refusal of a line past the limit.
+fn past_limit(line: u64) -> ScriptError
+    ensures { result ≡ Refused line LineLimit }
 {
     ScriptError::Refused {
         line,
-        cause: ScriptCause::BadLine,
+        cause: ScriptCause::LineLimit,
     }
 }
 
-/// The name that a word is.
-fn named(alloc: Global, line: u64, word: &[u8]) -> Result<Name, ScriptError>
-    ensures { Gives Memory (λ name. name) result (named line word.now) }
-{
-    match Name::new(alloc, word) {
-        Ok(name) => Ok(name),
-        Err(NameError::Memory) => Err(ScriptError::Memory),
-        Err(_) => Err(bad(line)),
-    }
-}
-
-/// The cluster of this name in the header.
-#[tactic(auto, unfolding(crate::specs::Body::known))]
-fn known(header: &Header, line: u64, word: &[u8]) -> Result<ClusterNo, ScriptError>
-    ensures answer { result ≡ known header.now line word.now }
-    ensures below { IfOk result (λ cluster. cluster.number < count_of header.now.clusters) }
-    ensures sound { AreClusters header.now.clusters }
-{
-    let _count = header.clusters.count();
-    match header.clusters.find(word) {
-        Some(cluster) => Ok(cluster),
-        None => Err(ScriptError::Refused {
-            line,
-            cause: ScriptCause::UnknownName,
-        }),
-    }
-}
-
-/// `start C D W TYPE`, behind the workflow.
-fn start_of(alloc: Global, line: u64, operands: &[&[u8]]) -> Result<Command, ScriptError>
-    ensures { Gives Memory (λ command. command) result (start_of line (map (λ word. word.now) operands.now)) }
-{
-    match operands {
-        [workflow_type] => {
-            let workflow_type = named(alloc, line, workflow_type)?;
-            Ok(Command::Start { workflow_type })
-        }
-        _ => Err(bad(line)),
-    }
-}
-
-/// `signal C D W NAME INPUT`, behind the workflow.
-fn signal_of(alloc: Global, line: u64, operands: &[&[u8]]) -> Result<Command, ScriptError>
-    ensures { Gives Memory (λ command. command) result (signal_of line (map (λ word. word.now) operands.now)) }
-{
-    match operands {
-        [name, input] => {
-            let name = named(alloc, line, name)?;
-            let input = named(alloc, line, input)?;
-            Ok(Command::Signal { name, input })
-        }
-        _ => Err(bad(line)),
-    }
-}
-
-/// Whether command lines begin with this word.
-fn is_command_word(word: &[u8]) -> bool
-    ensures { result ≡ is_command_word word.now }
-{
-    word == b"start".as_slice() || word == b"signal".as_slice()
-}
-
-/// The command of a command line, by its first word and those behind the workflow.
-fn command_of(
+/// The job of a command line, behind the workflow.
+#[tactic(auto, unfolding(crate::specs::Body::job_at))]
+fn job_at(
     alloc: Global,
     line: u64,
-    word: &[u8],
+    verb: CommandVerb,
+    domain: &[u8],
+    workflow: &[u8],
     operands: &[&[u8]],
-) -> Result<Command, ScriptError>
-    ensures { Gives Memory (λ command. command) result (command_of line word.now (map (λ word. word.now) operands.now)) }
+) -> Result<BurstJob, ScriptError>
+    ensures answer { Gives Memory (λ job. job) result (job_at line verb domain.now workflow.now (map (λ word. word.now) operands.now)) }
+    ensures well_formed { IfOk result IsWellFormedJob }
 {
-    if word == b"start".as_slice() {
-        start_of(alloc, line, operands)
-    } else {
-        signal_of(alloc, line, operands)
-    }
-}
-
-/// A command line, by its first word and the others.
-#[tactic(auto, unfolding(crate::specs::Body::command_line))]
-fn command_line(
-    alloc: Global,
-    header: &Header,
-    line: u64,
-    word: &[u8],
-    words: &[&[u8]],
-) -> Result<Act, ScriptError>
-    ensures well_formed { IfOk result (IsWellFormedAct header.now) }
-    ensures answer { Gives Memory (λ act. act) result (command_line header.now line word.now (map (λ word. word.now) words.now)) }
-{
-    match words {
-        [cluster, domain, workflow, operands @ ..] => {
-            let domain = named(alloc, line, domain)?;
-            let workflow = named(alloc, line, workflow)?;
-            let command = command_of(alloc, line, word, operands)?;
-            let cluster = known(header, line, cluster)?;
-            Ok(Act::Command {
-                cluster,
-                domain,
-                workflow,
-                command,
-            })
-        }
-        _ => Err(bad(line)),
-    }
-}
-
-/// `history C D W`, behind its first word.
-#[tactic(auto, unfolding(crate::specs::Body::history_line))]
-fn history_line(
-    alloc: Global,
-    header: &Header,
-    line: u64,
-    words: &[&[u8]],
-) -> Result<Act, ScriptError>
-    ensures well_formed { IfOk result (IsWellFormedAct header.now) }
-    ensures answer { Gives Memory (λ act. act) result (history_line header.now line (map (λ word. word.now) words.now)) }
-{
-    match words {
-        [cluster, domain, workflow] => {
-            let domain = named(alloc, line, domain)?;
-            let workflow = named(alloc, line, workflow)?;
-            let cluster = known(header, line, cluster)?;
-            Ok(Act::History {
-                cluster,
-                domain,
-                workflow,
-            })
-        }
-        _ => Err(bad(line)),
-    }
-}
-
-/// A number within bounds.
-fn numbered(line: u64, low: u64, high: u64, word: &[u8]) -> Result<u64, ScriptError>
-    ensures answer { result ≡ numbered line low high word.now }
-    ensures least { IfOk result (λ number. low ≤ number) }
-    ensures most { IfOk result (λ number. number ≤ high) }
-{
-    match within(low, high, number_of(word)) {
-        Some(number) => Ok(number),
-        None => Err(bad(line)),
-    }
-}
-
-/// Whether one of the words is this one.
-fn is_among(word: &[u8], words: &[&[u8]]) -> bool
-    ensures { result ≡ list_any (λ other. bytes_eq other word.now) (map (λ other. other.now) words.now) }
-{
-    for other in words {
-        if *other == word {
-            return true;
-        }
-    }
-    false
-}
-
-/// Whether no word stands twice.
-fn all_differ(words: &[&[u8]]) -> bool
-    ensures { result ≡ all_differ (map (λ word. word.now) words.now) }
-{
-    for at in 0..words.len() {
-        let (_, others) = words.split_at(at + 1);
-        if is_among(words[at], others) {
-            return false;
-        }
-    }
-    true
-}
-
-/// The clusters of these names.
-#[tactic(auto, unfolding(crate::specs::Body::clusters_named))]
-fn clusters_named(
-    alloc: Global,
-    header: &Header,
-    line: u64,
-    words: &[&[u8]],
-) -> Result<Vec<ClusterNo>, ScriptError>
-    ensures answer { Gives Memory (λ clusters. clusters.items) result (clusters_named header.now line (map (λ word. word.now) words.now)) }
-    ensures below { IfOk result (λ clusters. All (λ cluster. cluster.number < count_of header.now.clusters) clusters.items) }
-{
-    let mut clusters = Vec::new(alloc);
-    for word in words {
-        let cluster = known(header, line, word)?;
-        clusters.push(cluster)?;
-    }
-    Ok(clusters)
-}
-
-/// The first clusters, as many as this.
-fn clusters_below(alloc: Global, count: u32) -> Result<Vec<ClusterNo>, AllocError>
-    ensures answer { IfOk result (λ clusters. clusters.items ≡ clusters_below count) }
-    ensures below { IfOk result (λ clusters. All (λ cluster. cluster.number < count) clusters.items) }
-{
-    let mut clusters = Vec::new(alloc);
-    for number in 0..count {
-        clusters.push(ClusterNo { number })?;
-    }
-    Ok(clusters)
-}
-
-/// The clusters that a line names, all where it names none.
-#[tactic(auto, unfolding(crate::specs::Body::clusters_for))]
-fn clusters_for(
-    alloc: Global,
-    header: &Header,
-    line: u64,
-    words: &[&[u8]],
-) -> Result<Vec<ClusterNo>, ScriptError>
-    ensures below { IfOk result (λ clusters. All (λ cluster. cluster.number < count_of header.now.clusters) clusters.items) }
-    ensures answer { Gives Memory (λ clusters. clusters.items) result (clusters_for header.now line (map (λ word. word.now) words.now)) }
-{
-    match words {
-        [] => Ok(clusters_below(alloc, header.clusters.count())?),
-        [_, ..] => clusters_named(alloc, header, line, words),
-    }
-}
-
-/// The members that a line names.
-#[tactic(auto, unfolding(crate::specs::Body::members_named))]
-fn members_named(
-    alloc: Global,
-    header: &Header,
-    line: u64,
-    words: &[&[u8]],
-) -> Result<Members, ScriptError>
-    ensures below { IfOk result (λ members. All (λ member. member < count_of header.now.clusters) members) }
-    ensures answer { Gives Memory (λ members. members) result (members_named header.now line (map (λ word. word.now) words.now)) }
-{
-    let clusters = clusters_for(alloc, header, line, words)?;
-    let _count = header.clusters.count();
-    Ok(Members::of(clusters.as_slice()))
-}
-
-/// A line `register`, by its domain and days, and the words for the clusters.
-#[tactic(auto, unfolding(crate::specs::Body::register_with))]
-fn register_with(
-    alloc: Global,
-    header: &Header,
-    line: u64,
-    domain: Name,
-    days: u32,
-    at: &[u8],
-    target: &[u8],
-    names: &[&[u8]],
-) -> Result<Act, ScriptError>
-    requires least { 1 ≤ days }
-    requires most { days ≤ 1000 }
-    ensures well_formed { IfOk result (IsWellFormedAct header.now) }
-    ensures answer { Gives Memory (λ act. act) result (register_with header.now line domain days at.now target.now (map (λ word. word.now) names.now)) }
-{
-    let at = known(header, line, at)?;
-    let target = known(header, line, target)?;
-    let members = members_named(alloc, header, line, names)?;
-    Ok(Act::Register {
-        at,
+    let command = command_of(alloc, line, verb, operands)?;
+    let domain = named(alloc, line, domain)?;
+    let workflow = named(alloc, line, workflow)?;
+    Ok(BurstJob {
+        number: line,
         domain,
-        target,
-        days,
-        members,
+        workflow,
+        command,
     })
 }
 
-/// `register C D ACTIVE DAYS CLUSTER ..`, behind its first word.
-#[tactic(auto, unfolding(crate::specs::Body::register_line))]
-fn register_line(
+/// The job of a command line at the cluster of this name, behind its first word.
+#[tactic(auto, unfolding(crate::specs::Body::job_line))]
+fn job_line(
     alloc: Global,
-    header: &Header,
+    name: &[u8],
     line: u64,
+    verb: CommandVerb,
     words: &[&[u8]],
-) -> Result<Act, ScriptError>
-    ensures well_formed { IfOk result (IsWellFormedAct header.now) }
-    ensures answer { Gives Memory (λ act. act) result (register_line header.now line (map (λ word. word.now) words.now)) }
+) -> Result<BurstJob, ScriptError>
+    ensures answer { Gives Memory (λ job. job) result (job_line name.now line verb (map (λ word. word.now) words.now)) }
+    ensures well_formed { IfOk result IsWellFormedJob }
 {
     match words {
-        [at, domain, target, days, names @ ..] => {
-            let domain = named(alloc, line, domain)?;
-            let days = numbered(line, 1, 1_000, days)?;
-            if !all_differ(names) {
-                return Err(bad(line));
+        [cluster, domain, workflow, operands @ ..] => {
+            if *cluster == name {
+                job_at(alloc, line, verb, domain, workflow, operands)
+            } else {
+                Err(bad(line))
             }
-            register_with(alloc, header, line, domain, days as u32, at, target, names)
         }
         _ => Err(bad(line)),
     }
 }
 
-/// Whether this word begins a command line that is not read yet.
-fn is_unbuilt_command(word: &[u8]) -> bool
-    ensures { result ≡ is_unbuilt_command word.now }
-{
-    word == b"cancel".as_slice()
-        || word == b"terminate".as_slice()
-        || word == b"decide".as_slice()
-        || word == b"respond".as_slice()
-        || word == b"faildecision".as_slice()
-        || word == b"timeoutdecision".as_slice()
-        || word == b"fire".as_slice()
-}
-
-/// Whether this word begins a command line on an activity or a child that is not read yet.
-fn is_unbuilt_report(word: &[u8]) -> bool
-    ensures { result ≡ is_unbuilt_report word.now }
-{
-    word == b"actstart".as_slice()
-        || word == b"actdone".as_slice()
-        || word == b"actfail".as_slice()
-        || word == b"acttimeout".as_slice()
-        || word == b"childstart".as_slice()
-        || word == b"childdone".as_slice()
-        || word == b"childfail".as_slice()
-}
-
-/// Whether this word begins a line on domains that is not read yet.
-fn is_unbuilt_domain(word: &[u8]) -> bool
-    ensures { result ≡ is_unbuilt_domain word.now }
-{
-    word == b"retain".as_slice()
-        || word == b"join".as_slice()
-        || word == b"failover".as_slice()
-        || word == b"domains".as_slice()
-        || word == b"domain".as_slice()
-        || word == b"members".as_slice()
-        || word == b"handover".as_slice()
-        || word == b"complete".as_slice()
-}
-
-/// Whether this word begins a line on queues that is not read yet.
-fn is_unbuilt_queue(word: &[u8]) -> bool
-    ensures { result ≡ is_unbuilt_queue word.now }
-{
-    word == b"pull".as_slice()
-        || word == b"lose".as_slice()
-        || word == b"repeat".as_slice()
-        || word == b"move".as_slice()
-        || word == b"rewind".as_slice()
-        || word == b"trim".as_slice()
-        || word == b"levels".as_slice()
-        || word == b"work".as_slice()
-}
-
-/// Whether this word begins a line that repairs and that is not read yet.
-fn is_unbuilt_repair(word: &[u8]) -> bool
-    ensures { result ≡ is_unbuilt_repair word.now }
-{
-    word == b"gaps".as_slice()
-        || word == b"resend".as_slice()
-        || word == b"bootstrap".as_slice()
-        || word == b"settle".as_slice()
-        || word == b"damage".as_slice()
-        || word == b"letters".as_slice()
-        || word == b"purge".as_slice()
-        || word == b"mergeletters".as_slice()
-}
-
-/// Whether this word begins another line that is not read yet.
-fn is_unbuilt_other(word: &[u8]) -> bool
-    ensures { result ≡ is_unbuilt_other word.now }
-{
-    word == b"branches".as_slice()
-        || word == b"current".as_slice()
-        || word == b"state".as_slice()
-        || word == b"dump".as_slice()
-        || word == b"compare".as_slice()
-        || word == b"burst".as_slice()
-        || word == b"reset".as_slice()
-        || word == b"beat".as_slice()
-        || word == b"sync".as_slice()
-        || word == b"progress".as_slice()
-}
-
-/// The cause at a line that begins with no word of the lines that are read.
-fn unread_cause(word: &[u8]) -> ScriptCause
-    ensures { result ≡ unread_cause word.now }
-{
-    if is_unbuilt_command(word)
-        || is_unbuilt_report(word)
-        || is_unbuilt_domain(word)
-        || is_unbuilt_queue(word)
-        || is_unbuilt_repair(word)
-        || is_unbuilt_other(word)
-    {
-        ScriptCause::Unbuilt
-    } else {
-        ScriptCause::BadLine
-    }
-}
-
-/// The line that these words are, by the first.
-#[tactic(auto, unfolding(crate::specs::Body::words_act))]
-fn words_act(alloc: Global, header: &Header, line: u64, words: &[&[u8]]) -> Result<Act, ScriptError>
-    ensures well_formed { IfOk result (IsWellFormedAct header.now) }
-    ensures answer { Gives Memory (λ act. act) result (words_act header.now line (map (λ word. word.now) words.now)) }
+/// The job that words are, by the first.
+#[tactic(auto, unfolding(crate::specs::Body::words_job))]
+fn words_job(
+    alloc: Global,
+    name: &[u8],
+    line: u64,
+    words: &[&[u8]],
+) -> Result<BurstJob, ScriptError>
+    ensures answer { Gives Memory (λ job. job) result (words_job name.now line (map (λ word. word.now) words.now)) }
+    ensures well_formed { IfOk result IsWellFormedJob }
 {
     match words {
         [] => Err(bad(line)),
-        [word, words @ ..] => {
-            if is_command_word(word) {
-                command_line(alloc, header, line, word, words)
-            } else if *word == b"register".as_slice() {
-                register_line(alloc, header, line, words)
-            } else if *word == b"history".as_slice() {
-                history_line(alloc, header, line, words)
-            } else {
-                Err(ScriptError::Refused {
-                    line,
-                    cause: unread_cause(word),
-                })
-            }
-        }
+        [word, words @ ..] => match verb_of(word) {
+            Some(Verb::Command(verb)) => job_line(alloc, name, line, verb, words),
+            _ => Err(bad(line)),
+        },
     }
 }
 
-/// What a line asks for.
-fn act_read(alloc: Global, header: &Header, line: &KeptLine<'_>) -> Result<Act, ScriptError>
-    ensures well_formed { IfOk result (IsWellFormedAct header.now) }
-    ensures answer { Gives Memory (λ act. act) result (act_read header.now line.now.number line.now.reading line.now.words) }
+/// The job of a line of a burst.
+fn job_read(alloc: Global, name: &[u8], line: &KeptLine<'_>) -> Result<BurstJob, ScriptError>
+    ensures answer { Gives Memory (λ job. job) result (job_read name.now line.now.number line.now.reading line.now.words) }
+    ensures well_formed { IfOk result IsWellFormedJob }
 {
     match line.reading() {
-        Reading::PastLimit => Err(ScriptError::Refused {
-            line: line.number(),
-            cause: ScriptCause::LineLimit,
-        }),
+        Reading::PastLimit => Err(past_limit(line.number())),
         Reading::Unreadable => Err(bad(line.number())),
-        Reading::Readable => words_act(alloc, header, line.number(), line.words()),
+        Reading::Readable => words_job(alloc, name, line.number(), line.words()),
     }
 }
 
-/// The lines of the body, or the first faulty one.
-#[tactic(auto, unfolding(crate::specs::Body::body_of))]
+/// Whether the words are the one word `end`.
+fn are_end(words: &[&[u8]]) -> bool
+    ensures { result ≡ are_end (map (λ word. word.now) words.now) }
+{
+    match words {
+        [word] => *word == b"end".as_slice(),
+        _ => false,
+    }
+}
+
+/// Whether the line ends a burst.
+fn is_end(line: &KeptLine<'_>) -> bool
+    ensures { result ≡ is_end line.now.reading line.now.words }
+{
+    match line.reading() {
+        Reading::Readable => are_end(line.words()),
+        Reading::Unreadable | Reading::PastLimit => false,
+    }
+}
+
+/// The jobs of a burst at the cluster of this name, up to its line `end`.
+#[tactic(auto, unfolding(crate::specs::Body::jobs_of))]
+fn jobs_of(
+    alloc: Global,
+    end: u64,
+    name: &[u8],
+    lines: &[KeptLine<'_>],
+) -> Result<Vec<BurstJob>, ScriptError>
+    ensures answer { Gives Memory (λ jobs. jobs.items) result (jobs_of end name.now lines.now) }
+    ensures well_formed { IfOk result (λ jobs. All IsWellFormedJob jobs.items) }
+{
+    let mut jobs = Vec::new(alloc);
+    for line in lines {
+        if is_end(line) {
+            return Ok(jobs);
+        }
+        let job = job_read(alloc, name, line)?;
+        jobs.push(job)?;
+    }
+    Err(bad(end))
+}
+
+/// `burst C`, by its words behind the first and the lines behind it.
+#[tactic(auto, unfolding(crate::specs::Body::burst_line))]
+fn burst_line(
+    alloc: Global,
+    header: &Header,
+    end: u64,
+    line: u64,
+    words: &[&[u8]],
+    lines: &[KeptLine<'_>],
+) -> Result<Act, ScriptError>
+    ensures answer { Gives Memory (λ act. act) result (burst_line header.now end line (map (λ word. word.now) words.now) lines.now) }
+    ensures well_formed { IfOk result (IsWellFormedAct header.now) }
+{
+    match words {
+        [name] => {
+            let cluster = known(header, line, name)?;
+            let jobs = jobs_of(alloc, end, name, lines)?;
+            Ok(Act::Burst {
+                cluster,
+                jobs: Jobs::new(jobs),
+            })
+        }
+        _ => Err(bad(line)),
+    }
+}
+
+/// The line that begins with a verb, by its words behind the first and the lines behind it.
+#[tactic(auto, unfolding(crate::specs::Body::verb_act))]
+fn verb_act(
+    alloc: Global,
+    header: &Header,
+    end: u64,
+    line: u64,
+    verb: Verb,
+    words: &[&[u8]],
+    lines: &[KeptLine<'_>],
+) -> Result<Act, ScriptError>
+    requires { IsWellFormedHeader header.now }
+    ensures answer { Gives Memory (λ act. act) result (verb_act header.now end line verb (map (λ word. word.now) words.now) lines.now) }
+    ensures well_formed { IfOk result (IsWellFormedAct header.now) }
+{
+    match verb {
+        Verb::Command(command) => command_line(alloc, header, line, command, words),
+        Verb::Burst => burst_line(alloc, header, end, line, words, lines),
+        Verb::Register => register_line(alloc, header, line, words),
+        Verb::Retain => retain_line(alloc, header, line, words),
+        Verb::Domain(domain) => domain_line(alloc, header, line, domain, words),
+        Verb::Target(target) => target_line(alloc, header, line, target, words),
+        Verb::Handover => handover_line(alloc, header, line, words),
+        Verb::Pair(pair) => pair_line(header, line, pair, words),
+        Verb::Pull => pull_line(header, line, words),
+        Verb::Place(place) => place_line(header, line, place, words),
+        Verb::Places(places) => places_line(header, line, places, words),
+        Verb::Levels => levels_line(header, line, words),
+        Verb::Cluster(cluster) => cluster_line(header, line, cluster, words),
+        Verb::Settle => settle_line(line, words),
+        Verb::Workflow(workflow) => workflow_line(alloc, header, line, workflow, words),
+        Verb::Compare => compare_line(alloc, header, line, words),
+        Verb::Reset => reset_line(alloc, header, line, words),
+        Verb::Beat => beat_line(alloc, header, line, words),
+        Verb::Progress => progress_line(alloc, header, line, words),
+    }
+}
+
+/// The line that these words are, by the first; the lines behind it are those of a burst.
+#[tactic(auto, unfolding(crate::specs::Body::words_act))]
+fn words_act(
+    alloc: Global,
+    header: &Header,
+    end: u64,
+    line: u64,
+    words: &[&[u8]],
+    lines: &[KeptLine<'_>],
+) -> Result<Act, ScriptError>
+    requires { IsWellFormedHeader header.now }
+    ensures answer { Gives Memory (λ act. act) result (words_act header.now end line (map (λ word. word.now) words.now) lines.now) }
+    ensures well_formed { IfOk result (IsWellFormedAct header.now) }
+{
+    match words {
+        [] => Err(bad(line)),
+        [word, words @ ..] => match verb_of(word) {
+            Some(verb) => verb_act(alloc, header, end, line, verb, words, lines),
+            None => Err(bad(line)),
+        },
+    }
+}
+
+/// What a line asks for, with the lines behind it.
+fn act_read(
+    alloc: Global,
+    header: &Header,
+    end: u64,
+    line: &KeptLine<'_>,
+    lines: &[KeptLine<'_>],
+) -> Result<Act, ScriptError>
+    requires { IsWellFormedHeader header.now }
+    ensures answer { Gives Memory (λ act. act) result (act_read header.now end line.now.number line.now.reading line.now.words lines.now) }
+    ensures well_formed { IfOk result (IsWellFormedAct header.now) }
+{
+    match line.reading() {
+        Reading::PastLimit => Err(past_limit(line.number())),
+        Reading::Unreadable => Err(bad(line.number())),
+        Reading::Readable => words_act(alloc, header, end, line.number(), line.words(), lines),
+    }
+}
+
+/// How many lines behind the first belong to a line.
+fn lines_within(act: &Act) -> usize
+    ensures { result ≡ lines_within act.now }
+{
+    match act {
+        Act::Burst { jobs, .. } => jobs.as_slice().len() + 1,
+        _ => 0,
+    }
+}
+
+/// The lines of the body, or the first faulty one. The line behind the last has the number `end`.
+#[tactic(auto, unfolding(crate::specs::Body::body_behind))]
 pub fn body_of(
     alloc: Global,
     header: &Header,
+    end: u64,
     lines: &[KeptLine<'_>],
 ) -> Result<Vec<Line>, ScriptError>
+    requires { IsWellFormedHeader header.now }
+    ensures answer { Gives Memory (λ body. body.items) result (body_of header.now end lines.now) }
     ensures well_formed { IfOk result (λ body. AreWellFormedLines header.now body.items) }
-    ensures answer { Gives Memory (λ body. body.items) result (body_of header.now lines.now) }
 {
     let mut body = Vec::new(alloc);
-    for line in lines {
-        let act = act_read(alloc, header, line)?;
-        body.push(Line {
-            number: line.number(),
-            act,
-        })?;
+    let mut within: usize = 0;
+    for place in 0..lines.len() {
+        if within > 0 {
+            within -= 1;
+        } else {
+            let (_, behind) = lines.split_at(place + 1);
+            let line = &lines[place];
+            let act = act_read(alloc, header, end, line, behind)?;
+            within = lines_within(&act);
+            body.push(Line {
+                number: line.number(),
+                act,
+            })?;
+        }
     }
     Ok(body)
 }

@@ -2,12 +2,21 @@
 #![tactic(auto)]
 
 mod body;
+mod command;
+mod generating;
 mod header;
 pub mod laws;
+mod line;
 mod number;
+mod operand;
 mod parsing;
+mod printing;
+mod register;
 mod script;
 mod text;
+mod verb;
 
+pub use generating::generate;
 pub use parsing::parse;
-pub use script::{Act, Header, Line, Lines, Script, ScriptCause, ScriptError};
+pub use printing::print;
+pub use script::{Act, BurstJob, Header, Jobs, Line, Lines, Script, ScriptCause, ScriptError};

@@ -15,7 +15,57 @@ pub struct Header {
     pub limit: u64,
 }
 
-/// What a line of a script asks for.
+/// One command of a burst, with the number of its line in the text, from 1.
+#[derive(Debug, Drop)]
+pub struct BurstJob {
+    pub number: u64,
+    pub domain: Name,
+    pub workflow: Name,
+    pub command: Command,
+}
+
+/// A list of jobs, in order.
+#[derive(Debug, Drop)]
+pub struct Jobs {
+    items: Vec<BurstJob>,
+}
+
+impl Model for Jobs {
+    ghost use Rattle.std.specs.Prelude.{List};
+    ghost use Rattle.ndc_script.specs.declared.script.BurstJob.{BurstJob};
+
+    ghost Value = { List BurstJob };
+
+    ghost view = { λ jobs. jobs.items.items };
+}
+
+impl Jobs {
+    ghost use Rattle.std.specs.Prelude.{◌≡◌};
+
+    /// The list of these jobs.
+    pub fn new(items: Vec<BurstJob>) -> Jobs
+        ensures { result ≡ items.items }
+    {
+        Jobs { items }
+    }
+
+    /// The jobs, to be read.
+    pub fn as_slice(&self) -> &[BurstJob]
+        ensures { result.now ≡ self.now }
+    {
+        self.items.as_slice()
+    }
+
+    /// The jobs, given back.
+    pub fn into_vec(self) -> Vec<BurstJob>
+        ensures { result.items ≡ self }
+    {
+        self.items
+    }
+}
+
+/// What a line of a script asks for. Shards are below the header's number of shards; places, counts and cuts
+/// are at most 1,000,000.
 #[derive(Debug, Drop)]
 pub enum Act {
     /// A command to a workflow at a cluster.
@@ -25,6 +75,11 @@ pub enum Act {
         workflow: Name,
         command: Command,
     },
+    /// Commands to workflows at one cluster, which run side by side.
+    Burst {
+        cluster: ClusterNo,
+        jobs: Jobs,
+    },
     /// Registers a domain at a cluster, active at the target, with a retention in days, 1 to 1,000.
     Register {
         at: ClusterNo,
@@ -33,11 +88,201 @@ pub enum Act {
         days: u32,
         members: Members,
     },
+    /// Changes a domain's retention in days, 1 to 1,000.
+    Retain {
+        at: ClusterNo,
+        domain: Name,
+        days: u32,
+    },
+    /// Makes a cluster a member of a domain.
+    Join {
+        at: ClusterNo,
+        domain: Name,
+        member: ClusterNo,
+    },
+    /// Makes the target the active cluster of a domain.
+    Failover {
+        at: ClusterNo,
+        domain: Name,
+        target: ClusterNo,
+    },
+    /// Merges one cluster's domain table into another's.
+    Domains {
+        to: ClusterNo,
+        from: ClusterNo,
+    },
+    /// Prints a domain's record.
+    Domain {
+        at: ClusterNo,
+        domain: Name,
+    },
+    /// Prints a domain's members.
+    MembersOf {
+        at: ClusterNo,
+        domain: Name,
+    },
+    /// Takes all that a reader has not read yet of a source's queues into flight.
+    Pull {
+        reader: ClusterNo,
+        source: ClusterNo,
+    },
+    /// Takes at most so many entries of one queue into flight.
+    PullSome {
+        reader: ClusterNo,
+        source: ClusterNo,
+        shard: u32,
+        count: u64,
+    },
+    /// Drops a message in flight.
+    Lose {
+        reader: ClusterNo,
+        source: ClusterNo,
+        shard: u32,
+        place: usize,
+    },
+    /// Doubles a message in flight.
+    Repeat {
+        reader: ClusterNo,
+        source: ClusterNo,
+        shard: u32,
+        place: usize,
+    },
+    /// Moves a message in flight to another place.
+    Move {
+        reader: ClusterNo,
+        source: ClusterNo,
+        shard: u32,
+        place: usize,
+        to: usize,
+    },
+    /// Lets a cluster take what is in flight to it.
+    Work {
+        cluster: ClusterNo,
+    },
+    /// Lets a reader read a source's queues again from what it has done.
+    Rewind {
+        reader: ClusterNo,
+        source: ClusterNo,
+    },
+    /// Drops from a source's queues what all readers have done.
+    Trim {
+        source: ClusterNo,
+    },
+    /// Prints the levels of one queue.
+    LevelsOf {
+        reader: ClusterNo,
+        source: ClusterNo,
+        shard: u32,
+    },
+    /// Prints what a cluster has put off.
+    Gaps {
+        cluster: ClusterNo,
+    },
+    /// Sends a cluster again what it has put off batches for.
+    Resend {
+        cluster: ClusterNo,
+    },
+    /// Brings a reader what a source has of domains that the reader joined late.
+    Bootstrap {
+        reader: ClusterNo,
+        source: ClusterNo,
+    },
+    /// Lets all clusters come to the same state.
+    Settle,
     /// Prints the history of the current run's current branch.
     History {
         cluster: ClusterNo,
         domain: Name,
         workflow: Name,
+    },
+    /// Prints a workflow's runs and branches.
+    Branches {
+        cluster: ClusterNo,
+        domain: Name,
+        workflow: Name,
+    },
+    /// Prints a workflow's current run.
+    Current {
+        cluster: ClusterNo,
+        domain: Name,
+        workflow: Name,
+    },
+    /// Prints the state of the current run's current branch.
+    StateOf {
+        cluster: ClusterNo,
+        domain: Name,
+        workflow: Name,
+    },
+    /// Prints all that a cluster has learned of a workflow.
+    Dump {
+        cluster: ClusterNo,
+        domain: Name,
+        workflow: Name,
+    },
+    /// Compares what two clusters have learned of a workflow.
+    Compare {
+        one: ClusterNo,
+        two: ClusterNo,
+        domain: Name,
+        workflow: Name,
+    },
+    /// Begins to hand a domain over to the target.
+    Handover {
+        at: ClusterNo,
+        domain: Name,
+        target: ClusterNo,
+    },
+    /// Completes the handover of a domain.
+    Complete {
+        at: ClusterNo,
+        domain: Name,
+    },
+    /// Begins a run anew from an event of the current run, 1 to 1,000,000.
+    Reset {
+        cluster: ClusterNo,
+        domain: Name,
+        workflow: Name,
+        event: u64,
+    },
+    /// Hands the first bytes of a message in flight to the reader's letters.
+    Damage {
+        reader: ClusterNo,
+        source: ClusterNo,
+        shard: u32,
+        place: usize,
+        cut: usize,
+    },
+    /// Prints a reader's letters.
+    LettersOf {
+        reader: ClusterNo,
+    },
+    /// Drops a reader's letters.
+    Purge {
+        reader: ClusterNo,
+    },
+    /// Lets the messages of a reader's letters arrive.
+    MergeLetters {
+        reader: ClusterNo,
+    },
+    /// Reports the progress of a started activity.
+    Beat {
+        cluster: ClusterNo,
+        domain: Name,
+        workflow: Name,
+        id: Name,
+        details: Name,
+    },
+    /// Merges one cluster's reports into another's.
+    Sync {
+        to: ClusterNo,
+        from: ClusterNo,
+    },
+    /// Prints the report of an activity.
+    ProgressOf {
+        cluster: ClusterNo,
+        domain: Name,
+        workflow: Name,
+        id: Name,
     },
 }
 
@@ -118,8 +363,6 @@ pub enum ScriptCause {
     UnknownName,
     #[error("the script has more than 100,000 lines")]
     LineLimit,
-    #[error("lines of this kind are not built yet")]
-    Unbuilt,
 }
 
 /// Why a text could not be read as a script: the first faulty line with its cause, or want of memory.

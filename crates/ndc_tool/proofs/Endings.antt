@@ -3,11 +3,12 @@ use Rattle.std.proofs.Common.{◌≡◌, ℕ, ◌≤◌, Bool, true, List, lengt
 use Rattle.ndc_port.specs.Bytes.{AppendsFront}
 use Rattle.ndc_port.proofs.Steps.{Sent_start, Sent_stop}
 use Rattle.ndc_script.specs.declared.script.Script.{Script}
-use Rattle.ndc_script.specs.declared.script.ScriptError.{ScriptError}
 use Rattle.ndc_tool.specs.Report.{report_of}
 use Rattle.ndc_tool.specs.declared.fault.Fault.{Fault}
 use Rattle.ndc_tool.specs.declared.fault.Fault.TheVariants as fault
-use Rattle.ndc_tool.specs.Top.{built_script_of, most_bytes, ReportsFront, Seen, ReadFault, RunFault}
+use Rattle.ndc_tool.specs.Built.{built_script_of}
+use Rattle.ndc_tool.specs.declared.built.StartError.{StartError}
+use Rattle.ndc_tool.specs.Top.{most_bytes, ReportsFront, Seen, ReadFault, RunFault}
 
 -- what follows from a fact on the bytes that were left, if they are told
 some_weaker : (left : Option (List ℕ)) (P Q : List ℕ → Type 0) → ((bytes : List ℕ) → P bytes → Q bytes) → IfSome left P → IfSome left Q
@@ -18,7 +19,7 @@ some_always : (left : Option (List ℕ)) (Q : List ℕ → Type 0) → ((bytes :
 some_always None Q q = tt
 some_always (Some bytes) Q q = q bytes
 
-ok_always : (r : Result Script ScriptError) (Q : Script → Type 0) → ((script : Script) → Q script) → IfOk r Q
+ok_always : (r : Result Script StartError) (Q : Script → Type 0) → ((script : Script) → Q script) → IfOk r Q
 ok_always (Ok script) Q q = q script
 ok_always (Err error) Q q = tt
 
@@ -39,7 +40,7 @@ read_fault words old new fault.Write w same r = absurd r
 read_fault words old new fault.Limit w same r = (w, r, same)
 read_fault words old new fault.Memory w same r = (w, unreported old.left old.written new.written same)
 
-ok_front : (r : Result Script ScriptError) (Q : Script → Type 0) → IsOkAnd r Q → IfOk r Q
+ok_front : (r : Result Script StartError) (Q : Script → Type 0) → IsOkAnd r Q → IfOk r Q
 ok_front (Ok script) Q q = q
 ok_front (Err error) Q q = absurd q
 

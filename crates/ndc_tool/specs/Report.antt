@@ -7,7 +7,7 @@ use Rattle.ndc_script.specs.declared.script.Line.{Line}
 use Rattle.ndc_script.specs.declared.script.Script.{Script}
 use Rattle.ndc_tool.specs.declared.refusal.LineError.{LineError}
 use Rattle.ndc_tool.specs.declared.refusal.LineError.TheVariants.{Refused, Memory}
-use Rattle.ndc_tool.specs.declared.refusal.Refusal.TheVariants.{NoWorkflow}
+use Rattle.ndc_tool.specs.declared.refusal.Refusal.TheVariants.{NoWorkflow, Unbuilt}
 use Rattle.ndc_tool.specs.Answer.{ok_number, ok_key, refused_text, history_text}
 use Rattle.ndc_tool.specs.World.{World, Workflow, Written, Registered, opening, register_in, command_in, place_of, workflow_at, events_of}
 
@@ -33,7 +33,7 @@ abbrev pub history_answer : ℕ → Option Workflow → List ℕ
 history_answer number None = refused_text number NoWorkflow
 history_answer number (Some w) = history_text number (events_of w.batches)
 
--- what a line leaves and answers, by what it asks for
+-- what a line leaves and answers, by what it asks for; scripts with lines that do not run yet are refused before they run
 abbrev pub act_step : Header → World → ℕ → Act → Step
 act_step header world number (act.Command cluster domain workflow command) =
     command_step number world (command_in world header.limit domain workflow command)
@@ -41,6 +41,7 @@ act_step header world number (act.Register at domain target days members) =
     register_step number world (register_in header.clusters world at domain target days members)
 act_step header world number (act.History cluster domain workflow) =
     record { world = world; answer = history_answer number (workflow_at (place_of domain workflow world.workflows) world.workflows) }
+act_step header world number _ = record { world = world; answer = refused_text number Unbuilt }
 
 -- what a line leaves and answers
 unfoldable pub step_of : Header → World → Line → Step

@@ -2,17 +2,15 @@
 use Rattle.std.specs.Prelude.{◌≡◌, ◌⊎◌, ℕ, ◌<◌, ◌≤◌, ⊤, IsOkAnd, IfOk, IfSome, length, Some, None, Bool, true, false, ◌&&◌, ◌==◌, List, [], ◌∷◌, Option, codes, decimal, Result, Ok, Err, if◌then◌else◌}
 use Rattle.std.specs.List.{concat, list_any}
 use Rattle.std.specs.Str.{bytes_eq}
-use Rattle.ndc_event.specs.Outcome.{◌>>=◌}
 use Rattle.ndc_port.specs.Bytes.{Appends, AppendsFront}
 use Rattle.ndc_port.specs.Fault.{Rose}
-use Rattle.ndc_domain.specs.Clusters.{count_of}
-use Rattle.ndc_script.specs.Body.{script_of}
-use Rattle.ndc_script.specs.declared.script.Header.{Header}
-use Rattle.ndc_script.specs.declared.script.Script.{Script}
 use Rattle.ndc_script.specs.declared.script.ScriptCause.{ScriptCause}
-use Rattle.ndc_script.specs.declared.script.ScriptCause.TheVariants.{BadHeader, IncrementLimit, NoClusters, TooMany, SameName, SameInitial, NotBelowIncrement, BadLine, UnknownName, LineLimit, Unbuilt}
-use Rattle.ndc_script.specs.declared.script.ScriptError.{ScriptError}
-use Rattle.ndc_script.specs.declared.script.ScriptError.TheVariants.{Refused, Memory}
+use Rattle.ndc_script.specs.declared.script.ScriptCause.TheVariants.{BadHeader, IncrementLimit, NoClusters, TooMany, SameName, SameInitial, NotBelowIncrement, BadLine, UnknownName, LineLimit}
+use Rattle.ndc_tool.specs.Built.{built_script_of}
+use Rattle.ndc_tool.specs.declared.built.Cause.{Cause}
+use Rattle.ndc_tool.specs.declared.built.Cause.TheVariants.{Faulty, Unbuilt}
+use Rattle.ndc_tool.specs.declared.built.StartError.{StartError}
+use Rattle.ndc_tool.specs.declared.built.StartError.TheVariants.{Refused, Memory}
 use Rattle.ndc_tool.specs.Report.{report_of}
 use Rattle.ndc_tool.specs.declared.fault.Fault.{Fault}
 use Rattle.ndc_tool.specs.declared.fault.Fault.TheVariants as fault
@@ -22,34 +20,26 @@ abbrev pub accepted : List (List ℕ) → Bool
 accepted (word ∷ []) = bytes_eq word (codes "run")
 accepted _ = false
 
--- whether scripts of this header run yet: those of one cluster and one shard
-abbrev pub is_built : Header → Bool
-is_built header = (count_of header.clusters == 1) && (header.shards == 1)
-
--- a script that runs. The refusal of another header stands at the script's first line.
-abbrev pub built : Script → Result Script ScriptError
-built script = if is_built script.header then Ok script else Err (Refused 1 Unbuilt)
-
--- the script that bytes are, where it runs, or the first faulty line with its cause
-abbrev pub built_script_of : List ℕ → Result Script ScriptError
-built_script_of bytes = script_of bytes >>= built
-
 -- how many bytes a script may have
 abbrev pub most_bytes : ℕ
 most_bytes = 16777216
 
+-- how a cause of a faulty script is printed
+abbrev pub script_cause_name : ScriptCause → List ℕ
+script_cause_name BadHeader = codes "BadHeader"
+script_cause_name IncrementLimit = codes "IncrementLimit"
+script_cause_name NoClusters = codes "NoClusters"
+script_cause_name TooMany = codes "TooMany"
+script_cause_name SameName = codes "SameName"
+script_cause_name SameInitial = codes "SameInitial"
+script_cause_name NotBelowIncrement = codes "NotBelowIncrement"
+script_cause_name BadLine = codes "BadLine"
+script_cause_name UnknownName = codes "UnknownName"
+script_cause_name LineLimit = codes "LineLimit"
+
 -- how a cause is printed
-abbrev pub cause_name : ScriptCause → List ℕ
-cause_name BadHeader = codes "BadHeader"
-cause_name IncrementLimit = codes "IncrementLimit"
-cause_name NoClusters = codes "NoClusters"
-cause_name TooMany = codes "TooMany"
-cause_name SameName = codes "SameName"
-cause_name SameInitial = codes "SameInitial"
-cause_name NotBelowIncrement = codes "NotBelowIncrement"
-cause_name BadLine = codes "BadLine"
-cause_name UnknownName = codes "UnknownName"
-cause_name LineLimit = codes "LineLimit"
+abbrev pub cause_name : Cause → List ℕ
+cause_name (Faulty cause) = script_cause_name cause
 cause_name Unbuilt = codes "Unbuilt"
 
 -- the status that the program ends with after a fault
@@ -62,7 +52,7 @@ status_of fault.Limit = 6
 status_of fault.Memory = 8
 
 -- the line that tells of a faulty line of a script
-abbrev pub script_line : ℕ → ScriptCause → List ℕ
+abbrev pub script_line : ℕ → Cause → List ℕ
 script_line line cause = concat (codes "ndc: script line " ∷ decimal line ∷ codes ": " ∷ cause_name cause ∷ codes "\n" ∷ [])
 
 -- the line that tells of a fault
@@ -124,7 +114,7 @@ RunFault words old new fault.Limit = (words ≡ true) × IfSome old.left (λ byt
 RunFault words old new fault.Memory = (words ≡ true) × ReportsFront old.left old.written new.written
 
 -- the line on a faulty script was written, or a front of it and a fault came
-abbrev pub TellsError : Option (List ℕ) → Option (List ℕ) → ℕ → ℕ → ScriptError → Type 0
+abbrev pub TellsError : Option (List ℕ) → Option (List ℕ) → ℕ → ℕ → StartError → Type 0
 TellsError before after faults_before faults_after (Refused line cause) = Tells before after faults_before faults_after (script_line line cause)
 TellsError before after faults_before faults_after Memory = ⊥
 

@@ -2,8 +2,9 @@ ghost use Rattle.std.specs.Prelude.{◌≡◌, ◌≤◌, map, OnOk, OnErr};
 ghost use Rattle.std.specs.List.{concat};
 ghost use Rattle.ndc_port.specs.Bytes.{Appends, AppendsFront};
 ghost use Rattle.ndc_port.specs.Fault.{Rose};
-ghost use Rattle.ndc_tool.specs.Top.{cause_name, script_line};
+ghost use Rattle.ndc_tool.specs.Top.{script_cause_name, cause_name, script_line};
 
+use crate::built::Cause;
 use ndc_port::{Failed, Sink, write_all};
 use ndc_script::ScriptCause;
 
@@ -12,8 +13,8 @@ use ndc_script::ScriptCause;
 pub enum Fault {
     /// The program does not take these words.
     Words,
-    /// The input is no script: the first faulty line, from 1, and its cause.
-    Script { line: u64, cause: ScriptCause },
+    /// The input is no script that runs: the first such line, from 1, and its cause.
+    Script { line: u64, cause: Cause },
     /// Reading the input failed.
     Read,
     /// Writing the report failed.
@@ -24,9 +25,9 @@ pub enum Fault {
     Memory,
 }
 
-/// How a cause is printed.
-fn cause_name(cause: ScriptCause) -> &'static str
-    ensures { result.now ≡ cause_name cause }
+/// How a cause of a faulty script is printed.
+fn script_cause_name(cause: ScriptCause) -> &'static str
+    ensures { result.now ≡ script_cause_name cause }
 {
     match cause {
         ScriptCause::BadHeader => "BadHeader",
@@ -39,7 +40,16 @@ fn cause_name(cause: ScriptCause) -> &'static str
         ScriptCause::BadLine => "BadLine",
         ScriptCause::UnknownName => "UnknownName",
         ScriptCause::LineLimit => "LineLimit",
-        ScriptCause::Unbuilt => "Unbuilt",
+    }
+}
+
+/// How a cause is printed.
+fn cause_name(cause: Cause) -> &'static str
+    ensures { result.now ≡ cause_name cause }
+{
+    match cause {
+        Cause::Faulty(cause) => script_cause_name(cause),
+        Cause::Unbuilt => "Unbuilt",
     }
 }
 
@@ -86,7 +96,7 @@ impl Fault {
 }
 
 /// Writes the line that tells of a faulty line of a script.
-fn tell_script<E: Sink>(err: &mut E, line: u64, cause: ScriptCause) -> Result<(), Failed>
+fn tell_script<E: Sink>(err: &mut E, line: u64, cause: Cause) -> Result<(), Failed>
     ensures whole { OnOk result (Appends (E.written err.old) (E.written err.new) (script_line line cause)) }
     ensures front { OnErr result (AppendsFront (E.written err.old) (E.written err.new) (script_line line cause)) }
     ensures cause { OnErr result (Rose (E.faults err.old) (E.faults err.new)) }

@@ -2,6 +2,7 @@
 #![tactic(auto)]
 
 mod answer;
+mod built;
 mod fault;
 mod refusal;
 mod run;

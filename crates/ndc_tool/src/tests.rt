@@ -1,7 +1,7 @@
 use crate::top::ndc_top;
 use ndc_command::Command;
 use ndc_port::{MemSink, MemSource};
-use ndc_script::{Act, parse};
+use ndc_script::{Act, generate, parse, print};
 use std::alloc::Global;
 use std::fmt::Write;
 use std::process::Abort;
@@ -149,6 +149,12 @@ fn names_the_first_faulty_line(rt: HostRuntime) -> Result<(), Fail> {
         (ONE, "# a comment \u{7f}\n", "6: BadLine"),
         (ONE, "nothing\n", "6: BadLine"),
         (ONE, "register A alpha A 7\nsettle\n", "7: Unbuilt"),
+        (ONE, "settle\nnothing\n", "7: BadLine"),
+        (
+            ONE,
+            "register A alpha A 7\ncancel A alpha w1\n",
+            "7: Unbuilt",
+        ),
         (TWO, "register A alpha A 7\n", "1: Unbuilt"),
         (
             "ndc 1\nincrement 10\nshards 2\nlimit 100\ncluster A 1\n",
@@ -251,5 +257,114 @@ fn reads_and_copies_a_script(rt: HostRuntime) -> Result<(), Fail> {
     if let Act::Command { command, .. } = &lines[2].act {
         assert!(rt; matches!(command.try_copy()?, Command::Signal { .. }));
     }
+    Ok(())
+}
+
+#[test]
+fn names_the_fault_of_each_kind_of_line(rt: HostRuntime) -> Result<(), Fail> {
+    let cases = [
+        ("cancel A d w x\n", "7: BadLine"),
+        ("terminate A d w\n", "7: BadLine"),
+        ("respond A d w timer\n", "7: BadLine"),
+        ("respond A d w canceled timer t\n", "7: BadLine"),
+        ("respond A d w complete r fail q\n", "7: BadLine"),
+        ("respond A d w timer timer activity timer x\n", "1: Unbuilt"),
+        ("register A d A 7 B B\n", "7: BadLine"),
+        ("register A d A 7 X X\n", "7: BadLine"),
+        ("register A d A 7 X A\n", "7: UnknownName"),
+        ("retain A d 0\n", "7: BadLine"),
+        ("retain X d 0\n", "7: BadLine"),
+        ("retain X d 1\n", "7: UnknownName"),
+        ("join A d A\nfailover A d A\n", "1: Unbuilt"),
+        ("handover A d A\n", "7: BadLine"),
+        ("handover X d X\n", "7: BadLine"),
+        ("domains A A\n", "7: BadLine"),
+        ("sync B\n", "7: BadLine"),
+        ("pull A B 0\n", "7: BadLine"),
+        ("pull A B 1 0\n", "7: BadLine"),
+        ("pull A B 0 1000001\n", "7: BadLine"),
+        ("pull A A\n", "7: BadLine"),
+        ("pull A X\n", "7: UnknownName"),
+        ("lose A B 0 01\n", "7: BadLine"),
+        ("move A B 0 1\n", "7: BadLine"),
+        ("damage A B 0 1 1000001\n", "7: BadLine"),
+        ("levels B B 0\n", "7: BadLine"),
+        ("work X\n", "7: UnknownName"),
+        ("settle A\n", "7: BadLine"),
+        ("compare A A d w\n", "1: Unbuilt"),
+        ("reset A d w 0\n", "7: BadLine"),
+        ("beat A d w i\n", "7: BadLine"),
+        ("progress A d w\n", "7: BadLine"),
+        ("burst A\nend\nburst B\nend", "1: Unbuilt"),
+        ("burst A\ncancel A d w\n", "9: BadLine"),
+        ("burst A\nend x\nend\n", "8: BadLine"),
+        ("burst X\nnothing\n", "7: UnknownName"),
+        ("burst A\nburst A\n", "8: BadLine"),
+        ("burst A\nsettle\n", "8: BadLine"),
+        ("burst A\ncancel B d w\n", "8: BadLine"),
+        ("burst A\ncancel X d w\n", "8: BadLine"),
+        ("end\n", "7: BadLine"),
+    ];
+    for (body, fault) in cases {
+        let line = format!(in rt.alloc(); "ndc: script line {fault}\n")?;
+        check(
+            &rt,
+            rt.alloc(),
+            &["run"],
+            (TWO, body),
+            (&[], &[]),
+            1000,
+            (3, "", line.as_str()),
+        )?;
+    }
+    Ok(())
+}
+
+#[test]
+fn reads_no_line_past_the_limit(rt: HostRuntime) -> Result<(), Fail> {
+    let mut body = String::new(rt.alloc());
+    for _ in 0..99_995 {
+        body.push_str("#\n")?;
+    }
+    check(
+        &rt,
+        rt.alloc(),
+        &["run"],
+        (ONE, body.as_str()),
+        (&[], &[]),
+        1000,
+        (0, "", ""),
+    )?;
+    body.push_str("#")?;
+    check(
+        &rt,
+        rt.alloc(),
+        &["run"],
+        (ONE, body.as_str()),
+        (&[], &[]),
+        1000,
+        (3, "", "ndc: script line 100001: LineLimit\n"),
+    )
+}
+
+/// A line of each kind, as it is printed.
+const EACH_KIND: &str =
+    "start A d w t\nsignal A d w n i\ncancel A d w\nterminate A d w r\ndecide A d w\nrespond A d w activity i t timer t untimer t child i t marker m continue t\nrespond A d w canceled\nrespond A d w\nfaildecision A d w c\ntimeoutdecision A d w\nactstart A d w i\nactdone A d w i r\nactfail A d w i r\nacttimeout A d w i\nfire A d w i\nchildstart A d w i\nchilddone A d w i r\nchildfail A d w i r\nburst B\ncancel B d w\ndecide B d w\nend\nregister A d B 7 B\nregister A d B 1000\nretain A d 1\njoin A d B\nfailover A d B\ndomains A B\ndomain A d\nmembers A d\npull A B\npull A B 0 1000000\nlose A B 0 0\nrepeat A B 0 1\nmove A B 0 1 2\nwork A\nrewind A B\ntrim A\nlevels A B 0\ngaps A\nresend A\nbootstrap A B\nsettle\nhistory A d w\nbranches A d w\ncurrent A d w\nstate A d w\ndump A d w\ncompare A B d w\nhandover A d B\ncomplete A d\nreset A d w 1\ndamage A B 0 1 2\nletters A\npurge A\nmergeletters A\nbeat A d w i x\nsync A B\nprogress A d w i\n";
+
+#[test]
+fn prints_what_it_reads(rt: HostRuntime) -> Result<(), Fail> {
+    let mut bytes = Vec::from_slice(rt.alloc(), TWO.as_bytes())?;
+    bytes.extend_from_slice(EACH_KIND.as_bytes())?;
+    let script = parse(rt.alloc(), bytes.as_slice())?;
+    assert_eq!(rt; print(rt.alloc(), &script)?.as_slice(), bytes.as_slice());
+    Ok(())
+}
+
+#[test]
+fn generates_scripts(rt: HostRuntime) -> Result<(), Fail> {
+    let script = generate(rt.alloc(), 1, 0)?;
+    let wanted =
+        "ndc 1\nincrement 10\nshards 8\nlimit 1000\ncluster A 1\ncluster B 2\ncluster C 3\nregister A alpha A 7\nregister A beta B 7\ndomains B A\ndomains C A\nstart A alpha w0 order\nstart B beta w0 order\ndomains B C\nsettle\n";
+    assert_eq!(rt; print(rt.alloc(), &script)?.as_slice(), wanted.as_bytes());
     Ok(())
 }

@@ -1,15 +1,15 @@
 ghost use Rattle.std.specs.Prelude.{◌≡◌, ◌≢◌, ◌<◌, ◌≤◌, ◌↔◌, Some, [], ◌∷◌, IsOk, IsErr, IsErrAnd, false, map, length, IfOk, IfErr, IfSome, OnOk, Ok, true};
 ghost use Rattle.std.specs.String.{string_bytes};
-ghost use Rattle.ndc_event.specs.Outcome.{Gives};
-ghost use Rattle.ndc_script.specs.declared.script.ScriptError.TheVariants.{Memory};
 ghost use Rattle.ndc_script.specs.WellFormed.{IsWellFormed};
-ghost use Rattle.ndc_tool.specs.Top.{accepted, is_built, built, built_script_of, most_bytes, Succeeds, ReadFault, RunFault, ReportsFront, TellsError, Tells, status_line, IsAmong};
+ghost use Rattle.ndc_tool.specs.Built.{built_script_of};
+ghost use Rattle.ndc_tool.specs.Top.{accepted, most_bytes, Succeeds, ReadFault, RunFault, ReportsFront, TellsError, Tells, status_line, IsAmong};
 ghost use Rattle.ndc_port.specs.Fault.{Rose};
 
+use crate::built::{StartError, built_script};
 use crate::fault::Fault;
 use crate::run::{RunError, run_script};
 use ndc_port::{ReadError, Sink, Source, read_all};
-use ndc_script::{Header, Script, ScriptCause, ScriptError, parse};
+use ndc_script::Script;
 use std::alloc::Global;
 
 /// How many bytes a script may have.
@@ -22,29 +22,6 @@ fn accepted(words: &[String]) -> bool
     match words {
         [word] => word.as_bytes() == b"run".as_slice(),
         _ => false,
-    }
-}
-
-/// Whether scripts of this header run yet.
-fn is_built(header: &Header) -> bool
-    ensures { result ≡ is_built header.now }
-{
-    header.clusters.count() == 1 && header.shards == 1
-}
-
-/// A script that runs, or its first faulty line with its cause.
-fn built_script(alloc: Global, bytes: &[u8]) -> Result<Script, ScriptError>
-    ensures answer { Gives Memory (λ script. script) result (built_script_of bytes.now) }
-    ensures well_formed { IfOk result IsWellFormed }
-{
-    let script = parse(alloc, bytes)?;
-    if is_built(&script.header) {
-        Ok(script)
-    } else {
-        Err(ScriptError::Refused {
-            line: 1,
-            cause: ScriptCause::Unbuilt,
-        })
     }
 }
 
@@ -64,8 +41,8 @@ fn read_script<S: Source>(alloc: Global, source: &mut S) -> Result<Script, Fault
     };
     match built_script(alloc, bytes.as_slice()) {
         Ok(script) => Ok(script),
-        Err(ScriptError::Refused { line, cause }) => Err(Fault::Script { line, cause }),
-        Err(ScriptError::Memory) => Err(Fault::Memory),
+        Err(StartError::Refused { line, cause }) => Err(Fault::Script { line, cause }),
+        Err(StartError::Memory) => Err(Fault::Memory),
     }
 }
 

@@ -408,6 +408,7 @@ impl World {
                 workflow,
                 ..
             } => self.history(alloc, line.number, domain, workflow),
+            _ => refused_text(alloc, line.number, Refusal::Unbuilt),
         }
     }
 }
