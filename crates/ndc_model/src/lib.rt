@@ -4,3 +4,4 @@
 
 pub mod cell_laws;
 pub mod level_laws;
+pub mod worked_cells;
