@@ -1,11 +1,11 @@
 -- Levels stay in order.
-use Rattle.std.proofs.Common.{◌≡◌, ℕ, ◌+◌, ◌-◌, ◌≤◌, max, min, Bool, true, false, List, [], ◌∷◌, length, take, drop, Option, Some, None, if◌then◌else◌, refl, sym, subst, arith, length-drop}
+use Rattle.std.proofs.Common.{ℕ, ◌+◌, ◌≤◌, Bool, true, false, List, [], ◌∷◌, length, drop, Option, Some, None, if◌then◌else◌, arith, length-drop}
 use Rattle.std.proofs.lemmas.List.{length-take}
 use Rattle.ndc_domain.specs.declared.clusters.ClusterNo.{ClusterNo}
 use Rattle.ndc_domain.specs.declared.record.DomainRecord.{DomainRecord}
 use Rattle.ndc_model.specs.Arrival.{Sent}
 use Rattle.ndc_model.specs.Cells.{Cell}
-use Rattle.ndc_model.specs.Queues.{Lane, taken, after_pull, is_settled_for, front_count, renewed_done, after_renewal, after_rewind, AreLevels}
+use Rattle.ndc_model.specs.Queues.{Lane, taken, after_pull, is_settled_for, front_count, after_renewal, after_rewind, AreLevels}
 
 taken-most : (count : Option ℕ) (queue : List Sent) (lane : Lane) → lane.read ≤ length queue → lane.read + length (taken count queue lane) ≤ length queue
 taken-most None queue lane h = omega (arith, h, length-drop lane.read queue)

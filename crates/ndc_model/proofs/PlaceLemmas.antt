@@ -10,12 +10,11 @@ use Rattle.ndc_domain.specs.Records.{names_cmp}
 use Rattle.ndc_domain.proofs.Order.{names_equal, names_same, greater_flip, less_trans}
 use Rattle.ndc_event.specs.Key.{key_eq, key_lt}
 use Rattle.ndc_event.specs.declared.batch.Batch.{Batch}
-use Rattle.ndc_event.specs.declared.key.BatchKey.{BatchKey}
 use Rattle.ndc_event.specs.declared.name.Name.{Name}
 use Rattle.ndc_sets.specs.Learned.{learned, IsPart}
 use Rattle.ndc_sets.specs.Sets.{PointsBack, ComeAfter, Rise, IsSet, arrived}
 use Rattle.ndc_sets.proofs.ArrivalLemmas.{only_adds}
-use Rattle.ndc_sets.proofs.KeyLemmas.{before-irrefl, before-trans, before-total, same-keys, key_eq-self}
+use Rattle.ndc_sets.proofs.KeyLemmas.{before-trans, before-total}
 use Rattle.ndc_sets.proofs.Lists.{filter-cases}
 use Rattle.ndc_model.specs.Cells.{Cell, Place, less_or, place_lt, same_place, place_of, is_of, placed, arrived_of, learned_of, AreBehind, AreInOrder, IsCell}
 use Rattle.ndc_model.specs.Writing.{with_written}
@@ -140,9 +139,10 @@ placed-in-order new (b ∷ batches) order =
 own-names : (domain workflow : Name) (one two : Batch) → is_of domain workflow one ≡ true → is_of domain workflow two ≡ true → (one.domain ≡ two.domain) × (one.workflow ≡ two.workflow)
 own-names domain workflow one two h g =
     let p = and_parts (bytes_eq one.domain domain) (bytes_eq one.workflow workflow) h in
-    let q = and_parts (bytes_eq two.domain domain) (bytes_eq two.workflow workflow) g in
-    ((bytes_eq-Decides one.domain domain).0 p.0 ∙ sym ((bytes_eq-Decides two.domain domain).0 q.0),
-    (bytes_eq-Decides one.workflow workflow).0 p.1 ∙ sym ((bytes_eq-Decides two.workflow workflow).0 q.1))
+    let q = and_parts (bytes_eq two.domain domain) (bytes_eq two.workflow workflow) g in (
+      (bytes_eq-Decides one.domain domain).0 p.0 ∙ sym ((bytes_eq-Decides two.domain domain).0 q.0),
+      (bytes_eq-Decides one.workflow workflow).0 p.1 ∙ sym ((bytes_eq-Decides two.workflow workflow).0 q.1),
+    )
 
 place-key : (one two : Batch) → (one.domain ≡ two.domain) × (one.workflow ≡ two.workflow) → place_lt (place_of one) (place_of two) ≡ key_lt one.key two.key
 place-key one two names =

@@ -1,9 +1,8 @@
 -- Arrival of messages at a cell.
-use Rattle.std.specs.Prelude.{◌≡◌, Bool, not, is_some, List, [], ◌∷◌, ◌++◌, map, find, Option, Some, None, if◌then◌else◌}
+use Rattle.std.specs.Prelude.{Bool, not, List, Option, Some, None, if◌then◌else◌}
 use Rattle.std.specs.List.{filter, list_any}
 use Rattle.ndc_event.specs.declared.batch.Batch.{Batch}
 use Rattle.ndc_event.specs.declared.key.BatchKey.{BatchKey}
-use Rattle.ndc_event.specs.declared.name.Name.{Name}
 use Rattle.ndc_sets.specs.Learned.{has_key}
 use Rattle.ndc_model.specs.Cells.{Cell, place_of, placed, same_place, arrived_of, learned_of, missing_of}
 
@@ -48,8 +47,8 @@ abbrev pub arrival_of : Sent → Cell → Arrival
 arrival_of sent cell =
     if has_arrived sent.batch cell then known
     else arrival_in sent
-        (newly_learned (learned_of sent.batch.domain sent.batch.workflow cell) (learned_of sent.batch.domain sent.batch.workflow (cell_with sent cell)))
-        (arrived_of sent.batch.domain sent.batch.workflow (cell_with sent cell))
+    (newly_learned (learned_of sent.batch.domain sent.batch.workflow cell) (learned_of sent.batch.domain sent.batch.workflow (cell_with sent cell)))
+    (arrived_of sent.batch.domain sent.batch.workflow (cell_with sent cell))
 
 -- the cell after the arrival of a message: a known one changes nothing
 abbrev pub arrived_at : Sent → Cell → Cell
