@@ -2,4 +2,6 @@ pub mod Cells
 pub mod Arrival
 pub mod Writing
 pub mod Queues
+pub mod World
+pub mod Moves
 pub mod Worked

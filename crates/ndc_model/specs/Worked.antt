@@ -8,6 +8,11 @@ use Rattle.ndc_sets.specs.Worked.{key, run, from, batch, begun, signaled, signal
 use Rattle.ndc_model.specs.Arrival.{Sent}
 use Rattle.ndc_model.specs.Cells.{Cell}
 use Rattle.ndc_model.specs.Writing.{Home}
+use Rattle.ndc_model.specs.Queues.{without_place}
+use Rattle.ndc_model.specs.World.{World, lane_at, opening_world, with_lane, with_table}
+use Rattle.ndc_model.specs.Moves.{commanded, pulled_all, worked}
+use Rattle.ndc_script.specs.declared.script.Header.{Header}
+use Rattle.ndc_command.specs.declared.command.Command.TheVariants.{Start, Signal}
 
 -- the record of the domain, with this version and both clusters as members
 abbrev pub alpha : ℕ → DomainRecord
@@ -64,3 +69,33 @@ reset_to =
     batch (run 7) (key 1 7) None None 1
     (WorkflowExecutionStarted (codes "order") ∷ DecisionTaskScheduled ∷ copy (codes "p") (codes "x") (from 3 1) ∷ DecisionTaskStarted
     ∷ DecisionTaskFailed (codes "reset") ∷ DecisionTaskScheduled ∷ copy (codes "q") (codes "y") (from 7 1) ∷ [])
+
+-- the header of clusters A and B with one shard
+abbrev pub two_clusters : Header
+two_clusters = record { clusters = (home 0 1).clusters; shards = 1; limit = 100 }
+
+-- the world in which A has begun the workflow and signalled it, and both clusters have the domain's record
+abbrev pub told : ℕ → World → World
+told version w = with_table (cluster_no 1) (alpha version ∷ []) (with_table (cluster_no 0) (alpha 1 ∷ []) w)
+
+abbrev pub started : World
+started = commanded two_clusters (cluster_no 0) (codes "alpha") (codes "w1") (Start (codes "order")) (told 1 (opening_world two_clusters))
+
+abbrev pub signalled : World
+signalled = commanded two_clusters (cluster_no 0) (codes "alpha") (codes "w1") (Signal (codes "a1") (codes "x")) started
+
+-- B has pulled both batches and lost the first, and has worked
+abbrev pub with_a_loss : World
+with_a_loss =
+    worked two_clusters (cluster_no 1)
+    (with_lane (cluster_no 1) (cluster_no 0) 0
+    (record (lane_at two_clusters (cluster_no 1) (cluster_no 0) 0 (pulled_all two_clusters (cluster_no 1) (cluster_no 0) signalled)) {
+      flight = without_place 0 (lane_at two_clusters (cluster_no 1) (cluster_no 0) 0 (pulled_all two_clusters (cluster_no 1) (cluster_no 0) signalled)).flight })
+    (pulled_all two_clusters (cluster_no 1) (cluster_no 0) signalled))
+
+-- B has the run's first batch, has failed the domain over to itself and signalled the run; A has signalled it too
+abbrev pub in_conflict : World
+in_conflict =
+    commanded two_clusters (cluster_no 0) (codes "alpha") (codes "w1") (Signal (codes "a1") (codes "x"))
+    (commanded two_clusters (cluster_no 1) (codes "alpha") (codes "w1") (Signal (codes "b1") (codes "y"))
+    (with_table (cluster_no 1) (alpha 2 ∷ []) (worked two_clusters (cluster_no 1) (pulled_all two_clusters (cluster_no 1) (cluster_no 0) started))))

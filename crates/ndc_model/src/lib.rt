@@ -5,3 +5,4 @@
 pub mod cell_laws;
 pub mod level_laws;
 pub mod worked_cells;
+pub mod worked_worlds;

@@ -1,0 +1,186 @@
+-- How messages move: pulls, work, resending, bootstrap, settlement.
+use Rattle.std.specs.Prelude.{ℕ, ◌*◌, ◌%◌, ◌^◌, Bool, ◌&&◌, not, List, [], ◌∷◌, ◌++◌, map, drop, slice_index_or, slice_set, Option, Some, None, Ok, if◌then◌else◌}
+use Rattle.std.specs.List.{filter, filter_map, flat_map, fold, list_any}
+use Rattle.std.specs.Int.Bits.{bit_xor}
+use Rattle.std.specs.Str.{bytes_eq}
+use Rattle.ndc_command.specs.declared.command.Command.{Command}
+use Rattle.ndc_domain.specs.declared.clusters.ClusterNo.{ClusterNo}
+use Rattle.ndc_domain.specs.Merge.{merged}
+use Rattle.ndc_event.specs.declared.batch.Batch.{Batch}
+use Rattle.ndc_event.specs.declared.key.BatchKey.{BatchKey}
+use Rattle.ndc_event.specs.declared.name.Name.{Name}
+use Rattle.ndc_script.specs.declared.script.Header.{Header}
+use Rattle.ndc_sets.specs.Sets.{earlier}
+use Rattle.ndc_sets.specs.Learned.{has_key}
+use Rattle.ndc_sets.specs.Paths.{is_wanted}
+use Rattle.ndc_model.specs.Arrival.{Sent, arrived_at}
+use Rattle.ndc_model.specs.Cells.{Cell, is_of, placed}
+use Rattle.ndc_model.specs.Queues.{Lane, after_pull, after_renewal, after_rewind, batch_there, is_addressed, is_learned_in, trim_level}
+use Rattle.ndc_model.specs.World.{Link, World, cluster_at, cell_at, queue_at, link_at, lane_at, with_cell, with_link, with_lane, with_table, home_at, clusters_of, others_of, shards_of}
+use Rattle.ndc_model.specs.Writing.{Home, cell_after, command_of, reapplication_of, with_all_written}
+
+-- the hash of a workflow's place: over the domain's bytes, a zero byte and the workflow's bytes
+abbrev pub hashed : ℕ → ℕ → ℕ
+hashed hash byte = bit_xor hash byte * 16777619 % 2 ^ 32
+
+abbrev pub hash_of : Name → Name → ℕ
+hash_of domain workflow = fold hashed 2166136261 (domain ++ 0 ∷ workflow)
+
+-- the shard in which a workflow lives
+abbrev pub shard_of : Name → Name → ℕ → ℕ
+shard_of domain workflow shards = hash_of domain workflow % shards
+
+-- a command to a workflow at a cluster: what it writes goes to the workflow's cell, and a refusal changes nothing
+abbrev pub commanded : Header → ClusterNo → Name → Name → Command → World → World
+commanded header cluster domain workflow command w =
+    with_cell cluster (shard_of domain workflow header.shards)
+    (cell_after (command_of (home_at header cluster w) domain workflow command (cell_at cluster (shard_of domain workflow header.shards) w)) (cell_at cluster (shard_of domain workflow header.shards) w)) w
+
+-- a pull of a reader from a source for a shard: all, or at most so many
+abbrev pub pulled_shard : Header → ClusterNo → ClusterNo → Option ℕ → World → ℕ → World
+pulled_shard header reader source count w shard =
+    with_lane reader source shard (after_pull reader (cluster_at source w).table count (queue_at source shard w) (lane_at header reader source shard w)) w
+
+-- a pull for every shard
+abbrev pub pulled_all : Header → ClusterNo → ClusterNo → World → World
+pulled_all header reader source w = fold (pulled_shard header reader source None) w (shards_of header)
+
+-- the levels of a reader for a source and a shard are renewed
+abbrev pub renewed_shard : Header → ClusterNo → ClusterNo → World → ℕ → World
+renewed_shard header reader source w shard =
+    with_lane reader source shard
+    (after_renewal reader (cluster_at source w).table (cell_at reader shard w) (queue_at source shard w) (lane_at header reader source shard w)) w
+
+-- the levels of a reader are renewed, for each source and shard
+abbrev pub renewed : Header → World → ClusterNo → World
+renewed header w reader = fold (λ v source. fold (renewed_shard header reader source) v (shards_of header)) w (others_of header reader)
+
+-- what was read and is not done is read again, for every shard
+abbrev pub rewound : Header → ClusterNo → ClusterNo → World → World
+rewound header reader source w =
+    fold (λ v shard. with_lane reader source shard (after_rewind (lane_at header reader source shard v)) v) w (shards_of header)
+
+-- the trim level of a source for a shard
+abbrev pub trim_to : Header → ClusterNo → World → ℕ → ℕ
+trim_to header source w shard =
+    trim_level (queue_at source shard w) (map (λ reader. (lane_at header reader source shard w).done) (others_of header source))
+
+-- the queues of a source are trimmed
+abbrev pub trimmed_all : Header → ClusterNo → World → World
+trimmed_all header source w = record w { trimmed = slice_set w.trimmed source.number (map (trim_to header source w) (shards_of header)) }
+
+-- messages arrive at a cell in order
+abbrev pub all_arrived : List Sent → Cell → Cell
+all_arrived messages cell = fold (λ c sent. arrived_at sent c) cell messages
+
+-- what is in flight from a source for a shard arrives
+abbrev pub flight_arrived : Header → ClusterNo → ℕ → World → ClusterNo → World
+flight_arrived header reader shard w source =
+    with_lane reader source shard (record (lane_at header reader source shard w) { flight = [] })
+    (with_cell reader shard (all_arrived (lane_at header reader source shard w).flight (cell_at reader shard w)) w)
+
+-- all that is in flight to a reader arrives, by shard, then source
+abbrev pub flights_arrived : Header → ClusterNo → World → World
+flights_arrived header reader w = fold (λ v shard. fold (flight_arrived header reader shard) v (others_of header reader)) w (shards_of header)
+
+-- the workflows of batches in order of place, each once
+abbrev pub workflows_behind : Option Batch → List Batch → List Batch
+workflows_behind before [] = []
+workflows_behind None (b ∷ batches) = b ∷ workflows_behind (Some b) batches
+workflows_behind (Some before) (b ∷ batches) =
+    if is_of before.domain before.workflow b then workflows_behind (Some before) batches else b ∷ workflows_behind (Some b) batches
+
+-- a cell reapplies in each of its workflows, in order
+abbrev pub reapplied_cell : Home → Cell → Cell
+reapplied_cell home cell =
+    fold (λ c b. with_all_written (reapplication_of home b.domain b.workflow c) c) cell (workflows_behind None cell.arrived)
+
+-- a cluster reapplies, by shard
+abbrev pub reapplied_all : Header → World → ClusterNo → World
+reapplied_all header w cluster =
+    fold (λ v shard. with_cell cluster shard (reapplied_cell (home_at header cluster v) (cell_at cluster shard v)) v) w (shards_of header)
+
+-- a cluster works: what is in flight to it arrives, it reapplies, and its levels are renewed
+abbrev pub worked : Header → ClusterNo → World → World
+worked header reader w = renewed header (reapplied_all header (flights_arrived header reader w) reader) reader
+
+-- all batches that any cluster has written in a shard, in order of place
+abbrev pub authored : Header → ℕ → World → List Batch
+authored header shard w =
+    fold (λ batches b. placed b batches) []
+    (flat_map (λ cluster. filter_map (batch_there (cell_at cluster shard w).arrived) (cell_at cluster shard w).written) (clusters_of header))
+
+-- the ancestors of a batch among these, following earlier keys down from the last one: what is wanted next, and those found
+abbrev pub ancestors_over : Batch → Option BatchKey × List Batch → Option BatchKey × List Batch
+ancestors_over b walk = if is_wanted walk.0 b then (earlier b, b ∷ walk.1) else walk
+
+abbrev pub ancestors_down : List Batch → Option BatchKey × List Batch → Option BatchKey × List Batch
+ancestors_down [] walk = walk
+ancestors_down (b ∷ batches) walk = ancestors_over b (ancestors_down batches walk)
+
+abbrev pub ancestors_of : Batch → List Batch → List Batch
+ancestors_of b batches = (ancestors_down (filter (is_of b.domain b.workflow) batches) (earlier b, [])).1
+
+-- the batches of a cell that are put off
+abbrev pub put_off_in : Cell → List Batch
+put_off_in cell = filter (λ b. not (is_learned_in cell b)) cell.arrived
+
+-- batches go to their places
+abbrev pub all_placed : List Batch → Cell → Cell
+all_placed batches cell = record cell { arrived = fold (λ arrived b. placed b arrived) cell.arrived batches }
+
+-- all ancestors of what is put off arrive, by shard, and the levels are renewed
+abbrev pub resent : Header → ClusterNo → World → World
+resent header reader w =
+    renewed header
+    (fold (λ v shard. with_cell reader shard (all_placed (flat_map (λ b. ancestors_of b (authored header shard v)) (put_off_in (cell_at reader shard v))) (cell_at reader shard v)) v) w (shards_of header))
+    reader
+
+-- the learned batches of a cell that are of one of these domains
+abbrev pub learned_of_domains : List Name → Cell → List Batch
+learned_of_domains domains cell = filter (λ b. is_learned_in cell b && list_any (λ domain. bytes_eq domain b.domain) domains) cell.arrived
+
+-- a reader takes from a source what this has learned of the domains of which it is a member late
+abbrev pub bootstrapped : Header → ClusterNo → World → ClusterNo → World
+bootstrapped header reader w source =
+    renewed header
+    (with_link reader source (λ link. record link { late = [] })
+    (fold (λ v shard. with_cell reader shard (all_placed (learned_of_domains (link_at header reader source v).late (cell_at source shard v)) (cell_at reader shard v)) v) w (shards_of header)))
+    reader
+
+-- a cluster merges the tables of all others, in header order
+abbrev pub merged_all : Header → World → ClusterNo → World
+merged_all header w cluster =
+    fold (λ v other. with_table cluster (merged (cluster_at cluster v).table (cluster_at other v).table) v) w (others_of header cluster)
+
+-- the entries of a queue from `done` on that are addressed to a reader
+abbrev pub due : Header → ClusterNo → ClusterNo → ℕ → World → List Sent
+due header reader source shard w =
+    filter (is_addressed reader (cluster_at source w).table) (drop (lane_at header reader source shard w).done (queue_at source shard w))
+
+-- all that is due to a reader arrives, by shard, then source
+abbrev pub due_arrived : Header → World → ClusterNo → World
+due_arrived header w reader =
+    fold (λ v shard. fold (λ u source. with_cell reader shard (all_arrived (due header reader source shard u) (cell_at reader shard u)) u) v (others_of header reader)) w (shards_of header)
+
+-- one round of settlement: tables are merged, members that are late take what they lack, what is due arrives, and all reapply
+abbrev pub settled_once : Header → World → World
+settled_once header w =
+    fold (reapplied_all header)
+    (fold (due_arrived header)
+    (fold (λ v reader. fold (bootstrapped header reader) v (others_of header reader))
+    (fold (merged_all header) w (clusters_of header)) (clusters_of header)) (clusters_of header)) (clusters_of header)
+
+-- nothing is in flight
+abbrev pub without_flight : Lane → Lane
+without_flight lane = record lane { flight = [] }
+
+abbrev pub link_without_flights : Link → Link
+link_without_flights link = record link { lanes = map without_flight link.lanes }
+
+abbrev pub without_flights : World → World
+without_flights w = record w { links = map link_without_flights w.links }
+
+-- settlement: two rounds, and then all levels are renewed
+abbrev pub settled : Header → World → World
+settled header w = fold (renewed header) (settled_once header (settled_once header (without_flights w))) (clusters_of header)

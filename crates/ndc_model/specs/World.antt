@@ -1,0 +1,127 @@
+-- The world: all clusters, and what each has of the queues of each other.
+use Rattle.std.specs.Prelude.{ℕ, Bool, ◌&&◌, not, ◌==◌, List, [], ◌∷◌, ◌++◌, map, find, slice_index_or, slice_set, Option, Some, None, if◌then◌else◌}
+use Rattle.std.specs.List.{filter, flat_map, fold, range_with_len}
+use Rattle.ndc_domain.specs.Clusters.{count_of}
+use Rattle.ndc_domain.specs.declared.clusters.ClusterNo.{ClusterNo}
+use Rattle.ndc_domain.specs.declared.record.DomainRecord.{DomainRecord}
+use Rattle.ndc_domain.specs.Records.{record_of}
+use Rattle.ndc_event.specs.declared.name.Name.{Name}
+use Rattle.ndc_script.specs.declared.script.Header.{Header}
+use Rattle.ndc_script.specs.Register.{clusters_below}
+use Rattle.ndc_model.specs.Arrival.{Sent}
+use Rattle.ndc_model.specs.Cells.{Cell, empty_cell}
+use Rattle.ndc_model.specs.Queues.{Lane, new_lane, names_cluster, queue_of}
+use Rattle.ndc_model.specs.Writing.{Home}
+
+-- a cluster: its domain records, and its cells by shard
+pub record Cluster : Type 0 where
+  pub table : List DomainRecord
+  pub cells : List Cell
+
+-- what a reader has of a source: a lane for each shard, and the domains of which it came to be a member late
+pub record Link : Type 0 where
+  pub reader : ClusterNo
+  pub source : ClusterNo
+  pub lanes : List Lane
+  pub late : List Name
+
+-- a world: the clusters in header order, what each reader has of each other cluster, and how far each queue is trimmed
+pub record World : Type 0 where
+  pub clusters : List Cluster
+  pub links : List Link
+  pub trimmed : List (List ℕ)
+
+-- whether two clusters are one
+abbrev pub same_cluster : ClusterNo → ClusterNo → Bool
+same_cluster one two = one.number == two.number
+
+-- so many of the same
+abbrev pub many : {X : Type 0} → ℕ → X → List X
+many count x = map (λ _. x) (range_with_len 0 count)
+
+-- the clusters of a header
+abbrev pub clusters_of : Header → List ClusterNo
+clusters_of header = clusters_below (count_of header.clusters)
+
+-- the shards of a header
+abbrev pub shards_of : Header → List ℕ
+shards_of header = range_with_len 0 header.shards
+
+-- the clusters other than this one
+abbrev pub others_of : Header → ClusterNo → List ClusterNo
+others_of header cluster = filter (λ other. not (same_cluster cluster other)) (clusters_of header)
+
+-- what a reader has of a source in the beginning
+abbrev pub new_link : Header → ClusterNo → ClusterNo → Link
+new_link header reader source = record { reader = reader; source = source; lanes = many header.shards new_lane; late = [] }
+
+-- the opening world: nothing is registered, written or sent
+abbrev pub opening_world : Header → World
+opening_world header = record {
+  clusters = map (λ _. record { table = []; cells = many header.shards empty_cell }) (clusters_of header);
+  links = flat_map (λ reader. map (new_link header reader) (others_of header reader)) (clusters_of header);
+  trimmed = map (λ _. many header.shards 0) (clusters_of header);
+}
+
+-- the cluster of a number
+abbrev pub cluster_at : ClusterNo → World → Cluster
+cluster_at cluster w = slice_index_or w.clusters cluster.number (record { table = []; cells = [] })
+
+-- the cell of a cluster for a shard
+abbrev pub cell_at : ClusterNo → ℕ → World → Cell
+cell_at cluster shard w = slice_index_or (cluster_at cluster w).cells shard empty_cell
+
+-- the queue of a source for a shard
+abbrev pub queue_at : ClusterNo → ℕ → World → List Sent
+queue_at source shard w = queue_of (cell_at source shard w)
+
+-- whether it is what this reader has of this source
+abbrev pub is_link : ClusterNo → ClusterNo → Link → Bool
+is_link reader source link = same_cluster link.reader reader && same_cluster link.source source
+
+-- what a reader has of a source
+abbrev pub link_found : Header → ClusterNo → ClusterNo → Option Link → Link
+link_found header reader source None = new_link header reader source
+link_found header reader source (Some link) = link
+
+abbrev pub link_at : Header → ClusterNo → ClusterNo → World → Link
+link_at header reader source w = link_found header reader source (find (is_link reader source) w.links)
+
+-- the lane of a reader, a source and a shard
+abbrev pub lane_at : Header → ClusterNo → ClusterNo → ℕ → World → Lane
+lane_at header reader source shard w = slice_index_or (link_at header reader source w).lanes shard new_lane
+
+-- a cell takes the place of another
+abbrev pub with_cell : ClusterNo → ℕ → Cell → World → World
+with_cell cluster shard cell w =
+    record w { clusters = slice_set w.clusters cluster.number (record (cluster_at cluster w) { cells = slice_set (cluster_at cluster w).cells shard cell }) }
+
+-- what a reader has of a source, changed
+abbrev pub with_link : ClusterNo → ClusterNo → (Link → Link) → World → World
+with_link reader source change w = record w { links = map (λ link. if is_link reader source link then change link else link) w.links }
+
+-- a lane takes the place of another
+abbrev pub with_lane : ClusterNo → ClusterNo → ℕ → Lane → World → World
+with_lane reader source shard lane w = with_link reader source (λ link. record link { lanes = slice_set link.lanes shard lane }) w
+
+-- the domains whose record did not name a cluster and comes to name it, in order of name
+abbrev pub newly_naming : ClusterNo → List DomainRecord → List DomainRecord → List Name
+newly_naming reader [] after = []
+newly_naming reader (one ∷ before) after =
+    if not (names_cluster reader (Some one)) && names_cluster reader (record_of after one.name)
+    then one.name ∷ newly_naming reader before after else newly_naming reader before after
+
+-- a table takes the place of another: domains that come to name a reader go last among those of which it is a member late
+abbrev pub with_late : ClusterNo → List DomainRecord → List DomainRecord → Link → Link
+with_late source before after link =
+    if same_cluster link.source source then record link { late = link.late ++ newly_naming link.reader before after } else link
+
+abbrev pub with_table : ClusterNo → List DomainRecord → World → World
+with_table cluster table w = record w {
+  clusters = slice_set w.clusters cluster.number (record (cluster_at cluster w) { table = table });
+  links = map (with_late cluster (cluster_at cluster w).table table) w.links;
+}
+
+-- where a cell of a cluster stands
+abbrev pub home_at : Header → ClusterNo → World → Home
+home_at header cluster w = record { clusters = header.clusters; me = cluster; limit = header.limit; table = (cluster_at cluster w).table }

@@ -1,0 +1,33 @@
+// What the definitions give of small worked worlds; the checker computes it.
+ghost use Rattle.std.specs.Prelude.{◌≡◌, [], ◌∷◌, codes};
+ghost use Rattle.ndc_domain.specs.Clusters.{cluster_no};
+ghost use Rattle.ndc_sets.specs.Worked.{begun};
+ghost use Rattle.ndc_model.specs.Moves.{hash_of, shard_of, pulled_all, resent, rewound, settled, worked};
+ghost use Rattle.ndc_model.specs.World.{cell_at, cluster_at, lane_at};
+ghost use Rattle.ndc_model.specs.Worked.{two_clusters, with_a_loss, in_conflict, first_signal, other_signal, applied_again, alpha};
+
+/// The shard of a workflow.
+#[tactic(auto)]
+pub fn workflows_live_in_shards()
+    ensures hash { hash_of (codes "a") (codes "b") ≡ 284404690 }
+    ensures eight { shard_of (codes "a") (codes "b") 8 ≡ 2 }
+    ensures sixty_four { shard_of (codes "a") (codes "b") 64 ≡ 18 }
+{}
+
+/// A message that was lost holds the level back; it comes again behind a rewind, or is sent again.
+#[tactic(auto, unfolding(ndc_state::specs::Table::row, ndc_reapply::specs::Reapplied::reapplied, ndc_command::specs::Plan::plan_of, ndc_command::specs::Plan::start_of, ndc_command::specs::Plan::plan_below, ndc_command::specs::Plan::written, ndc_command::specs::Plan::judged_at, ndc_command::specs::Plan::within, ndc_command::specs::Stage::refuse, ndc_domain::specs::Members::numbers, ndc_domain::specs::Members::numbers_where))]
+pub fn a_lost_message_holds_the_level_back()
+    ensures read { (lane_at two_clusters (cluster_no 1) (cluster_no 0) 0 with_a_loss).read ≡ 2 }
+    ensures done { (lane_at two_clusters (cluster_no 1) (cluster_no 0) 0 with_a_loss).done ≡ 0 }
+    ensures again { (lane_at two_clusters (cluster_no 1) (cluster_no 0) 0 (worked two_clusters (cluster_no 1) (pulled_all two_clusters (cluster_no 1) (cluster_no 0) (rewound two_clusters (cluster_no 1) (cluster_no 0) with_a_loss)))).done ≡ 2 }
+    ensures sent { (cell_at (cluster_no 1) 0 (resent two_clusters (cluster_no 1) with_a_loss)).arrived ≡ begun ∷ first_signal ∷ [] }
+{}
+
+/// After a settlement both clusters hold the same batches and the same record, and the signal of the branch that
+/// lost is applied again.
+#[tactic(auto, unfolding(ndc_state::specs::Table::row, ndc_reapply::specs::Reapplied::reapplied, ndc_command::specs::Plan::plan_of, ndc_command::specs::Plan::start_of, ndc_command::specs::Plan::plan_below, ndc_command::specs::Plan::written, ndc_command::specs::Plan::judged_at, ndc_command::specs::Plan::within, ndc_command::specs::Stage::refuse, ndc_domain::specs::Members::numbers, ndc_domain::specs::Members::numbers_where))]
+pub fn a_settlement_makes_clusters_alike()
+    ensures first { (cell_at (cluster_no 0) 0 (settled two_clusters in_conflict)).arrived ≡ begun ∷ first_signal ∷ other_signal ∷ applied_again ∷ [] }
+    ensures second { (cell_at (cluster_no 1) 0 (settled two_clusters in_conflict)).arrived ≡ begun ∷ first_signal ∷ other_signal ∷ applied_again ∷ [] }
+    ensures table { (cluster_at (cluster_no 0) (settled two_clusters in_conflict)).table ≡ alpha 2 ∷ [] }
+{}
