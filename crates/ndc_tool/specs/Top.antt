@@ -1,5 +1,5 @@
 -- The program as a whole: its words, the faults that end it, and what it tells of them.
-use Rattle.std.specs.Prelude.{◌≡◌, ◌⊎◌, ℕ, ◌<◌, ◌≤◌, ⊤, IsOkAnd, IfOk, IfSome, length, Some, None, Bool, true, false, ◌&&◌, ◌==◌, List, [], ◌∷◌, Option, codes, decimal, Result, Ok, Err, if◌then◌else◌}
+use Rattle.std.specs.Prelude.{◌≡◌, ◌⊎◌, ℕ, ◌<◌, ◌≤◌, ⊤, IsOkAnd, IfOk, IfSome, length, Some, None, Bool, true, false, ◌==◌, List, [], ◌∷◌, Option, codes, decimal, Err, if◌then◌else◌}
 use Rattle.std.specs.List.{concat, list_any}
 use Rattle.std.specs.Str.{bytes_eq}
 use Rattle.ndc_port.specs.Bytes.{Appends, AppendsFront}
