@@ -13,7 +13,7 @@ use Rattle.ndc_script.specs.declared.script.Header.{Header}
 use Rattle.ndc_sets.specs.Sets.{earlier}
 use Rattle.ndc_sets.specs.Learned.{has_key}
 use Rattle.ndc_sets.specs.Paths.{is_wanted}
-use Rattle.ndc_model.specs.Arrival.{Sent, arrived_at}
+use Rattle.ndc_model.specs.Arrival.{Arrival, known, put_off, learned_now, Sent, arrival_of, arrived_at, has_arrived}
 use Rattle.ndc_model.specs.Cells.{Cell, is_of, placed}
 use Rattle.ndc_model.specs.Queues.{Lane, after_pull, after_renewal, after_rewind, batch_there, is_addressed, is_learned_in, trim_level}
 use Rattle.ndc_model.specs.World.{Link, World, cluster_at, cell_at, queue_at, link_at, lane_at, with_cell, with_link, with_lane, with_table, home_at, clusters_of, others_of, shards_of}
@@ -69,48 +69,92 @@ trim_to header source w shard =
 abbrev pub trimmed_all : Header → ClusterNo → World → World
 trimmed_all header source w = record w { trimmed = slice_set w.trimmed source.number (map (trim_to header source w) (shards_of header)) }
 
--- messages arrive at a cell in order
-abbrev pub all_arrived : List Sent → Cell → Cell
-all_arrived messages cell = fold (λ c sent. arrived_at sent c) cell messages
+-- what came of one move: a message that arrived at a cluster, with how many batches it brought, or a batch that was applied again
+pub data Note : Type 0 where
+  came : ClusterNo → ℕ → Arrival → Note
+  applied : ClusterNo → Batch → Note
+
+-- a world, and what came of the moves that led to it
+pub record Trace : Type 0 where
+  pub world : World
+  pub notes : List Note
+
+-- a world before any move
+abbrev pub from_world : World → Trace
+from_world w = record { world = w; notes = [] }
+
+-- a change of the world that is not told
+abbrev pub quietly : (World → World) → Trace → Trace
+quietly change t = record t { world = change t.world }
+
+-- how many batches a message brings
+abbrev pub brought : Option Batch → ℕ
+brought None = 1
+brought (Some second) = 2
+
+abbrev pub brought_by : Arrival → Sent → ℕ
+brought_by known sent = 0
+brought_by (put_off missing) sent = brought sent.second
+brought_by (learned_now batches) sent = brought sent.second
+
+-- a message arrives at a cell
+abbrev pub message_arrived : ClusterNo → ℕ → Trace → Sent → Trace
+message_arrived cluster shard t sent = record {
+  world = with_cell cluster shard (arrived_at sent (cell_at cluster shard t.world)) t.world;
+  notes = t.notes ++ came cluster (brought_by (arrival_of sent (cell_at cluster shard t.world)) sent) (arrival_of sent (cell_at cluster shard t.world)) ∷ [];
+}
+
+-- a batch that has not arrived arrives alone
+abbrev pub batch_arrived : ClusterNo → ℕ → Trace → Batch → Trace
+batch_arrived cluster shard t b =
+    if has_arrived b (cell_at cluster shard t.world) then t else message_arrived cluster shard t (record { batch = b; second = None })
 
 -- what is in flight from a source for a shard arrives
-abbrev pub flight_arrived : Header → ClusterNo → ℕ → World → ClusterNo → World
-flight_arrived header reader shard w source =
-    with_lane reader source shard (record (lane_at header reader source shard w) { flight = [] })
-    (with_cell reader shard (all_arrived (lane_at header reader source shard w).flight (cell_at reader shard w)) w)
+abbrev pub flight_arrived : Header → ClusterNo → ℕ → Trace → ClusterNo → Trace
+flight_arrived header reader shard t source =
+    fold (message_arrived reader shard)
+    (quietly (with_lane reader source shard (record (lane_at header reader source shard t.world) { flight = [] })) t)
+    (lane_at header reader source shard t.world).flight
 
 -- all that is in flight to a reader arrives, by shard, then source
-abbrev pub flights_arrived : Header → ClusterNo → World → World
-flights_arrived header reader w = fold (λ v shard. fold (flight_arrived header reader shard) v (others_of header reader)) w (shards_of header)
+abbrev pub flights_arrived : Header → ClusterNo → Trace → Trace
+flights_arrived header reader t = fold (λ v shard. fold (flight_arrived header reader shard) v (others_of header reader)) t (shards_of header)
 
--- the workflows of batches in order of place, each once
+-- the first batch of each workflow, of batches in order of place
 abbrev pub workflows_behind : Option Batch → List Batch → List Batch
 workflows_behind before [] = []
 workflows_behind None (b ∷ batches) = b ∷ workflows_behind (Some b) batches
 workflows_behind (Some before) (b ∷ batches) =
     if is_of before.domain before.workflow b then workflows_behind (Some before) batches else b ∷ workflows_behind (Some b) batches
 
--- a cell reapplies in each of its workflows, in order
-abbrev pub reapplied_cell : Home → Cell → Cell
-reapplied_cell home cell =
-    fold (λ c b. with_all_written (reapplication_of home b.domain b.workflow c) c) cell (workflows_behind None cell.arrived)
+-- a cell applies signals again in the workflow of a batch
+abbrev pub applied_in : Header → ClusterNo → ℕ → Trace → Batch → Trace
+applied_in header cluster shard t b = record {
+  world = with_cell cluster shard
+    (with_all_written (reapplication_of (home_at header cluster t.world) b.domain b.workflow (cell_at cluster shard t.world)) (cell_at cluster shard t.world)) t.world;
+  notes = t.notes ++ map (applied cluster) (reapplication_of (home_at header cluster t.world) b.domain b.workflow (cell_at cluster shard t.world));
+}
 
--- a cluster reapplies, by shard
-abbrev pub reapplied_all : Header → World → ClusterNo → World
-reapplied_all header w cluster =
-    fold (λ v shard. with_cell cluster shard (reapplied_cell (home_at header cluster v) (cell_at cluster shard v)) v) w (shards_of header)
+-- a cluster reapplies, by shard, then workflow
+abbrev pub reapplied_all : Header → Trace → ClusterNo → Trace
+reapplied_all header t cluster =
+    fold (λ v shard. fold (applied_in header cluster shard) v (workflows_behind None (cell_at cluster shard v.world).arrived)) t (shards_of header)
 
 -- a cluster works: what is in flight to it arrives, it reapplies, and its levels are renewed
-abbrev pub worked : Header → ClusterNo → World → World
-worked header reader w = renewed header (reapplied_all header (flights_arrived header reader w) reader) reader
+abbrev pub worked : Header → ClusterNo → World → Trace
+worked header reader w =
+    quietly (λ v. renewed header v reader) (reapplied_all header (flights_arrived header reader (from_world w)) reader)
+
+-- batches in order of place, each once
+abbrev pub in_order : List Batch → List Batch
+in_order batches = fold (λ ordered b. placed b ordered) [] batches
 
 -- all batches that any cluster has written in a shard, in order of place
 abbrev pub authored : Header → ℕ → World → List Batch
 authored header shard w =
-    fold (λ batches b. placed b batches) []
-    (flat_map (λ cluster. filter_map (batch_there (cell_at cluster shard w).arrived) (cell_at cluster shard w).written) (clusters_of header))
+    in_order (flat_map (λ cluster. filter_map (batch_there (cell_at cluster shard w).arrived) (cell_at cluster shard w).written) (clusters_of header))
 
--- the ancestors of a batch among these, following earlier keys down from the last one: what is wanted next, and those found
+-- following earlier keys down through batches, from the last one to the first: the key that is wanted next, and what was found
 abbrev pub ancestors_over : Batch → Option BatchKey × List Batch → Option BatchKey × List Batch
 ancestors_over b walk = if is_wanted walk.0 b then (earlier b, b ∷ walk.1) else walk
 
@@ -118,35 +162,34 @@ abbrev pub ancestors_down : List Batch → Option BatchKey × List Batch → Opt
 ancestors_down [] walk = walk
 ancestors_down (b ∷ batches) walk = ancestors_over b (ancestors_down batches walk)
 
-abbrev pub ancestors_of : Batch → List Batch → List Batch
-ancestors_of b batches = (ancestors_down (filter (is_of b.domain b.workflow) batches) (earlier b, [])).1
+-- the ancestors of a batch among these
+abbrev pub ancestors_of : List Batch → Batch → List Batch
+ancestors_of batches b = (ancestors_down (filter (is_of b.domain b.workflow) batches) (earlier b, [])).1
 
 -- the batches of a cell that are put off
 abbrev pub put_off_in : Cell → List Batch
 put_off_in cell = filter (λ b. not (is_learned_in cell b)) cell.arrived
 
--- batches go to their places
-abbrev pub all_placed : List Batch → Cell → Cell
-all_placed batches cell = record cell { arrived = fold (λ arrived b. placed b arrived) cell.arrived batches }
+-- the ancestors of what a cell has put off, in order of place
+abbrev pub lacking : Header → ClusterNo → ℕ → World → List Batch
+lacking header reader shard w = in_order (flat_map (ancestors_of (authored header shard w)) (put_off_in (cell_at reader shard w)))
 
--- all ancestors of what is put off arrive, by shard, and the levels are renewed
-abbrev pub resent : Header → ClusterNo → World → World
+-- all ancestors of what is put off arrive, by shard and place, and the levels are renewed
+abbrev pub resent : Header → ClusterNo → World → Trace
 resent header reader w =
-    renewed header
-    (fold (λ v shard. with_cell reader shard (all_placed (flat_map (λ b. ancestors_of b (authored header shard v)) (put_off_in (cell_at reader shard v))) (cell_at reader shard v)) v) w (shards_of header))
-    reader
+    quietly (λ v. renewed header v reader)
+    (fold (λ t shard. fold (batch_arrived reader shard) t (lacking header reader shard t.world)) (from_world w) (shards_of header))
 
 -- the learned batches of a cell that are of one of these domains
 abbrev pub learned_of_domains : List Name → Cell → List Batch
 learned_of_domains domains cell = filter (λ b. is_learned_in cell b && list_any (λ domain. bytes_eq domain b.domain) domains) cell.arrived
 
 -- a reader takes from a source what this has learned of the domains of which it is a member late
-abbrev pub bootstrapped : Header → ClusterNo → World → ClusterNo → World
-bootstrapped header reader w source =
-    renewed header
-    (with_link reader source (λ link. record link { late = [] })
-    (fold (λ v shard. with_cell reader shard (all_placed (learned_of_domains (link_at header reader source v).late (cell_at source shard v)) (cell_at reader shard v)) v) w (shards_of header)))
-    reader
+abbrev pub bootstrapped : Header → ClusterNo → Trace → ClusterNo → Trace
+bootstrapped header reader t source =
+    quietly (λ v. renewed header v reader)
+    (quietly (with_link reader source (λ link. record link { late = [] }))
+    (fold (λ v shard. fold (batch_arrived reader shard) v (learned_of_domains (link_at header reader source v.world).late (cell_at source shard v.world))) t (shards_of header)))
 
 -- a cluster merges the tables of all others, in header order
 abbrev pub merged_all : Header → World → ClusterNo → World
@@ -154,22 +197,22 @@ merged_all header w cluster =
     fold (λ v other. with_table cluster (merged (cluster_at cluster v).table (cluster_at other v).table) v) w (others_of header cluster)
 
 -- the entries of a queue from `done` on that are addressed to a reader
-abbrev pub due : Header → ClusterNo → ClusterNo → ℕ → World → List Sent
-due header reader source shard w =
+abbrev pub due : Header → ClusterNo → ℕ → ClusterNo → World → List Sent
+due header reader shard source w =
     filter (is_addressed reader (cluster_at source w).table) (drop (lane_at header reader source shard w).done (queue_at source shard w))
 
 -- all that is due to a reader arrives, by shard, then source
-abbrev pub due_arrived : Header → World → ClusterNo → World
-due_arrived header w reader =
-    fold (λ v shard. fold (λ u source. with_cell reader shard (all_arrived (due header reader source shard u) (cell_at reader shard u)) u) v (others_of header reader)) w (shards_of header)
+abbrev pub due_arrived : Header → Trace → ClusterNo → Trace
+due_arrived header t reader =
+    fold (λ v shard. fold (λ u source. fold (message_arrived reader shard) u (due header reader shard source u.world)) v (others_of header reader)) t (shards_of header)
 
 -- one round of settlement: tables are merged, members that are late take what they lack, what is due arrives, and all reapply
-abbrev pub settled_once : Header → World → World
-settled_once header w =
+abbrev pub settled_once : Header → Trace → Trace
+settled_once header t =
     fold (reapplied_all header)
     (fold (due_arrived header)
     (fold (λ v reader. fold (bootstrapped header reader) v (others_of header reader))
-    (fold (merged_all header) w (clusters_of header)) (clusters_of header)) (clusters_of header)) (clusters_of header)
+    (quietly (λ w. fold (merged_all header) w (clusters_of header)) t) (clusters_of header)) (clusters_of header)) (clusters_of header)
 
 -- nothing is in flight
 abbrev pub without_flight : Lane → Lane
@@ -182,5 +225,6 @@ abbrev pub without_flights : World → World
 without_flights w = record w { links = map link_without_flights w.links }
 
 -- settlement: two rounds, and then all levels are renewed
-abbrev pub settled : Header → World → World
-settled header w = fold (renewed header) (settled_once header (settled_once header (without_flights w))) (clusters_of header)
+abbrev pub settled : Header → World → Trace
+settled header w =
+    quietly (λ v. fold (renewed header) v (clusters_of header)) (settled_once header (settled_once header (from_world (without_flights w))))

@@ -87,15 +87,15 @@ signalled = commanded two_clusters (cluster_no 0) (codes "alpha") (codes "w1") (
 -- B has pulled both batches and lost the first, and has worked
 abbrev pub with_a_loss : World
 with_a_loss =
-    worked two_clusters (cluster_no 1)
+    (worked two_clusters (cluster_no 1)
     (with_lane (cluster_no 1) (cluster_no 0) 0
     (record (lane_at two_clusters (cluster_no 1) (cluster_no 0) 0 (pulled_all two_clusters (cluster_no 1) (cluster_no 0) signalled)) {
       flight = without_place 0 (lane_at two_clusters (cluster_no 1) (cluster_no 0) 0 (pulled_all two_clusters (cluster_no 1) (cluster_no 0) signalled)).flight })
-    (pulled_all two_clusters (cluster_no 1) (cluster_no 0) signalled))
+    (pulled_all two_clusters (cluster_no 1) (cluster_no 0) signalled))).world
 
 -- B has the run's first batch, has failed the domain over to itself and signalled the run; A has signalled it too
 abbrev pub in_conflict : World
 in_conflict =
     commanded two_clusters (cluster_no 0) (codes "alpha") (codes "w1") (Signal (codes "a1") (codes "x"))
     (commanded two_clusters (cluster_no 1) (codes "alpha") (codes "w1") (Signal (codes "b1") (codes "y"))
-    (with_table (cluster_no 1) (alpha 2 ∷ []) (worked two_clusters (cluster_no 1) (pulled_all two_clusters (cluster_no 1) (cluster_no 0) started))))
+    (with_table (cluster_no 1) (alpha 2 ∷ []) (worked two_clusters (cluster_no 1) (pulled_all two_clusters (cluster_no 1) (cluster_no 0) started)).world))

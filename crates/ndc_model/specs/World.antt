@@ -5,6 +5,8 @@ use Rattle.ndc_domain.specs.Clusters.{count_of}
 use Rattle.ndc_domain.specs.declared.clusters.ClusterNo.{ClusterNo}
 use Rattle.ndc_domain.specs.declared.record.DomainRecord.{DomainRecord}
 use Rattle.ndc_domain.specs.Records.{record_of}
+use Rattle.ndc_event.specs.declared.key.BatchKey.{BatchKey}
+use Rattle.ndc_event.specs.declared.key.RunId.{RunId}
 use Rattle.ndc_event.specs.declared.name.Name.{Name}
 use Rattle.ndc_script.specs.declared.script.Header.{Header}
 use Rattle.ndc_script.specs.Register.{clusters_below}
@@ -13,10 +15,44 @@ use Rattle.ndc_model.specs.Cells.{Cell, empty_cell}
 use Rattle.ndc_model.specs.Queues.{Lane, new_lane, names_cluster, queue_of}
 use Rattle.ndc_model.specs.Writing.{Home}
 
--- a cluster: its domain records, and its cells by shard
+-- a message that was set aside: where it came from, the batch that it was, and the bytes that came
+pub record Letter : Type 0 where
+  pub source : ClusterNo
+  pub domain : Name
+  pub workflow : Name
+  pub key : BatchKey
+  pub bytes : List ℕ
+
+-- an activity: the event that scheduled it
+pub record ActivityRef : Type 0 where
+  pub domain : Name
+  pub workflow : Name
+  pub run : RunId
+  pub scheduled : ℕ
+  pub version : ℕ
+
+-- what was told of an activity: by the version of the teller's record, and counted
+pub record Report : Type 0 where
+  pub activity : ActivityRef
+  pub version : ℕ
+  pub beat : ℕ
+  pub details : Name
+
+-- a handover that is open: the domain, both clusters, both versions, and for each shard how far the old queue has to be done
+pub record Handover : Type 0 where
+  pub domain : Name
+  pub giver : ClusterNo
+  pub taker : ClusterNo
+  pub old : ℕ
+  pub new : ℕ
+  pub places : List ℕ
+
+-- a cluster: its domain records, its cells by shard, what it set aside, and all reports that it told or that a merge brought
 pub record Cluster : Type 0 where
   pub table : List DomainRecord
   pub cells : List Cell
+  pub letters : List Letter
+  pub reports : List Report
 
 -- what a reader has of a source: a lane for each shard, and the domains of which it came to be a member late
 pub record Link : Type 0 where
@@ -25,11 +61,12 @@ pub record Link : Type 0 where
   pub lanes : List Lane
   pub late : List Name
 
--- a world: the clusters in header order, what each reader has of each other cluster, and how far each queue is trimmed
+-- a world: the clusters in header order, what each reader has of each other cluster, how far each queue is trimmed, and the open handovers
 pub record World : Type 0 where
   pub clusters : List Cluster
   pub links : List Link
   pub trimmed : List (List ℕ)
+  pub handovers : List Handover
 
 -- whether two clusters are one
 abbrev pub same_cluster : ClusterNo → ClusterNo → Bool
@@ -55,17 +92,22 @@ others_of header cluster = filter (λ other. not (same_cluster cluster other)) (
 abbrev pub new_link : Header → ClusterNo → ClusterNo → Link
 new_link header reader source = record { reader = reader; source = source; lanes = many header.shards new_lane; late = [] }
 
+-- a cluster in the beginning
+abbrev pub new_cluster : ℕ → Cluster
+new_cluster shards = record { table = []; cells = many shards empty_cell; letters = []; reports = [] }
+
 -- the opening world: nothing is registered, written or sent
 abbrev pub opening_world : Header → World
 opening_world header = record {
-  clusters = map (λ _. record { table = []; cells = many header.shards empty_cell }) (clusters_of header);
+  clusters = map (λ _. new_cluster header.shards) (clusters_of header);
   links = flat_map (λ reader. map (new_link header reader) (others_of header reader)) (clusters_of header);
   trimmed = map (λ _. many header.shards 0) (clusters_of header);
+  handovers = [];
 }
 
 -- the cluster of a number
 abbrev pub cluster_at : ClusterNo → World → Cluster
-cluster_at cluster w = slice_index_or w.clusters cluster.number (record { table = []; cells = [] })
+cluster_at cluster w = slice_index_or w.clusters cluster.number (new_cluster 0)
 
 -- the cell of a cluster for a shard
 abbrev pub cell_at : ClusterNo → ℕ → World → Cell
@@ -91,10 +133,13 @@ link_at header reader source w = link_found header reader source (find (is_link 
 abbrev pub lane_at : Header → ClusterNo → ClusterNo → ℕ → World → Lane
 lane_at header reader source shard w = slice_index_or (link_at header reader source w).lanes shard new_lane
 
+-- a cluster takes the place of another
+abbrev pub with_cluster : ClusterNo → Cluster → World → World
+with_cluster cluster new w = record w { clusters = slice_set w.clusters cluster.number new }
+
 -- a cell takes the place of another
 abbrev pub with_cell : ClusterNo → ℕ → Cell → World → World
-with_cell cluster shard cell w =
-    record w { clusters = slice_set w.clusters cluster.number (record (cluster_at cluster w) { cells = slice_set (cluster_at cluster w).cells shard cell }) }
+with_cell cluster shard cell w = with_cluster cluster (record (cluster_at cluster w) { cells = slice_set (cluster_at cluster w).cells shard cell }) w
 
 -- what a reader has of a source, changed
 abbrev pub with_link : ClusterNo → ClusterNo → (Link → Link) → World → World

@@ -19,15 +19,15 @@ pub fn workflows_live_in_shards()
 pub fn a_lost_message_holds_the_level_back()
     ensures read { (lane_at two_clusters (cluster_no 1) (cluster_no 0) 0 with_a_loss).read ≡ 2 }
     ensures done { (lane_at two_clusters (cluster_no 1) (cluster_no 0) 0 with_a_loss).done ≡ 0 }
-    ensures again { (lane_at two_clusters (cluster_no 1) (cluster_no 0) 0 (worked two_clusters (cluster_no 1) (pulled_all two_clusters (cluster_no 1) (cluster_no 0) (rewound two_clusters (cluster_no 1) (cluster_no 0) with_a_loss)))).done ≡ 2 }
-    ensures sent { (cell_at (cluster_no 1) 0 (resent two_clusters (cluster_no 1) with_a_loss)).arrived ≡ begun ∷ first_signal ∷ [] }
+    ensures again { (lane_at two_clusters (cluster_no 1) (cluster_no 0) 0 (worked two_clusters (cluster_no 1) (pulled_all two_clusters (cluster_no 1) (cluster_no 0) (rewound two_clusters (cluster_no 1) (cluster_no 0) with_a_loss))).world).done ≡ 2 }
+    ensures sent { (cell_at (cluster_no 1) 0 (resent two_clusters (cluster_no 1) with_a_loss).world).arrived ≡ begun ∷ first_signal ∷ [] }
 {}
 
 /// After a settlement both clusters hold the same batches and the same record, and the signal of the branch that
 /// lost is applied again.
 #[tactic(auto, unfolding(ndc_state::specs::Table::row, ndc_reapply::specs::Reapplied::reapplied, ndc_command::specs::Plan::plan_of, ndc_command::specs::Plan::start_of, ndc_command::specs::Plan::plan_below, ndc_command::specs::Plan::written, ndc_command::specs::Plan::judged_at, ndc_command::specs::Plan::within, ndc_command::specs::Stage::refuse, ndc_domain::specs::Members::numbers, ndc_domain::specs::Members::numbers_where))]
 pub fn a_settlement_makes_clusters_alike()
-    ensures first { (cell_at (cluster_no 0) 0 (settled two_clusters in_conflict)).arrived ≡ begun ∷ first_signal ∷ other_signal ∷ applied_again ∷ [] }
-    ensures second { (cell_at (cluster_no 1) 0 (settled two_clusters in_conflict)).arrived ≡ begun ∷ first_signal ∷ other_signal ∷ applied_again ∷ [] }
-    ensures table { (cluster_at (cluster_no 0) (settled two_clusters in_conflict)).table ≡ alpha 2 ∷ [] }
+    ensures first { (cell_at (cluster_no 0) 0 (settled two_clusters in_conflict).world).arrived ≡ begun ∷ first_signal ∷ other_signal ∷ applied_again ∷ [] }
+    ensures second { (cell_at (cluster_no 1) 0 (settled two_clusters in_conflict).world).arrived ≡ begun ∷ first_signal ∷ other_signal ∷ applied_again ∷ [] }
+    ensures table { (cluster_at (cluster_no 0) (settled two_clusters in_conflict).world).table ≡ alpha 2 ∷ [] }
 {}
