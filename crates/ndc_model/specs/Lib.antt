@@ -4,4 +4,6 @@ pub mod Writing
 pub mod Queues
 pub mod World
 pub mod Moves
+pub mod Texts
+pub mod Steps
 pub mod Worked
