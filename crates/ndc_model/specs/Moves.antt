@@ -1,5 +1,5 @@
 -- How messages move: pulls, work, resending, bootstrap, settlement.
-use Rattle.std.specs.Prelude.{ℕ, ◌*◌, ◌%◌, ◌^◌, Bool, ◌&&◌, not, List, [], ◌∷◌, ◌++◌, map, drop, slice_index_or, slice_set, Option, Some, None, Ok, if◌then◌else◌}
+use Rattle.std.specs.Prelude.{ℕ, ◌*◌, ◌%◌, ◌^◌, ◌&&◌, not, List, [], ◌∷◌, ◌++◌, map, drop, slice_set, Option, Some, None, if◌then◌else◌}
 use Rattle.std.specs.List.{filter, filter_map, flat_map, fold, list_any}
 use Rattle.std.specs.Int.Bits.{bit_xor}
 use Rattle.std.specs.Str.{bytes_eq}
@@ -11,13 +11,12 @@ use Rattle.ndc_event.specs.declared.key.BatchKey.{BatchKey}
 use Rattle.ndc_event.specs.declared.name.Name.{Name}
 use Rattle.ndc_script.specs.declared.script.Header.{Header}
 use Rattle.ndc_sets.specs.Sets.{earlier}
-use Rattle.ndc_sets.specs.Learned.{has_key}
 use Rattle.ndc_sets.specs.Paths.{is_wanted}
 use Rattle.ndc_model.specs.Arrival.{Arrival, known, put_off, learned_now, Sent, arrival_of, arrived_at, has_arrived}
 use Rattle.ndc_model.specs.Cells.{Cell, is_of, placed}
 use Rattle.ndc_model.specs.Queues.{Lane, after_pull, after_renewal, after_rewind, batch_there, is_addressed, is_learned_in, trim_level}
 use Rattle.ndc_model.specs.World.{Link, World, cluster_at, cell_at, queue_at, link_at, lane_at, with_cell, with_link, with_lane, with_table, home_at, clusters_of, others_of, shards_of}
-use Rattle.ndc_model.specs.Writing.{Home, cell_after, command_of, reapplication_of, with_all_written}
+use Rattle.ndc_model.specs.Writing.{cell_after, command_of, reapplication_of, with_all_written}
 
 -- the hash of a workflow's place: over the domain's bytes, a zero byte and the workflow's bytes
 abbrev pub hashed : ℕ → ℕ → ℕ
@@ -131,7 +130,7 @@ workflows_behind (Some before) (b ∷ batches) =
 abbrev pub applied_in : Header → ClusterNo → ℕ → Trace → Batch → Trace
 applied_in header cluster shard t b = record {
   world = with_cell cluster shard
-    (with_all_written (reapplication_of (home_at header cluster t.world) b.domain b.workflow (cell_at cluster shard t.world)) (cell_at cluster shard t.world)) t.world;
+      (with_all_written (reapplication_of (home_at header cluster t.world) b.domain b.workflow (cell_at cluster shard t.world)) (cell_at cluster shard t.world)) t.world;
   notes = t.notes ++ map (applied cluster) (reapplication_of (home_at header cluster t.world) b.domain b.workflow (cell_at cluster shard t.world));
 }
 

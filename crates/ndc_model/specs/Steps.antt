@@ -1,13 +1,11 @@
 -- What lines on domains, queues and workflows leave and answer.
-use Rattle.std.specs.Prelude.{ℕ, ◌+◌, ◌-◌, Bool, true, false, ◌&&◌, ◌||◌, not, nat_lt, List, [], ◌∷◌, ◌++◌, map, length, sum, find, codes, decimal, slice_index_or, Option, Some, None, Result, Ok, Err, if◌then◌else◌}
-use Rattle.std.specs.List.{filter, filter_map, flat_map, fold, list_any}
-use Rattle.std.specs.Str.{bytes_eq}
+use Rattle.std.specs.Prelude.{ℕ, ◌-◌, List, [], ◌∷◌, ◌++◌, map, length, sum, codes, decimal, slice_index_or, Option, Some, None, Result, Ok, Err}
+use Rattle.std.specs.List.{filter, flat_map}
 use Rattle.ndc_command.specs.declared.command.Command.{Command}
 use Rattle.ndc_command.specs.declared.refusal.CommandError.{CommandError}
 use Rattle.ndc_command.specs.declared.refusal.CommandError.TheVariants.{Refused, Memory}
 use Rattle.ndc_domain.specs.Clusters.{writer_of}
 use Rattle.ndc_domain.specs.Merge.{merge_count, merged}
-use Rattle.ndc_domain.specs.Records.{failover_of, join_of, record_of, register_of, retain_of}
 use Rattle.ndc_domain.specs.declared.clusters.ClusterNo.{ClusterNo}
 use Rattle.ndc_domain.specs.declared.record.DomainError.{DomainError}
 use Rattle.ndc_domain.specs.declared.record.DomainError.TheVariants as register
@@ -19,27 +17,23 @@ use Rattle.ndc_domain.specs.declared.record.JoinError.TheVariants as join
 use Rattle.ndc_domain.specs.declared.record.RetainError.{RetainError}
 use Rattle.ndc_domain.specs.declared.record.RetainError.TheVariants as retain
 use Rattle.ndc_event.specs.declared.batch.Batch.{Batch}
-use Rattle.ndc_event.specs.declared.batch.Event.{Event}
 use Rattle.ndc_event.specs.declared.key.BatchKey.{BatchKey}
 use Rattle.ndc_event.specs.declared.name.Name.{Name}
 use Rattle.ndc_history.specs.declared.item.Item.{Item}
 use Rattle.ndc_script.specs.declared.script.Header.{Header}
 use Rattle.ndc_sets.specs.Branches.{workflow_tip}
 use Rattle.ndc_sets.specs.Current.{run_status, state_to}
-use Rattle.ndc_sets.specs.Learned.{has_key}
 use Rattle.ndc_sets.specs.Paths.{events_to, first_id, last_item_of, path_to}
 use Rattle.ndc_sets.specs.View.{view_of}
-use Rattle.ndc_sets.specs.declared.view.RunView.{RunView}
-use Rattle.ndc_sets.specs.declared.view.View.{View}
 use Rattle.ndc_state.specs.Replay.{history_of}
 use Rattle.ndc_state.specs.Text.{state_text}
 use Rattle.ndc_event.specs.Key.{run_text}
-use Rattle.ndc_model.specs.Arrival.{Arrival, known, put_off, learned_now, Sent}
+use Rattle.ndc_model.specs.Arrival.{known, put_off, learned_now, Sent}
 use Rattle.ndc_model.specs.Cells.{Cell, arrived_of, is_of, learned_of, missing_of}
-use Rattle.ndc_model.specs.Moves.{Note, came, applied, Trace, authored, pulled_all, pulled_shard, put_off_in, renewed, resent, bootstrapped, rewound, settled, shard_of, trim_to, trimmed_all, worked, from_world}
+use Rattle.ndc_model.specs.Moves.{Note, came, applied, Trace, authored, pulled_all, pulled_shard, put_off_in, resent, bootstrapped, settled, shard_of, trim_to, trimmed_all, worked, from_world}
 use Rattle.ndc_model.specs.Queues.{after_loss, after_move, after_repeat, is_learned_in, pulled}
 use Rattle.ndc_model.specs.Texts.{event_line, item_text, key_text, ok, refusal_words, refused, run_lines, status_text, with_commas}
-use Rattle.ndc_model.specs.World.{World, cell_at, cluster_at, clusters_of, home_at, lane_at, link_at, others_of, queue_at, shards_of, with_cell, with_lane, with_table}
+use Rattle.ndc_model.specs.World.{World, cell_at, cluster_at, home_at, lane_at, link_at, queue_at, shards_of, with_cell, with_lane, with_table}
 use Rattle.ndc_model.specs.Writing.{cell_after, command_of, reset_at}
 
 -- a batch that became learned at a cluster

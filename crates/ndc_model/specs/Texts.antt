@@ -1,5 +1,5 @@
 -- How answers are printed.
-use Rattle.std.specs.Prelude.{ℕ, Bool, true, false, List, [], ◌∷◌, ◌++◌, map, codes, decimal, Option, Some, None, if◌then◌else◌}
+use Rattle.std.specs.Prelude.{ℕ, Bool, true, false, List, [], ◌∷◌, ◌++◌, map, codes, decimal, Option, Some, None}
 use Rattle.std.specs.List.{filter, flat_map}
 use Rattle.ndc_command.specs.declared.refusal.Refusal.{Refusal}
 use Rattle.ndc_command.specs.declared.refusal.Refusal.TheVariants.{UnknownDomain, NotActive, Behind, NoWorkflow, AlreadyRunning, Closed, NoDecision, DecisionNotStarted, DecisionStarted, NoSuchActivity, ActivityNotStarted, ActivityStarted, DuplicateActivity, NoSuchTimer, DuplicateTimer, NoSuchChild, ChildNotStarted, ChildStarted, DuplicateChild, HistoryFull, NoSuchPoint}

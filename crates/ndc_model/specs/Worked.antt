@@ -90,7 +90,8 @@ with_a_loss =
     (worked two_clusters (cluster_no 1)
     (with_lane (cluster_no 1) (cluster_no 0) 0
     (record (lane_at two_clusters (cluster_no 1) (cluster_no 0) 0 (pulled_all two_clusters (cluster_no 1) (cluster_no 0) signalled)) {
-      flight = without_place 0 (lane_at two_clusters (cluster_no 1) (cluster_no 0) 0 (pulled_all two_clusters (cluster_no 1) (cluster_no 0) signalled)).flight })
+      flight = without_place 0 (lane_at two_clusters (cluster_no 1) (cluster_no 0) 0 (pulled_all two_clusters (cluster_no 1) (cluster_no 0) signalled)).flight;
+    })
     (pulled_all two_clusters (cluster_no 1) (cluster_no 0) signalled))).world
 
 -- B has the run's first batch, has failed the domain over to itself and signalled the run; A has signalled it too
