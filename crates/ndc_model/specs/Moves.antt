@@ -3,7 +3,6 @@ use Rattle.std.specs.Prelude.{ℕ, ◌*◌, ◌%◌, ◌^◌, ◌&&◌, not, Lis
 use Rattle.std.specs.List.{filter, filter_map, flat_map, fold, list_any}
 use Rattle.std.specs.Int.Bits.{bit_xor}
 use Rattle.std.specs.Str.{bytes_eq}
-use Rattle.ndc_command.specs.declared.command.Command.{Command}
 use Rattle.ndc_domain.specs.declared.clusters.ClusterNo.{ClusterNo}
 use Rattle.ndc_domain.specs.Merge.{merged}
 use Rattle.ndc_event.specs.declared.batch.Batch.{Batch}
@@ -16,7 +15,7 @@ use Rattle.ndc_model.specs.Arrival.{Arrival, known, put_off, learned_now, Sent, 
 use Rattle.ndc_model.specs.Cells.{Cell, is_of, placed}
 use Rattle.ndc_model.specs.Queues.{Lane, after_pull, after_renewal, after_rewind, batch_there, is_addressed, is_learned_in, trim_level}
 use Rattle.ndc_model.specs.World.{Link, World, cluster_at, cell_at, queue_at, link_at, lane_at, with_cell, with_link, with_lane, with_table, home_at, clusters_of, others_of, shards_of}
-use Rattle.ndc_model.specs.Writing.{cell_after, command_of, reapplication_of, with_all_written}
+use Rattle.ndc_model.specs.Writing.{reapplication_of, with_all_written}
 
 -- the hash of a workflow's place: over the domain's bytes, a zero byte and the workflow's bytes
 abbrev pub hashed : ℕ → ℕ → ℕ
@@ -28,12 +27,6 @@ hash_of domain workflow = fold hashed 2166136261 (domain ++ 0 ∷ workflow)
 -- the shard in which a workflow lives
 abbrev pub shard_of : Name → Name → ℕ → ℕ
 shard_of domain workflow shards = hash_of domain workflow % shards
-
--- a command to a workflow at a cluster: what it writes goes to the workflow's cell, and a refusal changes nothing
-abbrev pub commanded : Header → ClusterNo → Name → Name → Command → World → World
-commanded header cluster domain workflow command w =
-    with_cell cluster (shard_of domain workflow header.shards)
-    (cell_after (command_of (home_at header cluster w) domain workflow command (cell_at cluster (shard_of domain workflow header.shards) w)) (cell_at cluster (shard_of domain workflow header.shards) w)) w
 
 -- a pull of a reader from a source for a shard: all, or at most so many
 abbrev pub pulled_shard : Header → ClusterNo → ClusterNo → Option ℕ → World → ℕ → World

@@ -10,7 +10,8 @@ use Rattle.ndc_model.specs.Cells.{Cell}
 use Rattle.ndc_model.specs.Writing.{Home}
 use Rattle.ndc_model.specs.Queues.{without_place}
 use Rattle.ndc_model.specs.World.{World, lane_at, opening_world, with_lane, with_table}
-use Rattle.ndc_model.specs.Moves.{commanded, pulled_all, worked}
+use Rattle.ndc_model.specs.Moves.{pulled_all, worked}
+use Rattle.ndc_model.specs.Steps.{command_step}
 use Rattle.ndc_script.specs.declared.script.Header.{Header}
 use Rattle.ndc_command.specs.declared.command.Command.TheVariants.{Start, Signal}
 
@@ -79,10 +80,10 @@ abbrev pub told : ℕ → World → World
 told version w = with_table (cluster_no 1) (alpha version ∷ []) (with_table (cluster_no 0) (alpha 1 ∷ []) w)
 
 abbrev pub started : World
-started = commanded two_clusters (cluster_no 0) (codes "alpha") (codes "w1") (Start (codes "order")) (told 1 (opening_world two_clusters))
+started = (command_step two_clusters (cluster_no 0) (codes "alpha") (codes "w1") (Start (codes "order")) (told 1 (opening_world two_clusters))).world
 
 abbrev pub signalled : World
-signalled = commanded two_clusters (cluster_no 0) (codes "alpha") (codes "w1") (Signal (codes "a1") (codes "x")) started
+signalled = (command_step two_clusters (cluster_no 0) (codes "alpha") (codes "w1") (Signal (codes "a1") (codes "x")) started).world
 
 -- B has pulled both batches and lost the first, and has worked
 abbrev pub with_a_loss : World
@@ -97,6 +98,6 @@ with_a_loss =
 -- B has the run's first batch, has failed the domain over to itself and signalled the run; A has signalled it too
 abbrev pub in_conflict : World
 in_conflict =
-    commanded two_clusters (cluster_no 0) (codes "alpha") (codes "w1") (Signal (codes "a1") (codes "x"))
-    (commanded two_clusters (cluster_no 1) (codes "alpha") (codes "w1") (Signal (codes "b1") (codes "y"))
-    (with_table (cluster_no 1) (alpha 2 ∷ []) (worked two_clusters (cluster_no 1) (pulled_all two_clusters (cluster_no 1) (cluster_no 0) started)).world))
+    (command_step two_clusters (cluster_no 0) (codes "alpha") (codes "w1") (Signal (codes "a1") (codes "x"))
+    (command_step two_clusters (cluster_no 1) (codes "alpha") (codes "w1") (Signal (codes "b1") (codes "y"))
+    (with_table (cluster_no 1) (alpha 2 ∷ []) (worked two_clusters (cluster_no 1) (pulled_all two_clusters (cluster_no 1) (cluster_no 0) started)).world)).world).world
