@@ -1,5 +1,5 @@
 -- Actions judged at the states that events leave, and by the names that are pending.
-use Rattle.std.proofs.Common.{◌≡◌, ℕ, Bool, true, false, not, is_some, List, [], ◌∷◌, ◌++◌, Result, Ok, Err, refl, ap, sym, subst, ◌∙◌}
+use Rattle.std.proofs.Common.{◌≡◌, ℕ, Bool, true, false, is_some, List, [], ◌∷◌, ◌++◌, Result, Ok, Err, refl, ap, sym, subst, ◌∙◌}
 use Rattle.ndc_event.specs.declared.key.RunId.{RunId}
 use Rattle.ndc_event.specs.declared.kind.EventKind.{EventKind}
 use Rattle.ndc_event.specs.declared.kind.EventKind.TheVariants.{DecisionTaskCompleted}
@@ -11,32 +11,31 @@ use Rattle.ndc_command.specs.declared.command.Action.TheVariants.{Activity, Time
 use Rattle.ndc_command.specs.declared.refusal.CommandError.{CommandError}
 use Rattle.ndc_command.specs.declared.refusal.CommandError.TheVariants.{Memory}
 use Rattle.ndc_command.specs.declared.refusal.Refusal.{Refusal}
-use Rattle.ndc_command.specs.declared.refusal.Refusal.TheVariants.{Closed, NoDecision, DecisionNotStarted, DuplicateTimer}
-use Rattle.ndc_command.specs.Actions.{names_of, action_kind, action_refusal, judged, behind, after_kind, actions_written}
+use Rattle.ndc_command.specs.declared.refusal.Refusal.TheVariants.{NoDecision, DecisionNotStarted}
+use Rattle.ndc_command.specs.Actions.{names_of, action_kind, judged, behind, after_kind, actions_written}
 use Rattle.ndc_command.specs.Judge.{noted, actions_by}
 use Rattle.ndc_command.specs.Plan.{judged_at, written}
-use Rattle.ndc_command.specs.Seen.{are_apart}
 use Rattle.ndc_command.specs.Stage.{stage_of, needs_started, refuse, allowed, ◌>>◌}
 use Rattle.ndc_event.specs.Outcome.{Gives}
 use Rattle.ndc_command.specs.declared.stage.Stage.{Stage}
 use Rattle.ndc_command.specs.declared.command.Command.TheVariants.{Respond}
 use Rattle.ndc_command.proofs.JudgeLemmas.{behind-behind}
-use Rattle.ndc_command.proofs.NameLemmas.{pending-put, pending-without, apart-put, apart-without}
+use Rattle.ndc_command.proofs.NameLemmas.{pending-put, pending-without}
 use Rattle.ndc_command.proofs.TipLemmas.{judged-like}
 
 -- what is pending behind an action's event is what the action makes of what was pending
-names-after : (version : ℕ) (next_run : RunId) (s : StateValue) (action : Action) → are_apart s.timers ≡ true
+names-after : (version : ℕ) (next_run : RunId) (s : StateValue) (action : Action)
     → names_of (after_kind version s (action_kind next_run action)) ≡ noted action (names_of s)
 unfolding row action_kind noted
-names-after version next_run s (Activity id _) apart = λ i. record (names_of s) { activity = λ q. pending-put q id (scheduled_by s.next) s.activities i }
-names-after version next_run s (Timer id) apart = λ i. record (names_of s) { timer = λ q. pending-put q id (scheduled_by s.next) s.timers i }
-names-after version next_run s (Untimer id) apart = λ i. record (names_of s) { timer = λ q. pending-without q id s.timers apart i }
-names-after version next_run s (Child id _) apart = λ i. record (names_of s) { child = λ q. pending-put q id (scheduled_by s.next) s.children i }
-names-after version next_run s (Marker _) apart = refl
-names-after version next_run s (Complete _) apart = refl
-names-after version next_run s (Fail _) apart = refl
-names-after version next_run s Canceled apart = refl
-names-after version next_run s (Continue _) apart = refl
+names-after version next_run s (Activity id _) = λ i. record (names_of s) { activity = λ q. pending-put q id (scheduled_by s.next) s.activities i }
+names-after version next_run s (Timer id) = λ i. record (names_of s) { timer = λ q. pending-put q id (scheduled_by s.next) s.timers i }
+names-after version next_run s (Untimer id) = λ i. record (names_of s) { timer = λ q. pending-without q id s.timers i }
+names-after version next_run s (Child id _) = λ i. record (names_of s) { child = λ q. pending-put q id (scheduled_by s.next) s.children i }
+names-after version next_run s (Marker _) = refl
+names-after version next_run s (Complete _) = refl
+names-after version next_run s (Fail _) = refl
+names-after version next_run s Canceled = refl
+names-after version next_run s (Continue _) = refl
 
 -- a refusal that is not given has its test fail
 pub not_refused : (test : Bool) (refusal : Refusal) → refuse test refusal ≡ allowed → test ≡ false
@@ -49,46 +48,29 @@ pub allowed_then : {A : Type 0} (first : Result (Unit {0}) CommandError) (rest :
 allowed_then (Ok tt) rest x h = (refl, h)
 allowed_then (Err error) rest x h = absurd (cc)
 
--- an action that is not forbidden leaves the timers apart
-apart-after : (version : ℕ) (next_run : RunId) (s : StateValue) (action : Action) → action_refusal (names_of s) action ≡ allowed → are_apart s.timers ≡ true
-    → are_apart (after_kind version s (action_kind next_run action)).timers ≡ true
-unfolding row action_kind action_refusal
-apart-after version next_run s (Timer id) h apart = apart-put id (scheduled_by s.next) s.timers apart (not_refused (is_some (pending_of id s.timers)) DuplicateTimer h)
-apart-after version next_run s (Untimer id) h apart = apart-without id s.timers apart
-apart-after version next_run s (Activity _ _) h apart = apart
-apart-after version next_run s (Child _ _) h apart = apart
-apart-after version next_run s (Marker _) h apart = apart
-apart-after version next_run s (Complete _) h apart = apart
-apart-after version next_run s (Fail _) h apart = apart
-apart-after version next_run s Canceled h apart = apart
-apart-after version next_run s (Continue _) h apart = apart
-
 -- the actions are the same in both ways
-pub actions-joined : (version : ℕ) (next_run : RunId) (s : StateValue) (actions : List Action) → are_apart s.timers ≡ true
+pub actions-joined : (version : ℕ) (next_run : RunId) (s : StateValue) (actions : List Action)
     → actions_written version next_run s actions ≡ actions_by next_run (names_of s) actions
 unfolding actions_by
-actions-joined version next_run s [] apart = refl
-actions-joined version next_run s (action ∷ actions) apart =
-    by (judged (names_of s) action) refl (λ more. actions-joined version next_run (after_kind version s (action_kind next_run action)) actions more)
+actions-joined version next_run s [] = refl
+actions-joined version next_run s (action ∷ actions) =
+    by (judged (names_of s) action) (actions-joined version next_run (after_kind version s (action_kind next_run action)) actions)
   where
     next : StateValue
     next = after_kind version s (action_kind next_run action)
 
-    by : (r : Result (Unit {0}) CommandError) → judged (names_of s) action ≡ r
-        → (are_apart next.timers ≡ true → actions_written version next_run next actions ≡ actions_by next_run (names_of next) actions)
+    by : (r : Result (Unit {0}) CommandError) → actions_written version next_run next actions ≡ actions_by next_run (names_of next) actions
         → (r >> behind (action_kind next_run action ∷ []) (actions_written version next_run next actions))
         ≡ (r >> behind (action_kind next_run action ∷ []) (actions_by next_run (noted action (names_of s)) actions))
-    by (Ok tt) h rest =
-        let own : action_refusal (names_of s) action ≡ allowed = (allowed_then (refuse (not s.running) Closed) (action_refusal (names_of s) action) tt h).1 in
-        ap (behind (action_kind next_run action ∷ []))
-        (rest (apart-after version next_run s action own apart) ∙ ap (λ names. actions_by next_run names actions) (names-after version next_run s action apart))
-    by (Err error) h rest = refl
+    by (Ok tt) rest =
+        ap (behind (action_kind next_run action ∷ [])) (rest ∙ ap (λ names. actions_by next_run names actions) (names-after version next_run s action))
+    by (Err error) rest = refl
 
 -- behind the decision that completes at the tip, the same names are pending as at the tip
-pub response_joined : (version version' : ℕ) (next_run : RunId) (s : StateValue) (actions : List Action) → are_apart s.timers ≡ true
+pub response_joined : (version version' : ℕ) (next_run : RunId) (s : StateValue) (actions : List Action)
     → actions_written version next_run (after_kind version (judged_at s version') DecisionTaskCompleted) actions ≡ actions_by next_run (names_of s) actions
 unfolding row
-response_joined version version' next_run s actions apart =
+response_joined version version' next_run s actions =
     let like = judged-like s version' in
     let t : StateValue = judged_at s version' in
     let same : names_of t ≡ names_of s = λ i. record {
@@ -97,18 +79,18 @@ response_joined version version' next_run s actions apart =
       timer = λ q. is_some (pending_of q (like.timers i));
       child = λ q. is_some (pending_of q (like.children i));
     } in
-    actions-joined version next_run (after_kind version t DecisionTaskCompleted) actions (ap are_apart like.timers ∙ apart)
+    actions-joined version next_run (after_kind version t DecisionTaskCompleted) actions
     ∙ ap (λ names. actions_by next_run names actions) same
 
 -- what a response writes below the tip, as its actions are judged by names
-pub responded : (version : ℕ) (next_run : RunId) (s : StateValue) (stage : Stage) (actions listed : List Action) (before pushed : List EventKind) → are_apart s.timers ≡ true
+pub responded : (version : ℕ) (next_run : RunId) (s : StateValue) (stage : Stage) (actions listed : List Action) (before pushed : List EventKind)
     → stage ≡ stage_of (judged_at s version).decision → needs_started stage NoDecision DecisionNotStarted ≡ allowed → listed ≡ actions → pushed ≡ before ++ DecisionTaskCompleted ∷ []
     → behind pushed (actions_by next_run (names_of s) listed) ≡ behind before (written version next_run (judged_at s version) (Respond actions))
 unfolding written
-responded version next_run s stage actions listed before pushed apart is started same push =
+responded version next_run s stage actions listed before pushed is started same push =
     let found : needs_started (stage_of (judged_at s version).decision) NoDecision DecisionNotStarted ≡ allowed = ap (λ z. needs_started z NoDecision DecisionNotStarted) (sym is) ∙ started in
     rw (push, same, found) (behind-behind before (DecisionTaskCompleted ∷ []) (actions_by next_run (names_of s) actions)
-    ∙ ap (λ rest. behind before (behind (DecisionTaskCompleted ∷ []) rest)) (sym (response_joined version version next_run s actions apart)))
+    ∙ ap (λ rest. behind before (behind (DecisionTaskCompleted ∷ []) rest)) (sym (response_joined version version next_run s actions)))
 
 -- an answer that is another one
 pub gives_same : {X Y : Type 0} (view : X → Y) (result : Result X CommandError) (one two : Result Y CommandError) → one ≡ two → Gives Memory view result one → Gives Memory view result two

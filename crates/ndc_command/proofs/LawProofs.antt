@@ -1,9 +1,8 @@
 -- The laws of planning.
 use Rattle.std.proofs.Common.{◌≡◌, ◌≤◌, ℕ, ◌+◌, ◌-◌, ◌<◌, Bool, true, false, ◌&&◌, ◌==◌, not, nat_lt, List, [], ◌∷◌, ◌++◌, length, Option, None, Some, Result, Ok, Err, codes, if◌then◌else◌, All, refl, ap, sym, subst, ◌∙◌, arith}
-use Rattle.std.proofs.lemmas.Bool.{eqb-true}
+use Rattle.std.proofs.lemmas.Bool.{eqb-true, and_parts}
 use Rattle.std.proofs.lemmas.Bool.Decides.{nat_tests}
 use Rattle.std.proofs.lemmas.List.Folds.{list_any_none}
-use Rattle.ndc_event.proofs.Tests.{both}
 use Rattle.ndc_event.specs.declared.key.Origin.{Origin}
 use Rattle.ndc_event.specs.declared.key.RunId.{RunId}
 use Rattle.ndc_event.specs.declared.kind.EventKind.{EventKind}
@@ -79,8 +78,8 @@ unlisted s t version fresh run later same = list_any_none (same_origin new) t.or
         by : (b : Bool) → same_origin new o ≡ b → b ≡ false
         by false e = refl
         by true e =
-            let p = both ((t.run.value == o.run.value) && (t.next == o.event)) (version == o.version) e in
-            let q = both (t.run.value == o.run.value) (t.next == o.event) p.0 in
+            let p = and_parts ((t.run.value == o.run.value) && (t.next == o.event)) (version == o.version) e in
+            let q = and_parts (t.run.value == o.run.value) (t.next == o.event) p.0 in
             let value : t.run.value ≡ o.run.value = eqb-true t.run.value o.run.value q.0 in
             let is_run : t.run ≡ o.run = ap (λ v. record { value = v }) value in
             let event : t.next ≡ o.event = eqb-true t.next o.event q.1 in
@@ -97,7 +96,7 @@ close-allowed s version later running = by (is_failover_close_due s version) ref
     by : (due : Bool) → is_failover_close_due s version ≡ due → AreAllowed version s (if due then close else [])
     by true e = (
       rule-none version s (kind.DecisionTaskFailed (codes "failoverClose")) refl later running refl
-          (ap (λ b. needs b rule.Task) (both (nat_lt s.version version) (is_started s.decision) e).1),
+          (ap (λ b. needs b rule.Task) (and_parts (nat_lt s.version version) (is_started s.decision) e).1),
       scheduling version (after_kind version s (kind.DecisionTaskFailed (codes "failoverClose"))) (omega arith) running refl,
     )
     by false e = tt

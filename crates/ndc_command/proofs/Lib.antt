@@ -1,7 +1,6 @@
 pub mod TipLemmas
 pub mod JudgeLemmas
 pub mod NameLemmas
-pub mod SeenLemmas
 pub mod JoinLemmas
 pub mod AllowedLemmas
 pub mod WrittenLemmas

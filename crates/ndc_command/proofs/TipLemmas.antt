@@ -1,6 +1,6 @@
 -- The state at which a command is judged, against that of the tip.
 use Rattle.std.proofs.Common.{◌≡◌, ◌≤◌, ℕ, Bool, true, false, nat_lt, is_some, List, [], ◌∷◌, ◌++◌, append_assoc, Option, None, Some, codes, if◌then◌else◌, refl, ap, sym, ◌∙◌, arith}
-use Rattle.ndc_event.proofs.Tests.{both}
+use Rattle.std.proofs.lemmas.Bool.{and_parts}
 use Rattle.ndc_event.specs.declared.kind.EventKind.{EventKind}
 use Rattle.ndc_event.specs.declared.kind.EventKind.TheVariants.{DecisionTaskScheduled, DecisionTaskFailed}
 use Rattle.ndc_state.specs.declared.pendings.Pending.{Pending}
@@ -39,7 +39,7 @@ judged-like s version = by (is_failover_close_due s version) refl
 
     by : (due : Bool) → is_failover_close_due s version ≡ due → IsJudgedLike s (after_kinds version s (if due then close else [])) due
     by true e =
-        let pending : is_some s.decision ≡ true = started-pending s.decision (both (nat_lt s.version version) (is_started s.decision) e).1 in
+        let pending : is_some s.decision ≡ true = started-pending s.decision (and_parts (nat_lt s.version version) (is_started s.decision) e).1 in
         record {
           run = refl;
           next = omega arith;

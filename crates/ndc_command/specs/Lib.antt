@@ -3,5 +3,4 @@ pub mod Actions
 pub mod Plan
 pub mod Tip
 pub mod Judge
-pub mod Seen
 pub mod Laws

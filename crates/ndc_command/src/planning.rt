@@ -3,7 +3,6 @@ ghost use Rattle.ndc_event.specs.Outcome.{Gives};
 ghost use Rattle.ndc_command.specs.declared.refusal.CommandError.TheVariants.{Memory};
 ghost use Rattle.ndc_command.specs.declared.command.Command.TheVariants.{Start};
 ghost use Rattle.ndc_command.specs.Plan.{plan_of, plan_below, plan_in_run, start_of, within};
-ghost use Rattle.ndc_command.specs.Seen.{HasSeenEvents, are_apart};
 ghost use Rattle.std.specs.Option.{option_copied};
 
 use crate::command::Command;
@@ -55,7 +54,6 @@ fn plan_below(
     limit: u64,
     next_run: RunId,
 ) -> Result<Vec<EventKind>, CommandError>
-    requires { IsTrue (are_apart state.now.timers) }
     ensures { Gives Memory (λ kinds. kinds.items) result (plan_below state.now command.now version limit next_run) }
 {
     refuse(!state.is_running(), Refusal::Closed)?;
@@ -81,7 +79,6 @@ fn plan_in_run(
     limit: u64,
     next_run: RunId,
 ) -> Result<Vec<EventKind>, CommandError>
-    requires { IfSome (option_copied state) HasSeenEvents }
     ensures { Gives Memory (λ kinds. kinds.items) result (plan_in_run (option_copied state.entry) command.now version limit next_run) }
 {
     match state {
@@ -114,7 +111,6 @@ pub fn plan(
     limit: u64,
     next_run: RunId,
 ) -> Result<Vec<EventKind>, CommandError>
-    requires { IfSome (option_copied state) HasSeenEvents }
     ensures { Gives Memory (λ kinds. kinds.items) result (plan_of (option_copied state.entry) command.now version limit next_run) }
 {
     match command {

@@ -1,5 +1,4 @@
 ghost use Rattle.std.specs.Prelude.{◌≤◌, ◌^◌, All, IfOk, IfSome};
-ghost use Rattle.ndc_command.specs.Seen.{HasSeenEvents};
 
 use super::*;
 use ndc_event::{Event, EventKind, Name, RunId};
@@ -77,9 +76,7 @@ fn events(alloc: Global, words: &str) -> Result<Vec<Event>, AllocError>
 }
 
 // The state that the events of words leave, none for `-`.
-fn tip(alloc: Global, words: &str) -> Result<Option<State>, AllocError>
-    ensures { IfOk result (λ tip. IfSome tip HasSeenEvents) }
-{
+fn tip(alloc: Global, words: &str) -> Result<Option<State>, AllocError> {
     if words == "-" {
         return Ok(None);
     }
@@ -89,9 +86,6 @@ fn tip(alloc: Global, words: &str) -> Result<Option<State>, AllocError>
     let Ok(()) = state.apply_all(events.as_slice(), &mut steps) else {
         return Err(AllocError);
     };
-    if state.next() <= 1 {
-        return Err(AllocError);
-    }
     Ok(Some(state))
 }
 

@@ -40,7 +40,6 @@ impl<'a> Tip<'a> {
     ghost use Rattle.ndc_state.specs.Pendings.{pending_of};
     ghost use Rattle.ndc_state.specs.Written.{wake};
     ghost use Rattle.ndc_command.specs.Stage.{stage_of as stage};
-    ghost use Rattle.ndc_command.specs.Seen.{are_apart};
     ghost use Rattle.ndc_command.specs.Tip.{state_at, Adds};
 
     /// How far the decision is.
@@ -161,7 +160,6 @@ impl<'a> Tip<'a> {
         actions: &Actions,
         kinds: &mut Vec<EventKind>,
     ) -> Result<(), CommandError>
-        requires { IsTrue (are_apart self.now.state.now.timers) }
         ensures { Adds self.now (Respond actions.now) kinds.old.items kinds.new.items result }
     {
         needs_started(
@@ -369,7 +367,6 @@ impl<'a> Tip<'a> {
         command: &Command,
         kinds: &mut Vec<EventKind>,
     ) -> Result<(), CommandError>
-        requires { IsTrue (are_apart self.now.state.now.timers) }
         ensures { Adds self.now command.now kinds.old.items kinds.new.items result }
     {
         match command {

@@ -1,11 +1,11 @@
 -- What is picked is the greatest.
 use Rattle.std.proofs.Common.{◌≡◌, ℕ, zero, suc, ◌+◌, Bool, true, false, List, [], ◌∷◌, map, ◌⊎◌, inl, inr, Option, Some, None, slice_get, if◌then◌else◌, refl, sym, ◌∙◌, subst, ap, arith}
-use Rattle.ndc_event.specs.Key.{key_lt, key_eq}
+use Rattle.ndc_event.specs.Key.{key_lt}
 use Rattle.ndc_event.specs.declared.batch.Batch.{Batch}
 use Rattle.ndc_event.specs.declared.key.BatchKey.{BatchKey}
 use Rattle.ndc_sets.specs.Branches.{current_tips, greatest_key, later, workflow_tip}
-use Rattle.ndc_sets.proofs.BranchLemmas.{none-greatest}
-use Rattle.ndc_sets.proofs.KeyLemmas.{before-trans, before-total, same-keys}
+use Rattle.ndc_sets.proofs.BranchLemmas.{none-greatest, up-to}
+use Rattle.ndc_sets.proofs.KeyLemmas.{before-trans}
 use Rattle.ndc_current.specs.Pick.{greater_of, pick_from, place_of, pick_of, IsGreatestAt}
 
 -- the greater of two, by whether the later is
@@ -26,14 +26,6 @@ some-picked place key keys = by (pick_from (place + 1) keys)
     by : (o : Option (ℕ × BatchKey)) → greater_of (place, key) o ≡ None → ⊥
     by None e = absurd (cc)
     by (Some other) e = greater-cases (λ o. o ≡ None → ⊥) (place, key) other (λ _ e. absurd (cc)) (λ _ e. absurd (cc)) e
-
--- a key that is not before another is up to it
-up-to : (a b : BatchKey) → key_lt b a ≡ false → (a ≡ b) ⊎ (key_lt a b ≡ true)
-up-to a b l = by (key_eq b a) refl
-  where
-    by : (t : Bool) → key_eq b a ≡ t → (a ≡ b) ⊎ (key_lt a b ≡ true)
-    by true e = inl (sym (same-keys b a e))
-    by false e = inr (before-total b a l e)
 
 joined : (a b c : BatchKey) → (a ≡ b) ⊎ (key_lt a b ≡ true) → (b ≡ c) ⊎ (key_lt b c ≡ true) → (a ≡ c) ⊎ (key_lt a c ≡ true)
 joined a b c (inl e) h = subst (λ (k : BatchKey). (k ≡ c) ⊎ (key_lt k c ≡ true)) (sym e) h

@@ -2,11 +2,10 @@
 use Rattle.std.proofs.Common.{◌≡◌, ℕ, ◌<◌, ◌+◌, true, false, ◌&&◌, List, length, get_or, set, Some, Ok, refl, sym, ◌∙◌, ap, subst}
 use Rattle.std.specs.Prelude.{◌==◌}
 use Rattle.std.specs.Str.{bytes_eq}
-use Rattle.std.proofs.lemmas.Bool.{eqb-true, eq-eqb}
+use Rattle.std.proofs.lemmas.Bool.{eqb-true, eq-eqb, and_parts}
 use Rattle.std.proofs.lemmas.List.{get_or_default}
 use Rattle.std.proofs.lemmas.Option.{slice_get_read}
 use Rattle.std.proofs.lemmas.Slice.Eq.{bytes_eq-Decides}
-use Rattle.ndc_event.proofs.Tests.{both}
 use Rattle.ndc_domain.specs.declared.clusters.ClusterNo.{ClusterNo}
 use Rattle.ndc_domain.specs.declared.record.DomainRecord.{DomainRecord}
 use Rattle.ndc_domain.specs.Clusters.{ClusterList}
@@ -64,10 +63,10 @@ same_fields a b n v c d m =
 -- records that pass the test are one
 pub record_eq_true : (a b : DomainRecord) → record_eq a b ≡ true → a ≡ b
 record_eq_true a b h =
-    let n : (bytes_eq a.name b.name ≡ true) × (((a.version == b.version) && ((a.config == b.config) && ((a.days == b.days) && bytes_eq a.members b.members))) ≡ true) = both _ _ h in
-    let v : ((a.version == b.version) ≡ true) × (((a.config == b.config) && ((a.days == b.days) && bytes_eq a.members b.members)) ≡ true) = both _ _ n.1 in
-    let c : ((a.config == b.config) ≡ true) × (((a.days == b.days) && bytes_eq a.members b.members) ≡ true) = both _ _ v.1 in
-    let d : ((a.days == b.days) ≡ true) × (bytes_eq a.members b.members ≡ true) = both _ _ c.1 in
+    let n : (bytes_eq a.name b.name ≡ true) × (((a.version == b.version) && ((a.config == b.config) && ((a.days == b.days) && bytes_eq a.members b.members))) ≡ true) = and_parts _ _ h in
+    let v : ((a.version == b.version) ≡ true) × (((a.config == b.config) && ((a.days == b.days) && bytes_eq a.members b.members)) ≡ true) = and_parts _ _ n.1 in
+    let c : ((a.config == b.config) ≡ true) × (((a.days == b.days) && bytes_eq a.members b.members) ≡ true) = and_parts _ _ v.1 in
+    let d : ((a.days == b.days) ≡ true) × (bytes_eq a.members b.members ≡ true) = and_parts _ _ c.1 in
     same_fields a b ((bytes_eq-Decides _ _).0 n.0) (eqb-true _ _ v.0) (eqb-true _ _ c.0) (eqb-true _ _ d.0) ((bytes_eq-Decides _ _).0 d.1)
 
 -- one place more is the same

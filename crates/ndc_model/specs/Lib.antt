@@ -6,4 +6,11 @@ pub mod World
 pub mod Moves
 pub mod Texts
 pub mod Steps
+pub mod Handovers
+pub mod Letters
+pub mod Progress
+pub mod Lines
+pub mod Report
+pub mod Fair
+pub mod Facts
 pub mod Worked

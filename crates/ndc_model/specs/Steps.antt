@@ -1,10 +1,11 @@
 -- What lines on domains, queues and workflows leave and answer.
-use Rattle.std.specs.Prelude.{ℕ, ◌-◌, List, [], ◌∷◌, ◌++◌, map, length, sum, codes, decimal, slice_index_or, Option, Some, None, Result, Ok, Err}
+use Rattle.std.specs.Prelude.{ℕ, ◌-◌, Bool, true, false, ◌&&◌, ◌||◌, List, [], ◌∷◌, ◌++◌, map, length, sum, codes, decimal, slice_index_or, Option, Some, None, Result, Ok, Err, if◌then◌else◌}
 use Rattle.std.specs.List.{filter, flat_map}
+use Rattle.std.specs.Str.{bytes_eq}
 use Rattle.ndc_command.specs.declared.command.Command.{Command}
 use Rattle.ndc_command.specs.declared.refusal.CommandError.{CommandError}
 use Rattle.ndc_command.specs.declared.refusal.CommandError.TheVariants.{Refused, Memory}
-use Rattle.ndc_domain.specs.Clusters.{writer_of}
+use Rattle.ndc_domain.specs.Clusters.{cluster_no, name_of, writer_of}
 use Rattle.ndc_domain.specs.Merge.{merge_count, merged}
 use Rattle.ndc_domain.specs.declared.clusters.ClusterNo.{ClusterNo}
 use Rattle.ndc_domain.specs.declared.record.DomainError.{DomainError}
@@ -32,7 +33,8 @@ use Rattle.ndc_model.specs.Arrival.{known, put_off, learned_now, Sent}
 use Rattle.ndc_model.specs.Cells.{Cell, arrived_of, is_of, learned_of, missing_of}
 use Rattle.ndc_model.specs.Moves.{Note, came, applied, Trace, authored, pulled_all, pulled_shard, put_off_in, resent, bootstrapped, settled, shard_of, trim_to, trimmed_all, worked, from_world}
 use Rattle.ndc_model.specs.Queues.{after_loss, after_move, after_repeat, is_learned_in, pulled}
-use Rattle.ndc_model.specs.Texts.{event_line, item_text, key_text, ok, refusal_words, refused, run_lines, status_text, with_commas}
+use Rattle.ndc_model.specs.Texts.{event_line, ok, refusal_words, refused}
+use Rattle.ndc_text.specs.Views.{dump_text, item_text, key_text, run_lines, status_text, with_commas}
 use Rattle.ndc_model.specs.World.{World, cell_at, cluster_at, home_at, lane_at, link_at, queue_at, shards_of, with_cell, with_lane, with_table}
 use Rattle.ndc_model.specs.Writing.{cell_after, command_of, reset_at}
 
@@ -164,13 +166,10 @@ abbrev pub join_step : ClusterNo → World → Result (List DomainRecord) JoinEr
 join_step at w (Ok table) = answered (with_table at table w) (ok [])
 join_step at w (Err error) = answered w (refused (join_words error))
 
--- the name of a cluster
-abbrev pub name_at : Header → ℕ → List ℕ
-name_at header number = (slice_index_or header.clusters.members number ([], 0)).0
-
+-- the name of a writer, where there is one
 abbrev pub writer_name : Header → Option ClusterNo → List ℕ
 writer_name header None = []
-writer_name header (Some cluster) = name_at header cluster.number
+writer_name header (Some cluster) = name_of header.clusters cluster
 
 -- `domain`: a record's version, active cluster, config version and days
 abbrev pub domain_answer : Header → Option DomainRecord → List ℕ
@@ -180,7 +179,7 @@ domain_answer header (Some one) = ok (decimal one.version ∷ writer_name header
 -- `members`: the names of a record's members in header order
 abbrev pub members_answer : Header → Option DomainRecord → List ℕ
 members_answer header None = refused (codes "UnknownDomain" ∷ [])
-members_answer header (Some one) = ok (with_commas (map (name_at header) one.members) ∷ [])
+members_answer header (Some one) = ok (with_commas (map (λ number. name_of header.clusters (cluster_no number)) one.members) ∷ [])
 
 -- `domains`: one cluster merges the table of another
 abbrev pub domains_step : ClusterNo → ClusterNo → World → Stepped
@@ -324,3 +323,21 @@ current_answer batches =
 -- `state`
 abbrev pub state_answer : List Batch → List ℕ
 state_answer batches = tip_answer (λ tip. ok (state_text (state_to tip.run tip.key batches) ∷ [])) (workflow_tip batches)
+
+-- `dump`
+abbrev pub dump_answer : Name → Name → List Batch → List ℕ
+dump_answer domain workflow batches = ok (decimal (length batches) ∷ []) ++ dump_text domain workflow (view_of batches)
+
+-- whether nothing is learned
+abbrev pub is_nothing : List Batch → Bool
+is_nothing [] = true
+is_nothing (b ∷ batches) = false
+
+-- whether two clusters show the same of a workflow: nothing of it is learned at either, or their dumps are equal
+abbrev pub shows_same : Name → Name → List Batch → List Batch → Bool
+shows_same domain workflow one two =
+    (is_nothing one && is_nothing two) || bytes_eq (dump_text domain workflow (view_of one)) (dump_text domain workflow (view_of two))
+
+-- `compare`
+abbrev pub compare_answer : Name → Name → List Batch → List Batch → List ℕ
+compare_answer domain workflow one two = ok ((if shows_same domain workflow one two then codes "same" else codes "differ") ∷ [])

@@ -1,8 +1,8 @@
 -- Origins, each once.
 use Rattle.std.proofs.Common.{◌≡◌, suc, Bool, true, false, not, ◌||◌, List, [], ◌∷◌, ◌++◌, get_or, refl, ap, sym, ◌∙◌, arith, true≢false}
+use Rattle.std.proofs.lemmas.Bool.{and_parts, and_from}
 use Rattle.std.proofs.lemmas.List.Folds.{list_any-append, list_any_none}
 use Rattle.ndc_event.specs.declared.key.Origin.{Origin}
-use Rattle.ndc_event.proofs.Tests.{both, together}
 use Rattle.ndc_state.specs.Laws.{AreApart}
 use Rattle.ndc_state.specs.Origins.{same_origin, is_among}
 use Rattle.ndc_reapply.specs.Laws.{are_unlisted}
@@ -35,9 +35,9 @@ not-of b h = rw h refl
 pub are_unlisted-more : (os listed : List Origin) (o : Origin) → are_unlisted os listed ≡ true → is_among o os ≡ false → are_unlisted os (listed ++ o ∷ []) ≡ true
 are_unlisted-more [] listed o h k = refl
 are_unlisted-more (x ∷ os) listed o h k =
-    let head = both (not (is_among x listed)) (are_unlisted os listed) h in
+    let head = and_parts (not (is_among x listed)) (are_unlisted os listed) h in
     let apart = either (same_origin o x) (is_among o os) k in
     let other : same_origin x o ≡ false = same_origin-not x o (λ e. true≢false (sym (same_origin-self x) ∙ ap (λ y. same_origin y x) e ∙ apart.0)) in
-    together (not (is_among x (listed ++ o ∷ []))) (are_unlisted os (listed ++ o ∷ []))
+    and_from (not (is_among x (listed ++ o ∷ []))) (are_unlisted os (listed ++ o ∷ []))
     (not-of (is_among x (listed ++ o ∷ [])) (list_any-append (same_origin x) listed (o ∷ []) ∙ neither (is_among x listed) (same_origin x o) (not-true (is_among x listed) head.0) other))
     (are_unlisted-more os listed o head.1 apart.1)

@@ -1,9 +1,9 @@
 -- Copies written below an open state, and the whole of what is written where signals are applied again.
 use Rattle.std.proofs.Common.{◌≡◌, ℕ, ◌+◌, Bool, true, false, not, is_some, List, [], ◌∷◌, ◌++◌, length, map, Option, None, Some, Ok, refl, ap, sym, ◌∙◌, arith, append_assoc, nat_lt, codes}
+use Rattle.std.proofs.lemmas.Bool.{and_parts}
 use Rattle.ndc_event.specs.declared.key.Origin.{Origin}
 use Rattle.ndc_event.specs.declared.kind.EventKind.{EventKind}
 use Rattle.ndc_event.specs.declared.kind.EventKind.TheVariants.{DecisionTaskScheduled, DecisionTaskFailed}
-use Rattle.ndc_event.proofs.Tests.{both}
 use Rattle.ndc_reapply.specs.declared.stray.Stray.{Stray}
 use Rattle.ndc_reapply.specs.Laws.{IsOpen, IsReapplied, are_unlisted}
 use Rattle.ndc_reapply.specs.Reapplied.{copy_of, reapplied}
@@ -47,7 +47,7 @@ pub replay_kinds-copies : (s : StateValue) (v : ℕ) (list : List Stray) (kinds 
     → replay_kinds s v (map copy_of list ++ kinds) ≡ replay_kinds (with_copies s v list) v kinds
 replay_kinds-copies s v [] kinds opened apart new = refl
 replay_kinds-copies s v (stray ∷ list) kinds opened apart new =
-    let head = both (not (is_among stray.origin s.origins)) (are_unlisted (origins_of list) s.origins) new in
+    let head = and_parts (not (is_among stray.origin s.origins)) (are_unlisted (origins_of list) s.origins) new in
     replay_kinds-copy s v stray.name stray.input stray.origin (map copy_of list ++ kinds) opened (not-true (is_among stray.origin s.origins) head.0)
     ∙ replay_kinds-copies (with_signal s v stray.origin) v list kinds (omega arith, opened.1) (AreApart-tail stray.origin (origins_of list) apart)
     (are_unlisted-more (origins_of list) s.origins stray.origin head.1 (AreApart-head stray.origin (origins_of list) apart))
@@ -78,7 +78,7 @@ replay_kinds-reapplied s v list opened apart new = by (is_failover_close_due s v
 
     closed : is_failover_close_due s v ≡ true → Answer
     closed e =
-        let due = both (nat_lt s.version v) (is_started s.decision) e in
+        let due = and_parts (nat_lt s.version v) (is_started s.decision) e in
         let t : StateValue = with_copies again v list in
         let copied = IsCopied-with_copies again v list in
         let kept : t.decision ≡ again.decision = ap (λ n. n.decision) copied.rest in

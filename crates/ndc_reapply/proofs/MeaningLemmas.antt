@@ -1,9 +1,9 @@
 -- What strays are: in order, each origin once, the first signal of each origin that is not settled.
 use Rattle.std.proofs.Common.{◌≡◌, ◌≢◌, zero, suc, Bool, true, false, not, ◌&&◌, ◌||◌, is_some, List, [], ◌∷◌, Option, None, Some, All, if◌then◌else◌, refl, ap, sym, ◌∙◌, subst, arith, true≢false}
+use Rattle.std.proofs.lemmas.Bool.{and_parts, and_from}
 use Rattle.std.specs.List.{list_all}
 use Rattle.std.proofs.lemmas.List.Kept.{AllPairs-cons}
 use Rattle.ndc_event.specs.declared.key.Origin.{Origin}
-use Rattle.ndc_event.proofs.Tests.{both, together}
 use Rattle.ndc_state.specs.Laws.{AreApart}
 use Rattle.ndc_state.specs.Origins.{same_origin, is_among}
 use Rattle.ndc_reapply.specs.declared.stray.Stray.{Stray}
@@ -13,39 +13,39 @@ use Rattle.ndc_reapply.proofs.OrderLemmas.{origin_lt-neither, origin_lt-trans, o
 
 -- what each origin is, it is with one more that is it too
 list_all-with_stray : (p : Origin → Bool) (s : Stray) (list : List Stray) → p s.origin ≡ true → list_all p (origins_of list) ≡ true → list_all p (origins_of (with_stray s list)) ≡ true
-list_all-with_stray p s [] here all = together (p s.origin) true here refl
+list_all-with_stray p s [] here all = and_from (p s.origin) true here refl
 list_all-with_stray p s (f ∷ list) here all = by (origin_lt s.origin f.origin) (origin_lt f.origin s.origin) (list_all-with_stray p s list here rest.1)
   where
     rest : (p f.origin ≡ true) × (list_all p (origins_of list) ≡ true)
-    rest = both (p f.origin) (list_all p (origins_of list)) all
+    rest = and_parts (p f.origin) (list_all p (origins_of list)) all
 
     by : (b d : Bool) → list_all p (origins_of (with_stray s list)) ≡ true
         → list_all p (origins_of (if b then s ∷ f ∷ list else if d then f ∷ with_stray s list else s ∷ list)) ≡ true
-    by true d tail = together (p s.origin) (list_all p (origins_of (f ∷ list))) here all
-    by false true tail = together (p f.origin) (list_all p (origins_of (with_stray s list))) rest.0 tail
-    by false false tail = together (p s.origin) (list_all p (origins_of list)) here rest.1
+    by true d tail = and_from (p s.origin) (list_all p (origins_of (f ∷ list))) here all
+    by false true tail = and_from (p f.origin) (list_all p (origins_of (with_stray s list))) rest.0 tail
+    by false false tail = and_from (p s.origin) (list_all p (origins_of list)) here rest.1
 
 -- what comes after an origin comes after those before it
 list_all-before : (one two : Origin) (os : List Origin) → origin_lt one two ≡ true → list_all (origin_lt two) os ≡ true → list_all (origin_lt one) os ≡ true
 list_all-before one two [] lt all = refl
 list_all-before one two (o ∷ os) lt all =
-    let rest = both (origin_lt two o) (list_all (origin_lt two) os) all in
-    together (origin_lt one o) (list_all (origin_lt one) os) (origin_lt-trans one two o lt rest.0) (list_all-before one two os lt rest.1)
+    let rest = and_parts (origin_lt two o) (list_all (origin_lt two) os) all in
+    and_from (origin_lt one o) (list_all (origin_lt one) os) (origin_lt-trans one two o lt rest.0) (list_all-before one two os lt rest.1)
 
 rises-with_stray : (s : Stray) (list : List Stray) → rises (origins_of list) ≡ true → rises (origins_of (with_stray s list)) ≡ true
 rises-with_stray s [] h = refl
 rises-with_stray s (f ∷ list) h = by (origin_lt s.origin f.origin) (origin_lt f.origin s.origin) refl refl (rises-with_stray s list rest.1)
   where
     rest : (list_all (origin_lt f.origin) (origins_of list) ≡ true) × (rises (origins_of list) ≡ true)
-    rest = both (list_all (origin_lt f.origin) (origins_of list)) (rises (origins_of list)) h
+    rest = and_parts (list_all (origin_lt f.origin) (origins_of list)) (rises (origins_of list)) h
 
     by : (b d : Bool) → origin_lt s.origin f.origin ≡ b → origin_lt f.origin s.origin ≡ d → rises (origins_of (with_stray s list)) ≡ true
         → rises (origins_of (if b then s ∷ f ∷ list else if d then f ∷ with_stray s list else s ∷ list)) ≡ true
     by true d e g tail =
-        together (list_all (origin_lt s.origin) (origins_of (f ∷ list))) (rises (origins_of (f ∷ list)))
-        (together (origin_lt s.origin f.origin) (list_all (origin_lt s.origin) (origins_of list)) e (list_all-before s.origin f.origin (origins_of list) e rest.0)) h
+        and_from (list_all (origin_lt s.origin) (origins_of (f ∷ list))) (rises (origins_of (f ∷ list)))
+        (and_from (origin_lt s.origin f.origin) (list_all (origin_lt s.origin) (origins_of list)) e (list_all-before s.origin f.origin (origins_of list) e rest.0)) h
     by false true e g tail =
-        together (list_all (origin_lt f.origin) (origins_of (with_stray s list))) (rises (origins_of (with_stray s list)))
+        and_from (list_all (origin_lt f.origin) (origins_of (with_stray s list))) (rises (origins_of (with_stray s list)))
         (list_all-with_stray (origin_lt f.origin) s list g rest.0) tail
     by false false e g tail = subst (λ (o : Origin). rises (o ∷ origins_of list) ≡ true) (sym (origin_lt-neither s.origin f.origin e g)) h
 
@@ -62,14 +62,14 @@ rises-strays_of (s ∷ signals) settled = by (is_among s.origin settled) (rises-
 -- what comes after an origin is not that one
 after-apart : (o : Origin) (os : List Origin) → list_all (origin_lt o) os ≡ true → All (λ x. o ≢ x) os
 after-apart o [] all k d lt = absurd (omega arith)
-after-apart o (x ∷ os) all zero d lt = λ e. true≢false (sym (both (origin_lt o x) (list_all (origin_lt o) os) all).0 ∙ ap (origin_lt o) (sym e) ∙ origin_lt-self o)
-after-apart o (x ∷ os) all (suc k) d lt = after-apart o os (both (origin_lt o x) (list_all (origin_lt o) os) all).1 k d (omega arith)
+after-apart o (x ∷ os) all zero d lt = λ e. true≢false (sym (and_parts (origin_lt o x) (list_all (origin_lt o) os) all).0 ∙ ap (origin_lt o) (sym e) ∙ origin_lt-self o)
+after-apart o (x ∷ os) all (suc k) d lt = after-apart o os (and_parts (origin_lt o x) (list_all (origin_lt o) os) all).1 k d (omega arith)
 
 -- origins that rise are apart
 pub AreApart-rises : (os : List Origin) → rises os ≡ true → AreApart os
 AreApart-rises [] h = λ i j d lt within. absurd (omega arith)
 AreApart-rises (o ∷ os) h =
-    let rest = both (list_all (origin_lt o) os) (rises os) h in
+    let rest = and_parts (list_all (origin_lt o) os) (rises os) h in
     AllPairs-cons (λ one two. one ≢ two) o os (after-apart o os rest.0) (AreApart-rises os rest.1)
 
 -- of two origins that differ no origin is both
@@ -156,7 +156,7 @@ is_among-strays_of o signals settled =
 are_unlisted-by : (os listed : List Origin) → ((o : Origin) → is_among o os ≡ true → is_among o listed ≡ false) → are_unlisted os listed ≡ true
 are_unlisted-by [] listed h = refl
 are_unlisted-by (x ∷ os) listed h =
-    together (not (is_among x listed)) (are_unlisted os listed) (ap not (h x (ap (λ b. b || is_among x os) (same_origin-self x))))
+    and_from (not (is_among x listed)) (are_unlisted os listed) (ap not (h x (ap (λ b. b || is_among x os) (same_origin-self x))))
     (are_unlisted-by os listed (λ o k. h o (behind (same_origin o x) (is_among o os) k)))
   where
     behind : (b d : Bool) → d ≡ true → (b || d) ≡ true
@@ -179,7 +179,7 @@ are_unlisted-strays_of signals settled listed among =
 signal_at-after : (o : Origin) (list : List Stray) → list_all (origin_lt o) (origins_of list) ≡ true → signal_at o list ≡ None
 signal_at-after o [] all = refl
 signal_at-after o (s ∷ list) all =
-    let rest = both (origin_lt o s.origin) (list_all (origin_lt o) (origins_of list)) all in
+    let rest = and_parts (origin_lt o s.origin) (list_all (origin_lt o) (origins_of list)) all in
     rw (same_origin-not o s.origin (before-apart o s.origin rest.0)) (signal_at-after o list rest.1)
 
 signal_at-first : (s : Stray) (list : List Stray) → signal_at s.origin (s ∷ list) ≡ Some s
@@ -200,16 +200,16 @@ rises-determined (x ∷ xs) (y ∷ ys) h k same =
     by (origin_lt x.origin y.origin) (origin_lt y.origin x.origin) refl refl (rises-determined xs ys of_xs.1 of_ys.1)
   where
     of_xs : (list_all (origin_lt x.origin) (origins_of xs) ≡ true) × (rises (origins_of xs) ≡ true)
-    of_xs = both (list_all (origin_lt x.origin) (origins_of xs)) (rises (origins_of xs)) h
+    of_xs = and_parts (list_all (origin_lt x.origin) (origins_of xs)) (rises (origins_of xs)) h
 
     of_ys : (list_all (origin_lt y.origin) (origins_of ys) ≡ true) × (rises (origins_of ys) ≡ true)
-    of_ys = both (list_all (origin_lt y.origin) (origins_of ys)) (rises (origins_of ys)) k
+    of_ys = and_parts (list_all (origin_lt y.origin) (origins_of ys)) (rises (origins_of ys)) k
 
     -- what comes before the first of a list that rises is not in it
     ahead : (s t : Stray) (list : List Stray) → origin_lt s.origin t.origin ≡ true → list_all (origin_lt t.origin) (origins_of list) ≡ true → signal_at s.origin (t ∷ list) ≡ None
     ahead s t list lt all =
         signal_at-after s.origin (t ∷ list)
-        (together (origin_lt s.origin t.origin) (list_all (origin_lt s.origin) (origins_of list)) lt (list_all-before s.origin t.origin (origins_of list) lt all))
+        (and_from (origin_lt s.origin t.origin) (list_all (origin_lt s.origin) (origins_of list)) lt (list_all-before s.origin t.origin (origins_of list) lt all))
 
     by : (b d : Bool) → origin_lt x.origin y.origin ≡ b → origin_lt y.origin x.origin ≡ d → (((o : Origin) → signal_at o xs ≡ signal_at o ys) → xs ≡ ys) → x ∷ xs ≡ y ∷ ys
     by true d e g rest = absurd (no_signal x (signal_at x.origin (x ∷ xs)) (signal_at-first x xs) (same x.origin ∙ ahead x y ys e of_ys.0))

@@ -1,13 +1,12 @@
 -- The order of origins.
 use Rattle.std.proofs.Common.{refl, ◌≡◌, ℕ, Bool, true, false, ◌&&◌, ◌||◌, ◌==◌, nat_lt, ap, ◌∙◌, arith, if◌then◌else◌}
-use Rattle.std.proofs.lemmas.Bool.{eqb-true, eq-eqb}
+use Rattle.std.proofs.lemmas.Bool.{eqb-true, eq-eqb, and_parts, and_from}
 use Rattle.std.proofs.lemmas.Bool.Decides.{nat_tests}
 use Rattle.std.specs.Ordering.{nat_cmp, ordering_then}
 use Rattle.std.specs.declared.cmp.Ordering.{Ordering}
 use Rattle.std.specs.declared.cmp.Ordering.TheVariants.{Less, Equal, Greater}
 use Rattle.ndc_event.specs.declared.key.Origin.{Origin}
 use Rattle.ndc_event.specs.declared.key.RunId.{RunId}
-use Rattle.ndc_event.proofs.Tests.{both, together}
 use Rattle.ndc_reapply.specs.Strays.{origin_lt}
 use Rattle.ndc_state.specs.Origins.{same_origin}
 
@@ -71,14 +70,14 @@ origin_cmp-by one two = lex-cmp one.version one.event one.run.value two.version 
 -- origins that compare as one are one
 pub same_origin-is : (one two : Origin) → same_origin one two ≡ true → one ≡ two
 same_origin-is one two h =
-    let outer = both ((one.run.value == two.run.value) && (one.event == two.event)) (one.version == two.version) h in
-    let inner = both (one.run.value == two.run.value) (one.event == two.event) outer.0 in
+    let outer = and_parts ((one.run.value == two.run.value) && (one.event == two.event)) (one.version == two.version) h in
+    let inner = and_parts (one.run.value == two.run.value) (one.event == two.event) outer.0 in
     origin-is one two (eqb-true one.version two.version outer.1) (eqb-true one.event two.event inner.1) (eqb-true one.run.value two.run.value inner.0)
 
 pub same_origin-self : (o : Origin) → same_origin o o ≡ true
 same_origin-self o =
-    together ((o.run.value == o.run.value) && (o.event == o.event)) (o.version == o.version)
-    (together (o.run.value == o.run.value) (o.event == o.event) (eq-eqb o.run.value o.run.value refl) (eq-eqb o.event o.event refl))
+    and_from ((o.run.value == o.run.value) && (o.event == o.event)) (o.version == o.version)
+    (and_from (o.run.value == o.run.value) (o.event == o.event) (eq-eqb o.run.value o.run.value refl) (eq-eqb o.event o.event refl))
     (eq-eqb o.version o.version refl)
 
 -- origins that differ do not compare as one

@@ -1,12 +1,11 @@
 -- A reset replays in the new run, as the public law says it.
 use Rattle.std.proofs.Common.{◌≡◌, ℕ, zero, suc, ◌<◌, Bool, true, false, ◌||◌, nat_lt, is_some, is_none, List, ◌∷◌, ◌++◌, IsTrue, IsOkAnd, None, Ok, Result, codes, refl, ap, sym, ◌∙◌, subst, arith, true≢false}
-use Rattle.std.proofs.lemmas.Bool.{ltb-true}
+use Rattle.std.proofs.lemmas.Bool.{ltb-true, and_parts}
 use Rattle.ndc_event.specs.declared.batch.Event.{Event}
 use Rattle.ndc_event.specs.declared.key.RunId.{RunId}
 use Rattle.ndc_event.specs.declared.kind.EventKind.{EventKind}
 use Rattle.ndc_event.specs.declared.kind.EventKind.TheVariants.{DecisionTaskScheduled, DecisionTaskCompleted, DecisionTaskFailed}
 use Rattle.ndc_event.specs.Batch.{follow_from}
-use Rattle.ndc_event.proofs.Tests.{both}
 use Rattle.ndc_state.specs.declared.rule.Rule.{Rule}
 use Rattle.ndc_state.specs.declared.rule.Rule.TheVariants.{Task}
 use Rattle.ndc_state.specs.declared.rule.StateError.{StateError}
@@ -49,7 +48,7 @@ point-above (suc n) history h at = omega arith
 opened-at : (run : RunId) (front : List Event) (s : StateValue) (event : Event) → replay_of run front ≡ Ok s → is_completed event.kind ≡ true → IsAllowed s event → IsOpen s
 opened-at run front s event h completed allowed =
     let running : s.running ≡ true = subst (λ (b : Bool). (b || s.running) ≡ true) (completed-no-start event.kind completed) allowed.running in
-    (ltb-true 1 s.next (both (nat_lt 1 s.next) (is_none s.close) (sym (open_fit run front s h) ∙ running)).0, running)
+    (ltb-true 1 s.next (and_parts (nat_lt 1 s.next) (is_none s.close) (sym (open_fit run front s h) ∙ running)).0, running)
 
 -- the kinds of a reset in its three parts
 reset-parts : (run : RunId) (point : ℕ) (history front later : List Event) → events_before point history ≡ front → signals_onward point history ≡ later

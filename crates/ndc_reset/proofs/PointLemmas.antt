@@ -1,11 +1,10 @@
 -- A history whose ids follow, parted at a point.
 use Rattle.std.proofs.Common.{◌≡◌, ℕ, ◌+◌, ◌<◌, ◌≤◌, Bool, true, false, ◌||◌, ◌==◌, nat_lt, List, [], ◌∷◌, ◌++◌, Result, Ok, Err, refl, ap, sym, ◌∙◌, arith, if◌then◌else◌}
-use Rattle.std.proofs.lemmas.Bool.{eqb-true, lt-ltb}
+use Rattle.std.proofs.lemmas.Bool.{eqb-true, lt-ltb, and_parts}
 use Rattle.std.proofs.lemmas.Bool.Decides.{nat_tests}
 use Rattle.ndc_event.specs.declared.batch.Event.{Event}
 use Rattle.ndc_event.specs.Batch.{follow_from}
 use Rattle.ndc_event.specs.Outcome.{◌>>=◌}
-use Rattle.ndc_event.proofs.Tests.{both}
 use Rattle.ndc_state.specs.declared.rule.StateError.{StateError}
 use Rattle.ndc_state.specs.Replay.{replay}
 use Rattle.ndc_state.specs.Value.{StateValue}
@@ -36,14 +35,14 @@ signal_events (event ∷ events) = if is_signal event.kind then event ∷ signal
 events_before-later : (point before : ℕ) (history : List Event) → follow_from before history ≡ true → point ≤ before → events_before point history ≡ []
 events_before-later point before [] h le = refl
 events_before-later point before (event ∷ history) h le =
-    let p = both (event.id == before + 1) (follow_from event.id history) h in
+    let p = and_parts (event.id == before + 1) (follow_from event.id history) h in
     let id : event.id ≡ before + 1 = eqb-true event.id (before + 1) p.0 in
     rw (not_below event.id point (omega arith)) (events_before-later point event.id history p.1 (omega arith))
 
 signals_onward-later : (point before : ℕ) (history : List Event) → follow_from before history ≡ true → point ≤ before + 1 → signals_onward point history ≡ signal_events history
 signals_onward-later point before [] h le = refl
 signals_onward-later point before (event ∷ history) h le =
-    let p = both (event.id == before + 1) (follow_from event.id history) h in
+    let p = and_parts (event.id == before + 1) (follow_from event.id history) h in
     let id : event.id ≡ before + 1 = eqb-true event.id (before + 1) p.0 in
     rw (not_below event.id point (omega arith)) (ap (λ l. if is_signal event.kind then event ∷ l else l) (signals_onward-later point event.id history p.1 (omega arith)))
 
@@ -51,7 +50,7 @@ signals_onward-later point before (event ∷ history) h le =
 pub is_point-later : (point before : ℕ) (history : List Event) → follow_from before history ≡ true → point ≤ before → is_point point history ≡ false
 is_point-later point before [] h le = refl
 is_point-later point before (event ∷ history) h le =
-    let p = both (event.id == before + 1) (follow_from event.id history) h in
+    let p = and_parts (event.id == before + 1) (follow_from event.id history) h in
     let id : event.id ≡ before + 1 = eqb-true event.id (before + 1) p.0 in
     rw (not_equal_above event.id point (omega arith)) (is_point-later point event.id history p.1 (omega arith))
 
@@ -70,7 +69,7 @@ parts_at point before [] h lt at = absurd (cc)
 parts_at point before (event ∷ history) h lt at = by (event.id == point) refl (parts_at point event.id history p.1)
   where
     p : ((event.id == before + 1) ≡ true) × (follow_from event.id history ≡ true)
-    p = both (event.id == before + 1) (follow_from event.id history) h
+    p = and_parts (event.id == before + 1) (follow_from event.id history) h
 
     id : event.id ≡ before + 1
     id = eqb-true event.id (before + 1) p.0

@@ -1,9 +1,9 @@
 -- The clusters of a header that is read have names.
 use Rattle.std.proofs.Common.{◌≡◌, ℕ, ◌^◌, Bool, true, false, ◌||◌, ◌==◌, nat_lt, List, [], ◌∷◌, length, Option, Some, None, Result, Ok, Err, if◌then◌else◌, refl, sym, ap, ◌∙◌}
+use Rattle.std.proofs.lemmas.Bool.{and_from}
 use Rattle.std.specs.List.{list_all}
 use Rattle.ndc_event.specs.Name.{is_name, name_of}
 use Rattle.ndc_event.specs.declared.name.NameError.{NameError}
-use Rattle.ndc_event.proofs.Tests.{together}
 use Rattle.ndc_domain.specs.Clusters.{ClusterList, fault_from, clusters_without, clusters_of}
 use Rattle.ndc_domain.specs.declared.clusters.ClustersError.{ClustersError}
 use Rattle.ndc_domain.specs.declared.clusters.ClustersError.TheVariants.{IncrementLimit, NoClusters}
@@ -47,7 +47,7 @@ read_fits PastLimit words = tt
 before_fits : (member : Option (List ℕ × ℕ)) (members : List (List ℕ × ℕ)) → FitsMember member → list_all (λ m. is_name m.0) members ≡ true → list_all (λ m. is_name m.0) (before_members member members) ≡ true
 unfolding FitsMember
 before_fits None members fit all = refl
-before_fits (Some member) members fit all = together _ _ fit all
+before_fits (Some member) members fit all = and_from _ _ fit all
 
 members_fit : (lines : List KeptLine) → list_all (λ m. is_name m.0) (members_of lines) ≡ true
 members_fit [] = refl

@@ -2,12 +2,11 @@
 use Rattle.std.proofs.Common.{◌≡◌, ℕ, suc, zero, ◌<◌, ◌≤◌, ◌^◌, Bool, true, false, List, [], ◌∷◌, ◌++◌, length, map, flat_map, get_or, nat_le, codes, decimal, refl, ◌∙◌, arith, lit<, if◌then◌else◌}
 use Rattle.std.specs.List.{list_all, AllByRecursion as ByRecursion}
 use Rattle.std.specs.Str.{bytes_eq}
-use Rattle.std.proofs.lemmas.Bool.{le-leb, leb-true}
+use Rattle.std.proofs.lemmas.Bool.{le-leb, leb-true, and_parts, and_from}
 use Rattle.std.proofs.lemmas.Fmt.{decimal_nonempty, length-decimal-le}
 use Rattle.std.proofs.lemmas.List.Elements.{recursion_from_All}
 use Rattle.std.proofs.lemmas.List.Folds.{list_all-append}
 use Rattle.ndc_event.specs.Name.{is_name, is_name_byte}
-use Rattle.ndc_event.proofs.Tests.{both, together}
 use Rattle.ndc_command.specs.declared.command.Action.{Action}
 use Rattle.ndc_command.specs.declared.command.Action.TheVariants as action
 use Rattle.ndc_command.specs.declared.command.Command.{Command}
@@ -34,11 +33,11 @@ AreNamed header = list_all (λ member. is_name member.0) header.clusters.members
 pub digits_are_names : (ds : List ℕ) → list_all is_digit ds ≡ true → list_all is_name_byte ds ≡ true
 digits_are_names [] h = refl
 digits_are_names (d ∷ ds) h =
-    let p : (is_digit d ≡ true) × (list_all is_digit ds ≡ true) = both (is_digit d) (list_all is_digit ds) h in
-    let q : (nat_le 48 d ≡ true) × (nat_le d 57 ≡ true) = both (nat_le 48 d) (nat_le d 57) p.0 in
+    let p : (is_digit d ≡ true) × (list_all is_digit ds ≡ true) = and_parts (is_digit d) (list_all is_digit ds) h in
+    let q : (nat_le 48 d ≡ true) × (nat_le d 57 ≡ true) = and_parts (nat_le 48 d) (nat_le d 57) p.0 in
     let low : 33 ≤ d = omega (arith, leb-true 48 d q.0) in
     let high : d ≤ 126 = omega (arith, leb-true d 57 q.1) in
-    together (is_name_byte d) (list_all is_name_byte ds) (together (nat_le 33 d) (nat_le d 126) (le-leb 33 d low) (le-leb d 126 high)) (digits_are_names ds p.1)
+    and_from (is_name_byte d) (list_all is_name_byte ds) (and_from (nat_le 33 d) (nat_le d 126) (le-leb 33 d low) (le-leb d 126 high)) (digits_are_names ds p.1)
 
 -- a number is printed as a name
 pub name-decimal : (n : ℕ) → n < 10 ^ 18 → is_name (decimal n) ≡ true
@@ -46,12 +45,12 @@ name-decimal n h =
     let small : n < 2 ^ 64 = omega (arith, h) in
     let some : 1 ≤ length (decimal n) = decimal_nonempty n small in
     let few : length (decimal n) ≤ 200 = omega (arith, length-decimal-le 18 n (lit< tt) h small) in
-    together _ _ (together _ _ (le-leb 1 (length (decimal n)) some) (le-leb (length (decimal n)) 200 few)) (digits_are_names (decimal n) (digits-decimal n small))
+    and_from _ _ (and_from _ _ (le-leb 1 (length (decimal n)) some) (le-leb (length (decimal n)) 200 few)) (digits_are_names (decimal n) (digits-decimal n small))
 
 name_at : (members : List (List ℕ × ℕ)) (i : ℕ) → list_all (λ member. is_name member.0) members ≡ true → i < length members → is_name ((get_or members i ([], 0)).0) ≡ true
 name_at [] i names below = absurd (omega (arith, below))
-name_at (member ∷ members) zero names below = (both (is_name member.0) (list_all (λ m. is_name m.0) members) names).0
-name_at (member ∷ members) (suc i) names below = name_at members i ((both (is_name member.0) (list_all (λ m. is_name m.0) members) names).1) (omega (arith, below))
+name_at (member ∷ members) zero names below = (and_parts (is_name member.0) (list_all (λ m. is_name m.0) members) names).0
+name_at (member ∷ members) (suc i) names below = name_at members i ((and_parts (is_name member.0) (list_all (λ m. is_name m.0) members) names).1) (omega (arith, below))
 
 names_of_members : (header : Header) (ms : List ℕ) → list_all (λ member. is_name member.0) header.clusters.members ≡ true → ByRecursion (λ m. m < count_of header.clusters) ms → list_all is_name (map (member_name header) ms) ≡ true
 names_of_members header [] names all = refl
@@ -81,7 +80,7 @@ action-names (action.Continue workflow_type) fit = rw (fit) refl
 actions-names : (actions : List Action) → ByRecursion IsWellFormedAction actions → list_all is_name (flat_map action_words actions) ≡ true
 actions-names [] fit = refl
 actions-names (one ∷ actions) fit =
-    list_all-append is_name (action_words one) (flat_map action_words actions) ∙ together _ _ (action-names one fit.0) (actions-names actions fit.1)
+    list_all-append is_name (action_words one) (flat_map action_words actions) ∙ and_from _ _ (action-names one fit.0) (actions-names actions fit.1)
 
 -- a printed command line is a line
 command-line : (cluster domain workflow : List ℕ) (asked : Command) → IsName cluster → IsName domain → IsName workflow → IsWellFormedCommand asked → is_line (command_words cluster domain workflow asked) ≡ true
@@ -105,7 +104,7 @@ command-line cluster domain workflow (command.Respond actions) c d w fit = rw (c
 jobs-lines : (name : List ℕ) (jobs : List BurstJob) → IsName name → ByRecursion IsWellFormedJob jobs → AreLines (map (job_words name) jobs ++ (codes "end" ∷ []) ∷ [])
 jobs-lines name [] n fit = refl
 jobs-lines name (job ∷ jobs) n fit =
-    together _ _ (command-line name job.domain job.workflow job.command n fit.0.domain fit.0.workflow fit.0.command) (jobs-lines name jobs n fit.1)
+    and_from _ _ (command-line name job.domain job.workflow job.command n fit.0.domain fit.0.workflow fit.0.command) (jobs-lines name jobs n fit.1)
 
 -- a printed line is one
 act-line : (header : Header) (asked : Act) → AreNamed header → IsWellFormedHeader header → IsWellFormedAct header asked → is_line (act_words header asked) ≡ true
@@ -197,12 +196,12 @@ pub body-lines : (header : Header) (lines : List Line) → AreNamed header → I
 body-lines header [] names sound fit = refl
 body-lines header (line ∷ lines) names sound fit =
     list_all-append is_line (act_lines header line.act) (body_lines header lines)
-    ∙ together _ _ (together _ _ (act-line header line.act names sound fit.0) (behind-lines header line.act names fit.0)) (body-lines header lines names sound fit.1)
+    ∙ and_from _ _ (and_from _ _ (act-line header line.act names sound fit.0) (behind-lines header line.act names fit.0)) (body-lines header lines names sound fit.1)
 
 cluster-lines : (n : ℕ) (members : List (List ℕ × ℕ)) → n ≤ 10 ^ 12 → list_all (λ member. is_name member.0) members ≡ true → ((i : ℕ) → i < length members → (get_or members i ([], 0)).1 < n) → AreLines (map cluster_line_of members)
 cluster-lines n [] most names below = refl
 cluster-lines n (member ∷ members) most names below =
-    let p : (is_name member.0 ≡ true) × (list_all (λ m. is_name m.0) members ≡ true) = both (is_name member.0) (list_all (λ m. is_name m.0) members) names in
+    let p : (is_name member.0 ≡ true) × (list_all (λ m. is_name m.0) members ≡ true) = and_parts (is_name member.0) (list_all (λ m. is_name m.0) members) names in
     let first : member.1 < n = below 0 (omega arith) in
     rw (p.0, name-decimal member.1 (omega (arith, first, most))) (cluster-lines n members most p.1 (λ i l. below (suc i) (omega (arith, l))))
 

@@ -1,9 +1,9 @@
 -- Printed commands are read again.
 use Rattle.std.proofs.Common.{◌≡◌, ℕ, true, not, List, [], ◌∷◌, ◌++◌, flat_map, Some, Result, Ok, codes, refl, ap, ◌∙◌}
+use Rattle.std.proofs.lemmas.Bool.{and_parts}
 use Rattle.std.specs.List.{AllByRecursion as ByRecursion}
 use Rattle.std.proofs.lemmas.List.Elements.{recursion_from_All}
 use Rattle.ndc_event.specs.Outcome.{◌>>=◌}
-use Rattle.ndc_event.proofs.Tests.{both}
 use Rattle.ndc_command.specs.declared.command.Action.{Action}
 use Rattle.ndc_command.specs.declared.command.Action.TheVariants as action
 use Rattle.ndc_command.specs.declared.command.Command.{Command}
@@ -135,11 +135,11 @@ action-again line (action.Continue workflow_type) (word ∷ rest) fit last = abs
 -- no action stands behind one that closes the run
 last_closes : (one : Action) (actions : List Action) → closes_last (one ∷ actions) ≡ true → closes one ≡ true → flat_map action_words actions ≡ []
 last_closes one [] last h = refl
-last_closes one (next ∷ actions) last h = absurd (cc ((both (not (closes one)) (closes_last (next ∷ actions)) last).0, ap not h))
+last_closes one (next ∷ actions) last h = absurd (cc ((and_parts (not (closes one)) (closes_last (next ∷ actions)) last).0, ap not h))
 
 rest_last : (one : Action) (actions : List Action) → closes_last (one ∷ actions) ≡ true → closes_last actions ≡ true
 rest_last one [] last = refl
-rest_last one (next ∷ actions) last = (both (not (closes one)) (closes_last (next ∷ actions)) last).1
+rest_last one (next ∷ actions) last = (and_parts (not (closes one)) (closes_last (next ∷ actions)) last).1
 
 actions-again : (line : ℕ) (actions : List Action) → ByRecursion IsWellFormedAction actions → closes_last actions ≡ true → actions_behind line 0 (flat_map action_words actions) ≡ Ok actions
 unfolding actions_behind

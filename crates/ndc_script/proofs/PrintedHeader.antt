@@ -2,10 +2,9 @@
 use Rattle.std.proofs.Common.{◌≡◌, ℕ, suc, ◌+◌, ◌<◌, ◌≤◌, ◌^◌, Bool, true, false, List, [], ◌∷◌, ◌++◌, length, map, drop, get_or, nat_lt, Option, Some, None, Result, Ok, codes, decimal, if◌then◌else◌, refl, ap, ◌∙◌, arith, lit<}
 use Rattle.std.specs.List.{list_all, AllByRecursion as ByRecursion}
 use Rattle.std.specs.Str.{bytes_eq}
-use Rattle.std.proofs.lemmas.Bool.{le-leb, ltb-true}
+use Rattle.std.proofs.lemmas.Bool.{le-leb, ltb-true, and_parts}
 use Rattle.ndc_event.specs.Outcome.{◌>>=◌}
 use Rattle.ndc_event.specs.Name.{is_name, name_of, is_name_byte}
-use Rattle.ndc_event.proofs.Tests.{both}
 use Rattle.ndc_domain.specs.Clusters.{clusters_of}
 use Rattle.ndc_domain.proofs.Faults.{sound_is_built}
 use Rattle.ndc_domain.proofs.Writers.{not_true}
@@ -89,7 +88,7 @@ body-lines number (words ∷ lines) h = rw (h.0) refl
 members-fit : (n : ℕ) (members : List (List ℕ × ℕ)) → n ≤ 10 ^ 12 → list_all (λ member. is_name member.0) members ≡ true → ((i : ℕ) → i < length members → (get_or members i ([], 0)).1 < n) → ByRecursion IsMember members
 members-fit n [] most names below = tt
 members-fit n (member ∷ members) most names below =
-    let p : (is_name member.0 ≡ true) × (list_all (λ m. is_name m.0) members ≡ true) = both (is_name member.0) (list_all (λ m. is_name m.0) members) names in
+    let p : (is_name member.0 ≡ true) × (list_all (λ m. is_name m.0) members ≡ true) = and_parts (is_name member.0) (list_all (λ m. is_name m.0) members) names in
     let first : member.1 < n = below 0 (omega arith) in
     ((p.0, omega (arith, first, most)), members-fit n members most p.1 (λ i l. below (suc i) (omega (arith, l))))
 

@@ -1,9 +1,8 @@
 -- Printed lines are kept as they are.
 use Rattle.std.proofs.Common.{◌≡◌, ℕ, ◌+◌, ◌≤◌, Bool, true, false, ◌&&◌, not, List, [], ◌∷◌, length, nat_le, Option, Some, None, if◌then◌else◌, append_assoc, refl, ap, ◌∙◌, arith}
 use Rattle.std.specs.List.{list_all, cons_option}
-use Rattle.std.proofs.lemmas.Bool.{le-leb}
+use Rattle.std.proofs.lemmas.Bool.{le-leb, and_parts, and_from}
 use Rattle.ndc_event.specs.Name.{is_name}
-use Rattle.ndc_event.proofs.Tests.{both, together}
 use Rattle.ndc_script.specs.declared.text.Reading.TheVariants.{Readable, Unreadable, PastLimit}
 use Rattle.ndc_script.specs.Text.{KeptLine, words_of, is_line_byte, is_short, is_comment, is_skipped, reading_of, kept_line, kept_from, text_lines}
 use Rattle.ndc_script.specs.Print.{spaced, lines_text}
@@ -25,8 +24,8 @@ kept_numbered number (words ∷ lines) = record { number = number; reading = Rea
 names_are_short : (words : List (List ℕ)) → AreNames words → list_all is_short words ≡ true
 names_are_short [] h = refl
 names_are_short (word ∷ words) h =
-    let p : (is_name word ≡ true) × AreNames words = both (is_name word) (list_all is_name words) h in
-    together (is_short word) (list_all is_short words) (le-leb (length word) 200 ((name_parts word p.0).1)) (names_are_short words p.1)
+    let p : (is_name word ≡ true) × AreNames words = and_parts (is_name word) (list_all is_name words) h in
+    and_from (is_short word) (list_all is_short words) (le-leb (length word) 200 ((name_parts word p.0).1)) (names_are_short words p.1)
 
 not_false : (b : Bool) → not b ≡ true → b ≡ false
 not_false true h = absurd (cc)
@@ -51,7 +50,7 @@ kept_line-is number line = refl
 kept_line-spaced : (number : ℕ) (words : List (List ℕ)) → is_line words ≡ true → kept_line number (spaced words) ≡ Some (record { number = number; reading = Readable; words = words })
 kept_line-spaced number [] h = absurd (cc)
 kept_line-spaced number (word ∷ words) h =
-    let p : (not (is_comment word) ≡ true) × AreNames (word ∷ words) = both (not (is_comment word)) (list_all is_name (word ∷ words)) h in
+    let p : (not (is_comment word) ≡ true) × AreNames (word ∷ words) = and_parts (not (is_comment word)) (list_all is_name (word ∷ words)) h in
     kept_line-is number (spaced (word ∷ words))
     ∙ ap (λ (t : Bool). kept_by number t (words_of (spaced (word ∷ words)))) (line_bytes-spaced (word ∷ words) p.1)
     ∙ ap (kept_by number true) (words_of-spaced (word ∷ words) p.1)
@@ -59,7 +58,7 @@ kept_line-spaced number (word ∷ words) h =
 
 line_names : (words : List (List ℕ)) → is_line words ≡ true → AreNames words
 line_names [] h = refl
-line_names (word ∷ words) h = (both (not (is_comment word)) (list_all is_name (word ∷ words)) h).1
+line_names (word ∷ words) h = (and_parts (not (is_comment word)) (list_all is_name (word ∷ words)) h).1
 
 -- what is kept of a line past the limit
 abbrev past : ℕ → List KeptLine
@@ -69,7 +68,7 @@ past number = record { number = number; reading = PastLimit; words = [] } ∷ []
 pub kept_from-lines : (number : ℕ) (lines : List (List (List ℕ))) → AreLines lines → number + length lines ≤ 100001 → kept_from number (text_lines (lines_text lines)) ≡ kept_numbered number lines
 kept_from-lines number [] h few = refl
 kept_from-lines number (words ∷ lines) h few =
-    let p : (is_line words ≡ true) × AreLines lines = both (is_line words) (list_all is_line lines) h in
+    let p : (is_line words ≡ true) × AreLines lines = and_parts (is_line words) (list_all is_line lines) h in
     let names : AreNames words = line_names words p.0 in
     let within : nat_le number 100000 ≡ true = le-leb number 100000 (omega (arith, few)) in
     let less : number + 1 + length lines ≤ 100001 = omega (arith, few) in

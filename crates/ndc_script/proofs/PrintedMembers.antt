@@ -1,10 +1,9 @@
 -- The words CLUSTER of a printed line are read again.
 use Rattle.std.proofs.Common.{◌≡◌, ℕ, ◌<◌, Bool, true, false, ◌&&◌, ◌||◌, ◌==◌, not, List, [], ◌∷◌, length, map, filter, cond, All, Option, Some, None, Ok, if◌then◌else◌, refl, sym, ap, ◌∙◌, arith}
-use Rattle.std.proofs.lemmas.Bool.{eq-eqb}
+use Rattle.std.proofs.lemmas.Bool.{eq-eqb, and_parts}
 use Rattle.std.specs.List.{list_any, AllByRecursion as ByRecursion}
 use Rattle.std.specs.Str.{bytes_eq}
 use Rattle.std.proofs.lemmas.List.Elements.{recursion_from_All}
-use Rattle.ndc_event.proofs.Tests.{both}
 use Rattle.ndc_domain.specs.Clusters.{AreClusters, count_of, cluster_no, name_of, find_of}
 use Rattle.ndc_domain.specs.Members.{AreMembers, has_member, members_of, numbers, numbers_where}
 use Rattle.ndc_domain.specs.declared.clusters.ClusterNo.{ClusterNo}
@@ -50,7 +49,7 @@ distinct_filtered : (p : ℕ → Bool) (ns : List ℕ) → distinct ns ≡ true 
 unfolding distinct
 distinct_filtered p [] h = refl
 distinct_filtered p (n ∷ ns) h =
-    let parts : (not (list_any (λ m. m == n) ns) ≡ true) × (distinct ns ≡ true) = both (not (list_any (λ m. m == n) ns)) (distinct ns) h in
+    let parts : (not (list_any (λ m. m == n) ns) ≡ true) × (distinct ns ≡ true) = and_parts (not (list_any (λ m. m == n) ns)) (distinct ns) h in
     distinct_kept (p n) n (filter p ns) (none_filtered (λ m. m == n) p ns (not_false (list_any (λ m. m == n) ns) parts.0)) (distinct_filtered p ns parts.1)
 
 distinct_where : (p : ℕ → Bool) → distinct (numbers_where p) ≡ true
@@ -87,7 +86,7 @@ all_differ-names : (header : Header) → AreClusters header.clusters → (ms : L
 unfolding distinct
 all_differ-names header sound [] all h = refl
 all_differ-names header sound (m ∷ ms) all h =
-    let parts : (not (list_any (λ k. k == m) ms) ≡ true) × (distinct ms ≡ true) = both (not (list_any (λ k. k == m) ms)) (distinct ms) h in
+    let parts : (not (list_any (λ k. k == m) ms) ≡ true) × (distinct ms ≡ true) = and_parts (not (list_any (λ k. k == m) ms)) (distinct ms) h in
     let none : list_any (λ other. bytes_eq other (member_name header m)) (map (member_name header) ms) ≡ false =
     none_named header sound m ms all.0 all.1 (not_false (list_any (λ k. k == m) ms) parts.0) in
     rw none (all_differ-names header sound ms all.1 parts.1)

@@ -1,7 +1,6 @@
 -- Printed numbers are read again.
 use Rattle.std.proofs.Common.{◌≡◌, ℕ, suc, zero, ◌<◌, ◌^◌, Bool, true, false, not, List, [], ◌∷◌, length, get_or, Some, None, decimal, nat_lt, nat_le, if◌then◌else◌, refl, ap, ◌∙◌, rules, arith, lit<}
-use Rattle.std.proofs.lemmas.Bool.{lt-ltb, le-leb}
-use Rattle.ndc_event.proofs.Tests.{together}
+use Rattle.std.proofs.lemmas.Bool.{lt-ltb, le-leb, and_from}
 use Rattle.ndc_script.proofs.PrintedWords.{differs}
 use Rattle.std.specs.List.{list_all}
 use Rattle.std.proofs.lemmas.Str.Parse.{IsNumeralModel, numerals_by_fold}
@@ -31,5 +30,5 @@ number_of-decimal n h =
     let few : nat_le (length (decimal n)) 18 ≡ true = le-leb (length (decimal n)) 18 (length-decimal-le 18 n (lit< tt) h small) in
     let digits : list_all is_digit (decimal n) ≡ true = digits_decimal own n small in
     let plain : not (has_leading_zero (decimal n)) ≡ true = rw (decimal_zero n small) refl in
-    let number : is_number (decimal n) ≡ true = together _ _ (together _ _ (together _ _ some few) digits) plain in
+    let number : is_number (decimal n) ≡ true = and_from _ _ (and_from _ _ (and_from _ _ some few) digits) plain in
     ap (λ (b : Bool). if b then Some (value_on 0 (decimal n)) else None) number ∙ ap Some (digits_value-decimal own n small)

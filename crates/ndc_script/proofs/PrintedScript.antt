@@ -1,12 +1,12 @@
 -- A printed script is read again.
 use Rattle.std.proofs.Common.{◌≡◌, ℕ, ◌+◌, List, [], ◌∷◌, ◌++◌, length, flat_map, Result, Ok, refl, sym, ap, ◌∙◌, arith}
+use Rattle.std.proofs.lemmas.Bool.{and_from}
 use Rattle.std.specs.List.{AllByRecursion as ByRecursion}
 use Rattle.std.proofs.lemmas.Grind.{flat_map-append}
 use Rattle.std.proofs.lemmas.List.{length-map}
 use Rattle.std.proofs.lemmas.List.Elements.{recursion_from_All}
 use Rattle.std.proofs.lemmas.List.Folds.{list_all-append}
 use Rattle.ndc_event.specs.Outcome.{◌>>=◌}
-use Rattle.ndc_event.proofs.Tests.{together}
 use Rattle.ndc_script.specs.declared.script.Header.{Header}
 use Rattle.ndc_script.specs.declared.script.Line.{Line}
 use Rattle.ndc_script.specs.declared.script.Script.{Script}
@@ -36,7 +36,7 @@ text-lines script =
 script-lines : (script : Script) → IsWellFormed script → AreLines (script_lines script)
 script-lines script fit =
     list_all-append is_line (header_lines script.header) (body_lines script.header script.lines)
-    ∙ together _ _ (header-lines script.header fit.header fit.header.names)
+    ∙ and_from _ _ (header-lines script.header fit.header fit.header.names)
     (body-lines script.header script.lines fit.header.names fit.header (recursion_from_All (λ (line : Line). IsWellFormedAct script.header line.act) script.lines fit.lines))
 
 -- a printed script is read again, line numbers aside

@@ -1,4 +1,4 @@
-//! The script language: text read into scripts.
+//! The script language: scripts read from text and printed, and scripts generated from a seed.
 #![tactic(auto)]
 
 mod body;

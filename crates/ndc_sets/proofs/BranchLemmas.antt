@@ -83,7 +83,8 @@ greatest-among (c ∷ cs) g = by (greatest_key cs) (greatest-among cs g)
 abbrev pub IsUpTo : BatchKey → BatchKey → Type 0
 IsUpTo high key = (key ≡ high) ⊎ (key_lt key high ≡ true)
 
-up-to : (a b : BatchKey) → key_lt b a ≡ false → IsUpTo b a
+-- a key that is not before another is up to it
+pub up-to : (a b : BatchKey) → key_lt b a ≡ false → IsUpTo b a
 up-to a b l = by (key_eq b a) refl
   where
     by : (t : Bool) → key_eq b a ≡ t → IsUpTo b a

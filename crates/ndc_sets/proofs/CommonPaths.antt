@@ -1,6 +1,6 @@
 -- What the version histories of two paths of one run have in common.
 use Rattle.std.proofs.Common.{◌≡◌, ℕ, ◌<◌, ◌≤◌, true, ◌==◌, List, [], ◌∷◌, ◌++◌, ◌⊎◌, inl, inr, Option, Some, None, refl, sym, ◌∙◌, subst, ap, arith}
-use Rattle.std.proofs.lemmas.Bool.{and_from, eq-eqb, cases_lt}
+use Rattle.std.proofs.lemmas.Bool.{eq-eqb, cases_lt}
 use Rattle.ndc_event.specs.declared.batch.Batch.{Batch}
 use Rattle.ndc_event.specs.declared.batch.Event.{Event}
 use Rattle.ndc_event.specs.declared.key.BatchKey.{BatchKey}
@@ -9,7 +9,7 @@ use Rattle.ndc_state.specs.Replay.{history_of}
 use Rattle.ndc_sets.specs.Sets.{Rise, Has}
 use Rattle.ndc_sets.specs.Paths.{IsPath, path_to, events_to, GoApart, versions_of, last_id_of, later_id, last_item_of}
 use Rattle.ndc_sets.specs.Sound.{IsSound}
-use Rattle.ndc_sets.proofs.KeyLemmas.{same-keys}
+use Rattle.ndc_sets.proofs.KeyLemmas.{key-parts}
 use Rattle.ndc_sets.proofs.Lists.{Among}
 use Rattle.ndc_sets.proofs.PathLemmas.{path_is, one-path}
 use Rattle.ndc_sets.proofs.BranchLemmas.{has-among, same-batch}
@@ -17,10 +17,6 @@ use Rattle.ndc_sets.proofs.PathIds.{AreEventsTo, path-events, history-append}
 use Rattle.ndc_sets.proofs.HistoryLemmas.{versions-rise, versions-ids}
 use Rattle.ndc_sets.proofs.CommonLemmas.{NotBoth, common-none, common-front}
 use Rattle.ndc_sets.proofs.ForkLemmas.{comes-to, path-run, path-rises, not-twice, shared-front, apart-once, fork, version-batch, among-left, among-right}
-
--- equal parts make equal keys
-key-parts : (a b : BatchKey) → a.version ≡ b.version → a.task ≡ b.task → a ≡ b
-key-parts a b v t = same-keys a b (and_from (a.version == b.version) (a.task == b.task) (eq-eqb a.version b.version v) (eq-eqb a.task b.task t))
 
 module _ (batches : List Batch) (sound : IsSound batches) (a b : Batch) (one two : List Batch) (to_a : IsPath batches a one) (to_b : IsPath batches b two)
     (runs : a.run ≡ b.run) (front rest other : List Batch) (one_is : one ≡ front ++ rest) (two_is : two ≡ front ++ other) (apart : GoApart rest other) where

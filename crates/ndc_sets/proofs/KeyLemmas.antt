@@ -50,12 +50,16 @@ parts-key : (v t w u : ℕ) → v ≡ w → t ≡ u → key v t ≡ key w u
 unfolding key
 parts-key v t w u e f = cc
 
+pub key-parts : (a b : BatchKey) → a.version ≡ b.version → a.task ≡ b.task → a ≡ b
+unfolding key
+key-parts a b v t = parts-key a.version a.task b.version b.task v t
+
 -- keys that test as one are
 pub same-keys : (a b : BatchKey) → key_eq a b ≡ true → a ≡ b
 unfolding key
 same-keys a b h =
     let p = and_parts (a.version == b.version) (a.task == b.task) h in
-    parts-key a.version a.task b.version b.task (eqb-true a.version b.version p.0) (eqb-true a.task b.task p.1)
+    key-parts a b (eqb-true a.version b.version p.0) (eqb-true a.task b.task p.1)
 
 pub key_eq-self : (a : BatchKey) → key_eq a a ≡ true
 key_eq-self a = and_from (a.version == a.version) (a.task == a.task) (eq-eqb a.version a.version refl) (eq-eqb a.task a.task refl)

@@ -1,7 +1,6 @@
 -- Replay, event by event.
 use Rattle.std.proofs.Common.{◌≡◌, ℕ, ◌+◌, Bool, true, false, ◌&&◌, ◌||◌, ◌==◌, not, nat_lt, is_none, List, [], ◌∷◌, ◌++◌, length, ◌≤◌, IsSome, is_some, IsErr, if◌then◌else◌, Option, None, Some, Result, Ok, Err, refl, ap, sym, ◌∙◌, subst, arith, true≢false}
-use Rattle.std.proofs.lemmas.Bool.{eqb-true, eq-eqb, lt-ltb, and_from}
-use Rattle.ndc_event.proofs.Tests.{both}
+use Rattle.std.proofs.lemmas.Bool.{eqb-true, eq-eqb, lt-ltb, and_from, and_parts}
 use Rattle.ndc_event.specs.declared.key.RunId.{RunId}
 use Rattle.ndc_event.specs.declared.batch.Event.{Event}
 use Rattle.ndc_event.specs.Batch.{follow_from}
@@ -84,7 +83,7 @@ IsFit-after s event h fit = by (is_start event.kind) refl
         }
     by false e =
         let was : s.running ≡ true = subst (λ b. (b || s.running) ≡ true) e a.running in
-        let none : s.close ≡ None = is_none-None s.close (both (nat_lt 1 s.next) (is_none s.close) (sym fit.running ∙ was)).1 in
+        let none : s.close ≡ None = is_none-None s.close (and_parts (nat_lt 1 s.next) (is_none s.close) (sym fit.running ∙ was)).1 in
         record {
           next = omega arith;
           unclosed = λ n. absurd (omega (arith, id_is, fit.next, n));
@@ -114,7 +113,7 @@ closed-takes s fit closed event = by (rule_of s event) refl
             true≢false (sym closed ∙ ap is_some none)
         one_event false e a =
             let was : s.running ≡ true = subst (λ b. (b || s.running) ≡ true) e a.running in
-            let none : s.close ≡ None = is_none-None s.close (both (nat_lt 1 s.next) (is_none s.close) (sym fit.running ∙ was)).1 in
+            let none : s.close ≡ None = is_none-None s.close (and_parts (nat_lt 1 s.next) (is_none s.close) (sym fit.running ∙ was)).1 in
             true≢false (sym closed ∙ ap is_some none)
 
 -- events that replay have ids that rise by one, from that of the state on

@@ -1,7 +1,7 @@
 -- What is pending by name, in the order of scheduling.
 use Rattle.std.specs.Prelude.{ℕ, zero, suc, Bool, false, is_some, is_none, nat_eq, List, [], ◌∷◌, ◌++◌, Option, Some, None, if◌then◌else◌, take}
 use Rattle.std.specs.Cmp.Lexicographic.{pointwise}
-use Rattle.std.specs.Map.{lookup, remove_entry}
+use Rattle.std.specs.Map.{lookup}
 use Rattle.ndc_event.specs.declared.name.Name.{Name}
 use Rattle.ndc_state.specs.declared.pendings.Pending.{Pending}
 
@@ -41,9 +41,10 @@ with_started name id [] = []
 with_started name id (entry ∷ entries) =
     if same_name name entry.0 then (entry.0, started_by id entry.1) ∷ entries else entry ∷ with_started name id entries
 
--- the entry of this name is gone, and the others keep their order
+-- what stands under this name is gone, and the others keep their order
 abbrev pub without : Name → List (Name × Pending) → List (Name × Pending)
-without name entries = remove_entry (same_name name) entries
+without name [] = []
+without name (entry ∷ entries) = if same_name name entry.0 then without name entries else entry ∷ without name entries
 
 -- the entry at a place is not started
 abbrev pub unstarted_at : ℕ → List (Name × Pending) → List (Name × Pending)

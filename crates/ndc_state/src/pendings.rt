@@ -138,6 +138,7 @@ impl Pendings {
     }
 
     /// Takes the name out.
+    #[tactic(auto, using(crate::proofs::PlaceLemmas::without_first))]
     pub(crate) fn remove(&mut self, name: &Name) -> Result<(), AllocError>
         ensures current { OnOk result (self.new.current ≡ without name.now self.old.current) }
         ensures marked { self.new.marked ≡ self.old.marked }

@@ -19,7 +19,8 @@ impl State {
     }
 
     /// Appends what a batch of this version that goes below the tip of this state begins with: where it is
-    /// due, the started decision fails with the cause `failoverClose` and is scheduled again.
+    /// due, the started decision fails with the cause `failoverClose` and is scheduled again. For want of memory
+    /// the first of the two may stand there.
     pub fn push_failover_close(
         &self,
         alloc: Global,
@@ -37,7 +38,7 @@ impl State {
         Ok(())
     }
 
-    /// Appends the scheduling of a decision, where none is pending.
+    /// Appends the scheduling of a decision, where none is pending. For want of memory nothing is appended.
     pub fn push_wake(&self, kinds: &mut Vec<EventKind>) -> Result<(), AllocError>
         ensures ok { OnOk result (kinds.new.items ≡ kinds.old.items ++ wake self.now) }
     {

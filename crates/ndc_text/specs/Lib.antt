@@ -4,3 +4,4 @@ pub mod Ranges
 pub mod Walk
 pub mod Seen
 pub mod Read
+pub mod Views

@@ -7,5 +7,5 @@ pub returns : goal.returns
 returns c =
     gives_same _ c.push_actions.result _ _
     (responded c.args.self.now.version c.args.self.now.next_run c.args.self.now.state.now c.decision.result c.args.actions.now c.as_slice.result.now
-    c.args.kinds.now.items c.push.new.self.items c.requires c.decision.ensures (sym c.in_ok-needs_started.ensures) c.as_slice.ensures c.in_ok-push.ensures.items)
+    c.args.kinds.now.items c.push.new.self.items c.decision.ensures (sym c.in_ok-needs_started.ensures) c.as_slice.ensures c.in_ok-push.ensures.items)
     c.push_actions.ensures

@@ -1,0 +1,181 @@
+-- Fair worlds: what holds of every world that a script comes to, in eight parts.
+use Rattle.std.specs.Prelude.{◌≡◌, ◌≢◌, ℕ, ◌+◌, ◌*◌, ◌^◌, ◌<◌, ◌≤◌, Bool, true, ◌||◌, is_some, AllPairs, List, map, drop, length, slice_index_or, take, Option, Some, None, if◌then◌else◌}
+use Rattle.std.specs.List.{AllByRecursion, IsAmong, filter, flat_map, list_any}
+use Rattle.std.specs.Str.{bytes_eq}
+use Rattle.ndc_domain.specs.Clusters.{cluster_no, count_of, writer_of}
+use Rattle.ndc_domain.specs.Laws.{DaysAgree, NamesActive}
+use Rattle.ndc_domain.specs.Records.{IsTable, record_of}
+use Rattle.ndc_domain.specs.declared.clusters.ClusterNo.{ClusterNo}
+use Rattle.ndc_domain.specs.declared.record.DomainRecord.{DomainRecord}
+use Rattle.ndc_event.specs.declared.batch.Batch.{Batch}
+use Rattle.ndc_event.specs.declared.batch.Event.{Event}
+use Rattle.ndc_event.specs.declared.key.Origin.{Origin}
+use Rattle.ndc_event.specs.declared.kind.EventKind.TheVariants.{WorkflowExecutionSignaled}
+use Rattle.ndc_event.specs.declared.name.Name.{Name}
+use Rattle.ndc_script.specs.WellFormed.{AreTwoClusters, IsCluster}
+use Rattle.ndc_script.specs.declared.script.Header.{Header}
+use Rattle.ndc_sets.specs.Sets.{Has}
+use Rattle.ndc_sets.specs.Sound.{IsSound, Names}
+use Rattle.ndc_model.specs.Arrival.{Sent, has_arrived}
+use Rattle.ndc_model.specs.Cells.{AreInOrder, Cell, Place, is_of, learned_of, place_of}
+use Rattle.ndc_model.specs.Moves.{authored, shard_of}
+use Rattle.ndc_model.specs.Queues.{Lane, batch_there, carries, is_settled_for, names_cluster}
+use Rattle.ndc_model.specs.Report.{count_kinds, is_original}
+use Rattle.ndc_model.specs.Steps.{trimmed_at}
+use Rattle.ndc_model.specs.World.{World, cell_at, cluster_at, clusters_of, lane_at, link_at, queue_at}
+use Rattle.ndc_model.specs.Writing.{goes_on_as}
+
+-- the places of all that the clusters have written in a shard
+abbrev pub places_written : Header → ℕ → World → List Place
+places_written header shard w = flat_map (λ cluster. (cell_at cluster shard w).written) (clusters_of header)
+
+-- all batches of a workflow that any cluster has written
+abbrev pub written_of : Header → Name → Name → World → List Batch
+written_of header domain workflow w = filter (is_of domain workflow) (authored header (shard_of domain workflow header.shards) w)
+
+-- something holds of the cell of each cluster for each shard
+abbrev pub EachCell : Header → World → (ClusterNo → ℕ → Cell → Type 0) → Type 0
+EachCell header w holds = (cluster : ClusterNo) (shard : ℕ) → IsCluster header cluster → shard < header.shards → holds cluster shard (cell_at cluster shard w)
+
+-- something holds of each record of each cluster's table
+abbrev pub EachRecord : Header → World → (DomainRecord → Type 0) → Type 0
+EachRecord header w holds = (cluster : ClusterNo) → IsCluster header cluster → AllByRecursion holds (cluster_at cluster w).table
+
+-- whether a batch ends by going on as another run
+abbrev pub goes_on : Batch → Bool
+goes_on b = is_some (goes_on_as (map (λ event. event.kind) b.events))
+
+-- no two writings are of one place; what the clusters wrote of a workflow is sound, and a batch carries one other exactly where it goes on as another run
+pub record WritingIsSound (header : Header) (w : World) : Type 0 where
+  pub differ : (shard : ℕ) → shard < header.shards → AllPairs (λ one two. one ≢ two) (places_written header shard w)
+  pub sound : (domain workflow : Name) → IsSound (written_of header domain workflow w)
+  pub carried : (domain workflow : Name) (b : Batch) → Has (written_of header domain workflow w) b
+      → length (filter (carries b) (written_of header domain workflow w)) ≡ (if goes_on b then 1 else 0)
+
+-- one of the batches has the event that an origin names, and it is an original signal of this name and input
+pub record HasOriginal (batches : List Batch) (origin : Origin) (name input : Name) : Type 0 where
+  pub batch : Batch
+  pub has : Has batches batch
+  pub event : Event
+  pub among : IsAmong batch.events event
+  pub named : Names origin batch.run event
+  pub kind : event.kind ≡ WorkflowExecutionSignaled name input None
+
+-- each copied signal names an original one
+abbrev pub CopiesNameOriginals : Header → World → Type 0
+CopiesNameOriginals header w = (domain workflow : Name) (b : Batch) → Has (written_of header domain workflow w) b
+    → AllByRecursion
+    (λ copy. (name input : Name) (origin : Origin) → copy.kind ≡ WorkflowExecutionSignaled name input (Some origin) → HasOriginal (written_of header domain workflow w) origin name input)
+    b.events
+
+-- a table has a record of the domain, whose version is not below this one
+pub record HasRecordFrom (version : ℕ) (domain : Name) (table : List DomainRecord) : Type 0 where
+  pub found : DomainRecord
+  pub has : record_of table domain ≡ Some found
+  pub least : version ≤ found.version
+
+-- what a cluster wrote: the version is its own, the batch is learned there, and its record of the domain has come to the version
+pub record IsOwn (header : Header) (cluster : ClusterNo) (table : List DomainRecord) (cell : Cell) (place : Place) : Type 0 where
+  pub version : writer_of header.clusters place.key.version ≡ Some cluster
+  pub learned : is_some (batch_there (learned_of place.domain place.workflow cell) place) ≡ true
+  pub recorded : HasRecordFrom place.key.version place.domain table
+
+-- each cluster has written with versions of its own
+abbrev pub WritersOwnVersions : Header → World → Type 0
+WritersOwnVersions header w = EachCell header w (λ cluster shard cell. AllByRecursion (IsOwn header cluster (cluster_at cluster w).table cell) cell.written)
+
+-- what has arrived was written, each batch once, and a batch has arrived exactly where the one that it carries has
+pub record IsArrivedFit (header : Header) (w : World) (shard : ℕ) (cell : Cell) : Type 0 where
+  pub once : AreInOrder cell.arrived
+  pub written : AllByRecursion (λ b. batch_there (authored header shard w) (place_of b) ≡ Some b) cell.arrived
+  pub carried : (b second : Batch) → IsAmong (authored header shard w) b → IsAmong (authored header shard w) second → carries b second ≡ true
+      → has_arrived b cell ≡ has_arrived second cell
+
+abbrev pub ArrivalsWereWritten : Header → World → Type 0
+ArrivalsWereWritten header w = EachCell header w (λ cluster shard cell. IsArrivedFit header w shard cell)
+
+-- whether a domain is one of those that a reader still lacks from a source
+abbrev pub is_late : Header → ClusterNo → ClusterNo → Name → World → Bool
+is_late header reader source domain w = list_any (λ late. bytes_eq late domain) (link_at header reader source w).late
+
+-- the levels of a lane: nothing is trimmed that is not done, nothing is done that was not read, and nothing was read behind the queue's end;
+-- what is done is learned by the reader, not addressed to it, or late; what is in flight is in the queue
+pub record IsLaneTrue (header : Header) (reader source : ClusterNo) (shard : ℕ) (w : World) (lane : Lane) : Type 0 where
+  pub trimmed_most : trimmed_at source w shard ≤ lane.done
+  pub done_most : lane.done ≤ lane.read
+  pub read_most : lane.read ≤ length (queue_at source shard w)
+  pub done : AllByRecursion
+      (λ sent. (is_settled_for reader (cluster_at source w).table (cell_at reader shard w) sent || is_late header reader source sent.batch.domain w) ≡ true)
+      (take lane.done (queue_at source shard w))
+  pub flight : AllByRecursion (IsAmong (queue_at source shard w)) lane.flight
+
+abbrev pub LanesAreTrue : Header → World → Type 0
+LanesAreTrue header w = (reader source : ClusterNo) (shard : ℕ) → AreTwoClusters header reader source → shard < header.shards
+    → IsLaneTrue header reader source shard w (lane_at header reader source shard w)
+
+-- the primary cluster: the first of the header
+abbrev pub primary : ClusterNo
+primary = cluster_no 0
+
+-- a table has a record of this one's domain whose config version is not below this one's
+pub record IsConfigKnown (table : List DomainRecord) (one : DomainRecord) : Type 0 where
+  pub found : DomainRecord
+  pub has : record_of table one.name ≡ Some found
+  pub most : one.config ≤ found.config
+
+-- a record's version is in range and has a writer, and its config version is at most the number of lines run
+pub record IsRecordInRange (header : Header) (lines : ℕ) (one : DomainRecord) : Type 0 where
+  pub version_most : one.version ≤ 10 ^ 13
+  pub writer : is_some (writer_of header.clusters one.version) ≡ true
+  pub config_most : one.config ≤ lines
+
+-- tables are in order and their records in range; the primary knows each domain and its greatest config version; equal config versions have equal days
+pub record RecordsAgree (header : Header) (lines : ℕ) (w : World) : Type 0 where
+  pub tables : (cluster : ClusterNo) → IsCluster header cluster → IsTable (cluster_at cluster w).table
+  pub ranges : EachRecord header w (IsRecordInRange header lines)
+  pub known : EachRecord header w (IsConfigKnown (cluster_at primary w).table)
+  pub days : (one two : ClusterNo) → IsCluster header one → IsCluster header two → DaysAgree (cluster_at one w).table (cluster_at two w).table
+
+-- how many original signals batches hold
+abbrev pub originals_in : List Batch → ℕ
+originals_in batches = count_kinds is_original (flat_map (λ b. b.events) batches)
+
+-- what was written of a workflow is bounded by the lines run: tasks by batches, batches and original signals by lines; no batch is too long
+pub record AreNumbersSmall (lines : ℕ) (batches : List Batch) : Type 0 where
+  pub tasks : AllByRecursion (λ b. b.key.task ≤ length batches) batches
+  pub batches_most : length batches ≤ 2 * lines
+  pub originals_most : originals_in batches ≤ lines
+  pub events_most : AllByRecursion (λ b. length b.events ≤ 204803) batches
+
+pub record NumbersAreSmall (header : Header) (lines : ℕ) (w : World) : Type 0 where
+  pub written : (domain workflow : Name) → AreNumbersSmall lines (written_of header domain workflow w)
+  pub lines_most : lines ≤ 100000
+
+-- a record names its active cluster, and its members are clusters of the header
+pub record AreMembersKnown (header : Header) (one : DomainRecord) : Type 0 where
+  pub active : NamesActive header.clusters one
+  pub known : AllByRecursion (λ number. number < count_of header.clusters) one.members
+
+-- whether some cluster's record of a domain names a cluster
+abbrev pub is_named : Header → ClusterNo → World → Name → Bool
+is_named header cluster w domain = list_any (λ other. names_cluster cluster (record_of (cluster_at other w).table domain)) (clusters_of header)
+
+-- batches come to members alone: what has arrived, what is in flight and what is late is of domains that name the cluster
+pub record MembersAlone (header : Header) (w : World) : Type 0 where
+  pub members : EachRecord header w (AreMembersKnown header)
+  pub arrived : EachCell header w (λ cluster shard cell. AllByRecursion (λ b. is_named header cluster w b.domain ≡ true) cell.arrived)
+  pub flight : (reader source : ClusterNo) (shard : ℕ) → AreTwoClusters header reader source → shard < header.shards
+      → AllByRecursion (λ sent. is_named header reader w sent.batch.domain ≡ true) (lane_at header reader source shard w).flight
+  pub late : (reader source : ClusterNo) → AreTwoClusters header reader source
+      → AllByRecursion (λ domain. names_cluster reader (record_of (cluster_at source w).table domain) ≡ true) (link_at header reader source w).late
+
+-- a fair world, behind so many lines
+pub record IsFair (header : Header) (lines : ℕ) (w : World) : Type 0 where
+  pub writing : WritingIsSound header w
+  pub copies : CopiesNameOriginals header w
+  pub writers : WritersOwnVersions header w
+  pub arrivals : ArrivalsWereWritten header w
+  pub lanes : LanesAreTrue header w
+  pub records : RecordsAgree header lines w
+  pub numbers : NumbersAreSmall header lines w
+  pub members : MembersAlone header w

@@ -1,0 +1,122 @@
+-- Handing a domain over: begun at its active cluster, completed at the target once it has all that was written before.
+use Rattle.std.specs.Prelude.{ℕ, Bool, true, false, not, is_some, nat_lt, List, [], ◌∷◌, ◌++◌, map, length, codes, decimal, find, slice_index_or, Option, Some, None, Result, Ok, Err, if◌then◌else◌}
+use Rattle.std.specs.List.{filter, list_any}
+use Rattle.std.specs.Str.{bytes_eq}
+use Rattle.ndc_command.specs.declared.refusal.Refusal.TheVariants.{UnknownDomain, NotActive}
+use Rattle.ndc_domain.specs.Clusters.{writer_of}
+use Rattle.ndc_domain.specs.Merge.{merged}
+use Rattle.ndc_domain.specs.Records.{failover_of, only_of, record_of}
+use Rattle.ndc_domain.specs.declared.clusters.ClusterNo.{ClusterNo}
+use Rattle.ndc_domain.specs.declared.record.DomainRecord.{DomainRecord}
+use Rattle.ndc_domain.specs.declared.record.FailoverError.{FailoverError}
+use Rattle.ndc_event.specs.declared.name.Name.{Name}
+use Rattle.ndc_script.specs.declared.script.Header.{Header}
+use Rattle.ndc_model.specs.Steps.{Stepped, answered, failover_words}
+use Rattle.ndc_model.specs.Texts.{ok, refusal_words, refused}
+use Rattle.ndc_model.specs.World.{Handover, World, cluster_at, lane_at, link_at, queue_at, same_cluster, shards_of, with_table}
+use Rattle.ndc_model.specs.Writing.{is_writer}
+
+-- whether a handover is of this domain
+abbrev pub is_handover_of : Name → Handover → Bool
+is_handover_of domain handover = bytes_eq handover.domain domain
+
+-- the open handover of a domain, where there is one
+abbrev pub open_handover : Name → World → Option Handover
+open_handover domain w = find (is_handover_of domain) w.handovers
+
+-- a handover is opened
+abbrev pub with_handover : Handover → World → World
+with_handover handover w = record w { handovers = w.handovers ++ handover ∷ [] }
+
+-- the handover of a domain is ended
+abbrev pub without_handover : Name → World → World
+without_handover domain w = record w { handovers = filter (λ handover. not (is_handover_of domain handover)) w.handovers }
+
+-- the handover of a domain from its active cluster, by its record, to a version of the target: in each shard it is done where the queue ends now
+abbrev pub handover_of : Header → Name → ClusterNo → ClusterNo → ℕ → ℕ → World → Handover
+handover_of header domain giver taker old new w = record {
+  domain = domain;
+  giver = giver;
+  taker = taker;
+  old = old;
+  new = new;
+  places = map (λ shard. length (queue_at giver shard w)) (shards_of header);
+}
+
+-- a handover begins where the domain fails over to the target
+abbrev pub handover_begun : Header → ClusterNo → Name → ClusterNo → DomainRecord → World → Result (ℕ × List DomainRecord) FailoverError → Stepped
+handover_begun header at domain target one w (Err error) = answered w (refused (failover_words error))
+handover_begun header at domain target one w (Ok answer) =
+    answered (with_handover (handover_of header domain at target one.version answer.0 w) (with_table at answer.1 w)) (ok (decimal answer.0 ∷ []))
+
+-- and where the version of the cluster's record is its own
+abbrev pub handover_by : Header → ClusterNo → Name → ClusterNo → World → Option DomainRecord → Stepped
+handover_by header at domain target w None = answered w (refused (refusal_words UnknownDomain))
+handover_by header at domain target w (Some one) =
+    if not (is_writer at (writer_of header.clusters one.version)) then answered w (refused (refusal_words (NotActive one.version)))
+    else handover_begun header at domain target one w (failover_of header.clusters domain target (cluster_at at w).table)
+
+-- `handover`: no other one of the domain may be open
+abbrev pub handover_step : Header → ClusterNo → Name → ClusterNo → World → Stepped
+handover_step header at domain target w =
+    if is_some (open_handover domain w) then answered w (refused (codes "HandoverOpen" ∷ []))
+    else handover_by header at domain target w (record_of (cluster_at at w).table domain)
+
+-- the version of a record that is not below another one, where there is such a record
+abbrev pub not_below : ℕ → Option DomainRecord → Option ℕ
+not_below new None = None
+not_below new (Some one) = if nat_lt one.version new then None else Some one.version
+
+-- the version of a record, 0 where there is none
+abbrev pub version_or_zero : Option DomainRecord → ℕ
+version_or_zero None = 0
+version_or_zero (Some one) = one.version
+
+-- how far the target has to be done in a shard, and how far it is
+abbrev pub place_in : Handover → ℕ → ℕ
+place_in handover shard = slice_index_or handover.places shard 0
+
+abbrev pub done_in : Header → Handover → World → ℕ → ℕ
+done_in header handover w shard = (lane_at header handover.taker handover.giver shard w).done
+
+-- the first shard in which the target is not done with what was written before the handover
+abbrev pub lagging_shard : Header → Handover → World → Option ℕ
+lagging_shard header handover w = find (λ shard. nat_lt (done_in header handover w shard) (place_in handover shard)) (shards_of header)
+
+-- whether the target is still to be brought what it lacks of the domain
+abbrev pub is_bootstrap_due : Header → Handover → World → Bool
+is_bootstrap_due header handover w = list_any (λ domain. bytes_eq domain handover.domain) (link_at header handover.taker handover.giver w).late
+
+-- the target merges the one record, and the handover ends
+abbrev pub handed_over : Handover → World → World
+handed_over handover w =
+    without_handover handover.domain
+    (with_table handover.taker (merged (cluster_at handover.taker w).table (only_of (cluster_at handover.giver w).table handover.domain)) w)
+
+-- the version of the target's record of the domain
+abbrev pub taken_version : Handover → World → ℕ
+taken_version handover w = version_or_zero (record_of (cluster_at handover.taker w).table handover.domain)
+
+-- a handover is completed where no shard lags
+abbrev pub complete_lagging : Header → Handover → World → Option ℕ → Stepped
+complete_lagging header handover w None = answered (handed_over handover w) (ok (decimal (taken_version handover (handed_over handover w)) ∷ []))
+complete_lagging header handover w (Some shard) =
+    answered w (refused (codes "NotYet" ∷ decimal shard ∷ decimal (done_in header handover w shard) ∷ decimal (place_in handover shard) ∷ []))
+
+-- the target's record may have come to a version not below the new one: this ends the handover
+abbrev pub complete_overtaken : Header → Handover → World → Option ℕ → Stepped
+complete_overtaken header handover w (Some version) = answered (without_handover handover.domain w) (refused (codes "Overtaken" ∷ decimal version ∷ []))
+complete_overtaken header handover w None =
+    if is_bootstrap_due header handover w then answered w (refused (codes "BootstrapDue" ∷ []))
+    else complete_lagging header handover w (lagging_shard header handover w)
+
+-- only the target completes
+abbrev pub complete_open : Header → ClusterNo → World → Option Handover → Stepped
+complete_open header at w None = answered w (refused (codes "NoHandover" ∷ []))
+complete_open header at w (Some handover) =
+    if not (same_cluster handover.taker at) then answered w (refused (codes "NoHandover" ∷ []))
+    else complete_overtaken header handover w (not_below handover.new (record_of (cluster_at at w).table handover.domain))
+
+-- `complete`
+abbrev pub complete_step : Header → ClusterNo → Name → World → Stepped
+complete_step header at domain w = complete_open header at w (open_handover domain w)

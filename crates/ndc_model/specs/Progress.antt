@@ -1,0 +1,142 @@
+-- Progress of activities, told beside the histories.
+use Rattle.std.specs.Prelude.{ℕ, ◌+◌, Bool, true, false, ◌&&◌, ◌||◌, ◌==◌, not, nat_lt, List, [], ◌∷◌, ◌++◌, codes, count_by, decimal, Option, Some, None, Result, Ok, Err, if◌then◌else◌}
+use Rattle.std.specs.List.{filter}
+use Rattle.std.specs.Str.{bytes_eq}
+use Rattle.ndc_command.specs.Stage.{needs_started, refuse, stage_of, ◌>>◌}
+use Rattle.ndc_command.specs.declared.refusal.CommandError.{CommandError}
+use Rattle.ndc_command.specs.declared.refusal.CommandError.TheVariants.{Refused}
+use Rattle.ndc_command.specs.declared.refusal.Refusal.TheVariants.{ActivityNotStarted, Closed, NoSuchActivity, NoWorkflow}
+use Rattle.ndc_domain.specs.declared.clusters.ClusterNo.{ClusterNo}
+use Rattle.ndc_event.specs.Outcome.{◌>>=◌}
+use Rattle.ndc_event.specs.declared.batch.Batch.{Batch}
+use Rattle.ndc_event.specs.declared.batch.Event.{Event}
+use Rattle.ndc_event.specs.declared.name.Name.{Name}
+use Rattle.ndc_script.specs.declared.script.Header.{Header}
+use Rattle.ndc_sets.specs.Branches.{same_run, workflow_tip}
+use Rattle.ndc_sets.specs.Current.{state_to}
+use Rattle.ndc_sets.specs.Paths.{events_to}
+use Rattle.ndc_state.specs.Pendings.{pending_of}
+use Rattle.ndc_state.specs.Value.{StateValue}
+use Rattle.ndc_state.specs.declared.pendings.Pending.{Pending}
+use Rattle.ndc_model.specs.Cells.{Cell, learned_of}
+use Rattle.ndc_model.specs.Moves.{shard_of}
+use Rattle.ndc_model.specs.Steps.{Stepped, answered, learned_at, tip_answer, written_answer}
+use Rattle.ndc_model.specs.Texts.{ok, refused}
+use Rattle.ndc_model.specs.World.{ActivityRef, Report, World, cell_at, cluster_at, home_at, with_cluster}
+use Rattle.ndc_model.specs.Writing.{Home, may_write, refused as refused_by}
+
+-- whether two activities are one
+abbrev pub same_activity : ActivityRef → ActivityRef → Bool
+same_activity one two =
+    bytes_eq one.domain two.domain && (bytes_eq one.workflow two.workflow && (same_run one.run two.run && ((one.scheduled == two.scheduled) && (one.version == two.version))))
+
+-- the first report comes before the second: by version, then beat
+abbrev pub report_lt : Report → Report → Bool
+report_lt one two = nat_lt one.version two.version || ((one.version == two.version) && nat_lt one.beat two.beat)
+
+-- the greater of a report and another one, where there is another
+abbrev pub greater_report : Report → Option Report → Report
+greater_report one None = one
+greater_report one (Some two) = if report_lt one two then two else one
+
+-- the report that is held of an activity: the greatest of it
+abbrev pub held : ActivityRef → List Report → Option Report
+held activity [] = None
+held activity (report ∷ reports) =
+    if same_activity activity report.activity then Some (greater_report report (held activity reports)) else held activity reports
+
+-- the reports of a cluster become others
+abbrev pub with_reports : ClusterNo → List Report → World → World
+with_reports cluster reports w = with_cluster cluster (record (cluster_at cluster w) { reports = reports }) w
+
+-- the version of the event with this id, 0 where there is none
+abbrev pub version_of_event : ℕ → List Event → ℕ
+version_of_event id [] = 0
+version_of_event id (event ∷ events) = if event.id == id then event.version else version_of_event id events
+
+-- an activity that is pending in the state of these events: it is named by the event that scheduled it
+abbrev pub activity_of : Name → Name → StateValue → List Event → Option Pending → Result ActivityRef CommandError
+activity_of domain workflow s events None = Err (Refused NoSuchActivity)
+activity_of domain workflow s events (Some pending) =
+    Ok (record { domain = domain; workflow = workflow; run = s.run; scheduled = pending.scheduled; version = version_of_event pending.scheduled events })
+
+-- the pending activity of this id on the branch of a tip
+abbrev pub pending_activity : Name → Name → Name → List Batch → Batch → Result ActivityRef CommandError
+pending_activity domain workflow id batches tip =
+    activity_of domain workflow (state_to tip.run tip.key batches) (events_to tip.key batches) (pending_of id (state_to tip.run tip.key batches).activities)
+
+-- the same, where the run is open and the activity is started
+abbrev pub started_activity : Name → Name → Name → List Batch → Option Batch → Result ActivityRef CommandError
+started_activity domain workflow id batches None = Err (Refused NoWorkflow)
+started_activity domain workflow id batches (Some tip) =
+    refuse (not (state_to tip.run tip.key batches).running) Closed
+    >> (needs_started (stage_of (pending_of id (state_to tip.run tip.key batches).activities)) NoSuchActivity ActivityNotStarted
+    >> pending_activity domain workflow id batches tip)
+
+-- the version with which a cluster may tell of an activity, and the activity, or the first refusal
+abbrev pub told_of : Home → Name → Name → Name → Cell → Result (ℕ × ActivityRef) CommandError
+told_of home domain workflow id cell =
+    refused_by (may_write home domain workflow cell)
+    >>= λ version. started_activity domain workflow id (learned_of domain workflow cell) (workflow_tip (learned_of domain workflow cell))
+    >>= λ activity. Ok (version, activity)
+
+-- the number of the next report of an activity: one more than that of the held one, where this has the same version
+abbrev pub next_beat : ℕ → Option Report → ℕ
+next_beat version None = 1
+next_beat version (Some report) = if report.version == version then report.beat + 1 else 1
+
+-- the version of a held report that is above another one, where it is so
+abbrev pub stale_by : ℕ → Option Report → Option ℕ
+stale_by version None = None
+stale_by version (Some report) = if nat_lt version report.version then Some report.version else None
+
+-- a report is told, where the held one has no greater version
+abbrev pub beat_unless : ClusterNo → ℕ → ActivityRef → Name → World → Option ℕ → Stepped
+beat_unless cluster version activity details w (Some stale) = answered w (refused (codes "Stale" ∷ decimal stale ∷ []))
+beat_unless cluster version activity details w None =
+    answered
+    (with_reports cluster
+    ((cluster_at cluster w).reports
+    ++ record { activity = activity; version = version; beat = next_beat version (held activity (cluster_at cluster w).reports); details = details } ∷ []) w)
+    (ok (decimal version ∷ decimal (next_beat version (held activity (cluster_at cluster w).reports)) ∷ []))
+
+abbrev pub beat_by : ClusterNo → Name → World → Result (ℕ × ActivityRef) CommandError → Stepped
+beat_by cluster details w (Err error) = answered w (written_answer (Err error))
+beat_by cluster details w (Ok told) = beat_unless cluster told.0 told.1 details w (stale_by told.0 (held told.1 (cluster_at cluster w).reports))
+
+-- `beat`
+abbrev pub beat_step : Header → ClusterNo → Name → Name → Name → Name → World → Stepped
+beat_step header cluster domain workflow id details w =
+    beat_by cluster details w (told_of (home_at header cluster w) domain workflow id (cell_at cluster (shard_of domain workflow header.shards) w))
+
+-- the activities of reports, each once
+abbrev pub activities_of : List Report → List ActivityRef
+activities_of [] = []
+activities_of (report ∷ reports) = report.activity ∷ filter (λ other. not (same_activity report.activity other)) (activities_of reports)
+
+-- whether the second report takes the place of the first
+abbrev pub replaces : Option Report → Option Report → Bool
+replaces one None = false
+replaces None (Some two) = true
+replaces (Some one) (Some two) = report_lt one two
+
+-- `sync`: one cluster takes the reports of another; those count that it now holds in place of its own
+abbrev pub sync_step : ClusterNo → ClusterNo → World → Stepped
+sync_step to from w =
+    answered (with_reports to ((cluster_at to w).reports ++ (cluster_at from w).reports) w)
+    (ok (decimal (count_by (λ activity. replaces (held activity (cluster_at to w).reports) (held activity (cluster_at from w).reports)) (activities_of (cluster_at from w).reports)) ∷ []))
+
+-- what is held of an activity: version, number and details
+abbrev pub report_answer : Option Report → List ℕ
+report_answer None = refused (codes "NoProgress" ∷ [])
+report_answer (Some report) = ok (decimal report.version ∷ decimal report.beat ∷ report.details ∷ [])
+
+abbrev pub activity_answer : List Report → Result ActivityRef CommandError → List ℕ
+activity_answer reports (Err error) = written_answer (Err error)
+activity_answer reports (Ok activity) = report_answer (held activity reports)
+
+-- `progress`
+abbrev pub progress_answer : Header → ClusterNo → Name → Name → Name → World → List ℕ
+progress_answer header cluster domain workflow id w =
+    tip_answer (λ tip. activity_answer (cluster_at cluster w).reports (pending_activity domain workflow id (learned_at header cluster domain workflow w) tip))
+    (workflow_tip (learned_at header cluster domain workflow w))
