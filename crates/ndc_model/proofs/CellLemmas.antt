@@ -1,10 +1,11 @@
 -- What happens to one workflow of a cell leaves the others.
-use Rattle.std.proofs.Common.{◌≡◌, Bool, true, false, List, [], ◌∷◌, if◌then◌else◌, refl, ap, cond}
+use Rattle.std.proofs.Common.{◌≡◌, Bool, true, false, List, [], ◌∷◌, Option, None, Some, IfSome, if◌then◌else◌, refl, ap, ◌∙◌, cond}
 use Rattle.std.specs.List.{filter}
 use Rattle.ndc_event.specs.declared.batch.Batch.{Batch}
 use Rattle.ndc_event.specs.declared.name.Name.{Name}
 use Rattle.ndc_sets.specs.Learned.{learned}
 use Rattle.ndc_model.specs.Cells.{Cell, is_of, place_of, place_lt, same_place, placed, arrived_of, learned_of}
+use Rattle.ndc_model.specs.Arrival.{Message, arrived_at, cell_with, has_arrived, placed_second}
 use Rattle.ndc_model.specs.Writing.{with_written}
 
 -- a batch that the test does not pass changes no filter by the test
@@ -23,3 +24,21 @@ others_arrived domain workflow b cell n = filter-placed (is_of domain workflow) 
 
 pub others_learned : (domain workflow : Name) (b : Batch) (cell : Cell) → is_of domain workflow b ≡ false → learned_of domain workflow (with_written b cell) ≡ learned_of domain workflow cell
 others_learned domain workflow b cell n = ap learned (others_arrived domain workflow b cell n)
+
+-- the batch that is carried, where there is one, changes no filter that it does not pass
+filter-second : (p : Batch → Bool) (second : Option Batch) (batches : List Batch) → IfSome second (λ b. p b ≡ false) → filter p (placed_second second batches) ≡ filter p batches
+filter-second p None batches n = refl
+filter-second p (Some b) batches n = filter-placed p b batches n
+
+-- a message of another workflow
+pub others_arrived_by : (domain workflow : Name) (sent : Message) (cell : Cell) → is_of domain workflow sent.batch ≡ false → IfSome sent.second (λ b. is_of domain workflow b ≡ false)
+    → arrived_of domain workflow (arrived_at sent cell) ≡ arrived_of domain workflow cell
+others_arrived_by domain workflow sent cell n m = by (has_arrived sent.batch cell)
+  where
+    by : (t : Bool) → arrived_of domain workflow (if t then cell else cell_with sent cell) ≡ arrived_of domain workflow cell
+    by true = refl
+    by false = filter-second (is_of domain workflow) sent.second (placed sent.batch cell.arrived) m ∙ filter-placed (is_of domain workflow) sent.batch cell.arrived n
+
+pub others_learned_by : (domain workflow : Name) (sent : Message) (cell : Cell) → is_of domain workflow sent.batch ≡ false → IfSome sent.second (λ b. is_of domain workflow b ≡ false)
+    → learned_of domain workflow (arrived_at sent cell) ≡ learned_of domain workflow cell
+others_learned_by domain workflow sent cell n m = ap learned (others_arrived_by domain workflow sent cell n m)

@@ -3,30 +3,22 @@ use Rattle.std.proofs.Common.{ℕ, ◌+◌, ◌≤◌, Bool, true, false, List, 
 use Rattle.std.proofs.lemmas.List.{length-take}
 use Rattle.ndc_domain.specs.declared.clusters.ClusterNo.{ClusterNo}
 use Rattle.ndc_domain.specs.declared.record.DomainRecord.{DomainRecord}
-use Rattle.ndc_model.specs.Arrival.{Sent}
+use Rattle.ndc_model.specs.Arrival.{Message}
 use Rattle.ndc_model.specs.Cells.{Cell}
-use Rattle.ndc_model.specs.Queues.{Lane, taken, after_pull, is_settled_for, front_count, after_renewal, after_rewind, AreLevels}
+use Rattle.ndc_model.specs.Queues.{Lane, taken, after_pull, needs_nothing, prefix_len, after_renewal, after_rewind, AreLevels}
 
-taken-most : (count : Option ℕ) (queue : List Sent) (lane : Lane) → lane.read ≤ length queue → lane.read + length (taken count queue lane) ≤ length queue
+taken-most : (count : Option ℕ) (queue : List Message) (lane : Lane) → lane.read ≤ length queue → lane.read + length (taken count queue lane) ≤ length queue
 taken-most None queue lane h = omega (arith, h, length-drop lane.read queue)
 taken-most (Some n) queue lane h = omega (arith, h, length-drop lane.read queue, length-take n (drop lane.read queue))
 
-front-most : (test : Sent → Bool) (queue : List Sent) → front_count test queue ≤ length queue
-front-most test [] = omega arith
-front-most test (x ∷ xs) = by (test x) (front-most test xs)
-  where
-    by : (t : Bool) → front_count test xs ≤ length xs → (if t then 1 + front_count test xs else 0) ≤ length (x ∷ xs)
-    by true h = omega (arith, h)
-    by false h = omega arith
-
-pub pull_keeps : (reader : ClusterNo) (table : List DomainRecord) (count : Option ℕ) (queue : List Sent) (lane : Lane) → AreLevels queue lane → AreLevels queue (after_pull reader table count queue lane)
+pub pull_keeps : (reader : ClusterNo) (table : List DomainRecord) (count : Option ℕ) (queue : List Message) (lane : Lane) → AreLevels queue lane → AreLevels queue (after_pull reader table count queue lane)
 pull_keeps reader table count queue lane are =
     record { done_most = omega (arith, are.done_most); read_most = taken-most count queue lane are.read_most }
 
-pub renewal_keeps : (reader : ClusterNo) (table : List DomainRecord) (cell : Cell) (queue : List Sent) (lane : Lane) → AreLevels queue lane → AreLevels queue (after_renewal reader table cell queue lane)
+pub renewal_keeps : (reader : ClusterNo) (table : List DomainRecord) (cell : Cell) (queue : List Message) (lane : Lane) → AreLevels queue lane → AreLevels queue (after_renewal reader table cell queue lane)
 renewal_keeps reader table cell queue lane are =
-    let front : front_count (is_settled_for reader table cell) (drop lane.done queue) ≤ length (drop lane.done queue) = front-most (is_settled_for reader table cell) (drop lane.done queue) in
+    let front : prefix_len (needs_nothing reader table cell) (drop lane.done queue) ≤ length (drop lane.done queue) = prefix_len-le-length (needs_nothing reader table cell) (drop lane.done queue) in
     record { done_most = omega arith; read_most = omega (arith, are.done_most, are.read_most, front, length-drop lane.done queue) }
 
-pub rewind_keeps : (queue : List Sent) (lane : Lane) → AreLevels queue lane → AreLevels queue (after_rewind lane)
+pub rewind_keeps : (queue : List Message) (lane : Lane) → AreLevels queue lane → AreLevels queue (after_rewind lane)
 rewind_keeps queue lane are = record { done_most = omega arith; read_most = omega (arith, are.done_most, are.read_most) }

@@ -1,3 +1,6 @@
 pub mod CellLemmas
 pub mod PlaceLemmas
 pub mod LevelLemmas
+pub mod StepLemmas
+pub mod ScriptLemmas
+pub mod FairLemmas

@@ -1,5 +1,5 @@
 -- The order of places, and what arrives at its place.
-use Rattle.std.proofs.Common.{◌≡◌, ℕ, Bool, true, false, ◌&&◌, List, [], ◌∷◌, ◌⊎◌, inl, inr, if◌then◌else◌, refl, sym, ◌∙◌, subst, ap, cond, true≢false}
+use Rattle.std.proofs.Common.{◌≡◌, ℕ, Bool, true, false, ◌&&◌, List, [], ◌∷◌, ◌⊎◌, inl, inr, Option, None, Some, IfSome, if◌then◌else◌, refl, sym, ◌∙◌, subst, ap, cond, true≢false}
 use Rattle.std.specs.List.{AllByRecursion, filter}
 use Rattle.std.specs.Str.{bytes_eq}
 use Rattle.std.specs.declared.cmp.Ordering.{Ordering}
@@ -17,7 +17,10 @@ use Rattle.ndc_sets.proofs.ArrivalLemmas.{only_adds}
 use Rattle.ndc_sets.proofs.KeyLemmas.{before-trans, before-total}
 use Rattle.ndc_sets.proofs.Lists.{filter-cases}
 use Rattle.ndc_model.specs.Cells.{Cell, Place, less_or, place_lt, same_place, place_of, is_of, placed, arrived_of, learned_of, AreBehind, AreInOrder, IsCell}
+use Rattle.ndc_sets.proofs.BranchLemmas.{All-filter}
+use Rattle.ndc_model.specs.Arrival.{Message, arrived_at, cell_with, has_arrived, placed_second}
 use Rattle.ndc_model.specs.Writing.{with_written}
+use Rattle.ndc_model.proofs.CellLemmas.{filter-placed}
 
 -- by domain, then workflow, then key
 abbrev pub KeyIsBefore : Place → Place → Type 0
@@ -219,11 +222,6 @@ own_arrived domain workflow b cell is own = filter-own domain workflow b own cel
 pub writing_keeps : (b : Batch) (cell : Cell) → IsCell cell → PointsBack b → IsCell (with_written b cell)
 writing_keeps b cell is back = record { ordered = placed-in-order b cell.arrived is.ordered; back = all-placed PointsBack b cell.arrived back is.back }
 
--- what has arrived of a workflow is a set
-all-filter : (P : Batch → Type 0) (p : Batch → Bool) (batches : List Batch) → AllByRecursion P batches → AllByRecursion P (filter p batches)
-all-filter P p [] all = tt
-all-filter P p (c ∷ cs) all = filter-cases (AllByRecursion P) p c cs (λ _. (all.0, all-filter P p cs all.1)) (λ _. all-filter P p cs all.1)
-
 rise-own : (domain workflow : Name) (batches : List Batch) → AreInOrder batches → Rise (filter (is_of domain workflow) batches)
 rise-own domain workflow [] order = tt
 rise-own domain workflow (b ∷ batches) order =
@@ -231,12 +229,54 @@ rise-own domain workflow (b ∷ batches) order =
     (λ mine. (after-key domain workflow b mine batches order.0, rise-own domain workflow batches order.1))
     (λ _. rise-own domain workflow batches order.1)
 
+-- what has arrived of a workflow is a set
 pub set_of_workflow : (domain workflow : Name) (cell : Cell) → IsCell cell → IsSet (arrived_of domain workflow cell)
 set_of_workflow domain workflow cell is =
-    record { ordered = rise-own domain workflow cell.arrived is.ordered; back = all-filter PointsBack (is_of domain workflow) cell.arrived is.back }
+    record { ordered = rise-own domain workflow cell.arrived is.ordered; back = All-filter PointsBack (is_of domain workflow) cell.arrived is.back }
 
-pub writing_only_adds : (domain workflow : Name) (b : Batch) (cell : Cell) → IsCell cell → PointsBack b → is_of domain workflow b ≡ true
+-- what goes to its place only adds to what is learned
+placed-adds : (domain workflow : Name) (b : Batch) (cell : Cell) → IsCell cell → PointsBack b
+    → IsPart (learned_of domain workflow cell) (learned (filter (is_of domain workflow) (placed b cell.arrived)))
+placed-adds domain workflow b cell is back = by (is_of domain workflow b) refl
+  where
+    by : (t : Bool) → is_of domain workflow b ≡ t → IsPart (learned_of domain workflow cell) (learned (filter (is_of domain workflow) (placed b cell.arrived)))
+    by true own =
+        subst (λ (l : List Batch). IsPart (learned_of domain workflow cell) (learned l)) (sym (filter-own domain workflow b own cell.arrived is.ordered))
+        (only_adds (arrived_of domain workflow cell) b (set_of_workflow domain workflow cell is) back)
+    by false other =
+        subst (λ (l : List Batch). IsPart (learned_of domain workflow cell) (learned l)) (sym (filter-placed (is_of domain workflow) b cell.arrived other))
+        (λ x has. has)
+
+pub writing_only_adds : (domain workflow : Name) (b : Batch) (cell : Cell) → IsCell cell → PointsBack b
     → IsPart (learned_of domain workflow cell) (learned_of domain workflow (with_written b cell))
-writing_only_adds domain workflow b cell is back own =
-    subst (λ (l : List Batch). IsPart (learned_of domain workflow cell) (learned l)) (sym (own_arrived domain workflow b cell is own))
-    (only_adds (arrived_of domain workflow cell) b (set_of_workflow domain workflow cell is) back)
+writing_only_adds domain workflow b cell is back = placed-adds domain workflow b cell is back
+
+placed-keeps : (b : Batch) (cell : Cell) → IsCell cell → PointsBack b → IsCell (record cell { arrived = placed b cell.arrived })
+placed-keeps b cell is back = record { ordered = placed-in-order b cell.arrived is.ordered; back = all-placed PointsBack b cell.arrived back is.back }
+
+second-adds : (domain workflow : Name) (second : Option Batch) (cell : Cell) → IsCell cell → IfSome second PointsBack
+    → IsPart (learned_of domain workflow cell) (learned (filter (is_of domain workflow) (placed_second second cell.arrived)))
+second-adds domain workflow None cell is back = λ x has. has
+second-adds domain workflow (Some b) cell is back = placed-adds domain workflow b cell is back
+
+second-keeps : (second : Option Batch) (cell : Cell) → IsCell cell → IfSome second PointsBack → IsCell (record cell { arrived = placed_second second cell.arrived })
+second-keeps None cell is back = record { ordered = is.ordered; back = is.back }
+second-keeps (Some b) cell is back = placed-keeps b cell is back
+
+-- arrival of a message only adds to what is learned, and keeps the cell in order
+pub arrival_only_adds : (domain workflow : Name) (sent : Message) (cell : Cell) → IsCell cell → PointsBack sent.batch → IfSome sent.second PointsBack
+    → IsPart (learned_of domain workflow cell) (learned_of domain workflow (arrived_at sent cell))
+arrival_only_adds domain workflow sent cell is back second = by (has_arrived sent.batch cell)
+  where
+    by : (t : Bool) → IsPart (learned_of domain workflow cell) (learned_of domain workflow (if t then cell else cell_with sent cell))
+    by true = λ x has. has
+    by false = λ x has.
+        second-adds domain workflow sent.second (record cell { arrived = placed sent.batch cell.arrived }) (placed-keeps sent.batch cell is back) second x
+        (placed-adds domain workflow sent.batch cell is back x has)
+
+pub arrival_keeps : (sent : Message) (cell : Cell) → IsCell cell → PointsBack sent.batch → IfSome sent.second PointsBack → IsCell (arrived_at sent cell)
+arrival_keeps sent cell is back second = by (has_arrived sent.batch cell)
+  where
+    by : (t : Bool) → IsCell (if t then cell else cell_with sent cell)
+    by true = is
+    by false = second-keeps sent.second (record cell { arrived = placed sent.batch cell.arrived }) (placed-keeps sent.batch cell is back) second

@@ -1,5 +1,5 @@
 -- Cells: one shard of one cluster, as what has arrived there and what it has written.
-use Rattle.std.specs.Prelude.{◌≡◌, Bool, true, false, ◌&&◌, not, List, [], ◌∷◌, Option, Some, if◌then◌else◌}
+use Rattle.std.specs.Prelude.{◌≡◌, Bool, true, false, ◌&&◌, not, find, List, [], ◌∷◌, Option, Some, if◌then◌else◌}
 use Rattle.std.specs.List.{AllByRecursion, filter}
 use Rattle.std.specs.Str.{bytes_eq}
 use Rattle.std.specs.declared.cmp.Ordering.{Ordering}
@@ -10,7 +10,7 @@ use Rattle.ndc_event.specs.declared.batch.Batch.{Batch}
 use Rattle.ndc_event.specs.declared.key.BatchKey.{BatchKey}
 use Rattle.ndc_event.specs.declared.name.Name.{Name}
 use Rattle.ndc_sets.specs.Learned.{has_key, learned}
-use Rattle.ndc_sets.specs.Paths.{is_wanted}
+use Rattle.ndc_sets.specs.Paths.{Walk, is_wanted}
 use Rattle.ndc_sets.specs.Sets.{earlier, PointsBack}
 
 -- the place of a batch: its workflow, and its key there
@@ -65,21 +65,34 @@ arrived_of domain workflow cell = filter (is_of domain workflow) cell.arrived
 abbrev pub learned_of : Name → Name → Cell → List Batch
 learned_of domain workflow cell = learned (arrived_of domain workflow cell)
 
--- the batches of a workflow that are put off: they have arrived and are not learned
-abbrev pub put_off_of : Name → Name → Cell → List Batch
-put_off_of domain workflow cell = filter (λ b. not (has_key (Some b.key) (learned_of domain workflow cell))) (arrived_of domain workflow cell)
+-- the batch at a place, where one is there
+abbrev pub batch_there : List Batch → Place → Option Batch
+batch_there batches place = find (λ b. same_place place (place_of b)) batches
 
--- following earlier keys down through batches, from the last one to the first: the key that is wanted next
-abbrev pub wanted_over : Batch → Option BatchKey → Option BatchKey
-wanted_over b wanted = if is_wanted wanted b then earlier b else wanted
+-- whether a batch is learned in a cell
+abbrev pub is_learned_in : Cell → Batch → Bool
+is_learned_in cell b = has_key (Some b.key) (learned_of b.domain b.workflow cell)
 
-abbrev pub wanted_below : List Batch → Option BatchKey → Option BatchKey
-wanted_below [] wanted = wanted
-wanted_below (b ∷ batches) wanted = wanted_over b (wanted_below batches wanted)
+-- the batches of a cell that are put off
+abbrev pub put_off_in : Cell → List Batch
+put_off_in cell = filter (λ b. not (is_learned_in cell b)) cell.arrived
+
+-- a wanted batch is found, and its earlier key is wanted next
+abbrev pub ancestors_over : Batch → Walk → Walk
+ancestors_over b walk = if is_wanted walk.wanted b then record { wanted = earlier b; path = b ∷ walk.path } else walk
+
+-- following earlier keys down through batches, from the last one to the first
+abbrev pub ancestors_down : List Batch → Walk → Walk
+ancestors_down [] walk = walk
+ancestors_down (b ∷ batches) walk = ancestors_over b (ancestors_down batches walk)
+
+-- the way from a batch to its ancestors among these: what was found, and the key that is wanted next
+abbrev pub ancestry : Batch → List Batch → Walk
+ancestry b batches = ancestors_down batches (record { wanted = earlier b; path = [] })
 
 -- the nearest ancestor of a batch that has not arrived, where there is one
 abbrev pub missing_of : Batch → List Batch → Option BatchKey
-missing_of b batches = wanted_below batches (earlier b)
+missing_of b batches = (ancestry b batches).wanted
 
 -- all of the batches come after this place
 abbrev pub AreBehind : Place → List Batch → Type 0

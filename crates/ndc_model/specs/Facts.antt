@@ -9,7 +9,7 @@ use Rattle.ndc_domain.specs.declared.clusters.ClusterNo.{ClusterNo}
 use Rattle.ndc_domain.specs.declared.record.DomainRecord.{DomainRecord}
 use Rattle.ndc_script.specs.WellFormed.{AreTwoClusters, IsCluster}
 use Rattle.ndc_script.specs.declared.script.Header.{Header}
-use Rattle.ndc_model.specs.Arrival.{Sent}
+use Rattle.ndc_model.specs.Arrival.{Message}
 use Rattle.ndc_model.specs.Cells.{place_of, same_place}
 use Rattle.ndc_model.specs.Fair.{is_named}
 use Rattle.ndc_model.specs.Handovers.{place_in}
@@ -25,7 +25,7 @@ pub record IsGiven (handover : Handover) (table : List DomainRecord) : Type 0 wh
   pub version : handover.new ≤ found.version
 
 -- whether a message is of the domain of a handover and of its old version
-abbrev pub is_old : Handover → Sent → Bool
+abbrev pub is_old : Handover → Message → Bool
 is_old handover sent = bytes_eq sent.batch.domain handover.domain && (sent.batch.key.version == handover.old)
 
 -- an open handover: its old version is the giver's, the new one is above it and stands in the giver's record, and for each shard there is a

@@ -16,13 +16,12 @@ use Rattle.ndc_script.specs.WellFormed.{AreTwoClusters, IsCluster}
 use Rattle.ndc_script.specs.declared.script.Header.{Header}
 use Rattle.ndc_sets.specs.Sets.{Has}
 use Rattle.ndc_sets.specs.Sound.{IsSound, Names}
-use Rattle.ndc_model.specs.Arrival.{Sent, has_arrived}
-use Rattle.ndc_model.specs.Cells.{AreInOrder, Cell, Place, is_of, learned_of, place_of}
-use Rattle.ndc_model.specs.Moves.{authored, shard_of}
-use Rattle.ndc_model.specs.Queues.{Lane, batch_there, carries, is_settled_for, names_cluster}
+use Rattle.ndc_model.specs.Arrival.{has_arrived}
+use Rattle.ndc_model.specs.Cells.{AreInOrder, Cell, Place, batch_there, is_of, learned_of, place_of}
+use Rattle.ndc_model.specs.Moves.{all_written, shard_of}
+use Rattle.ndc_model.specs.Queues.{Lane, carries, names_cluster, needs_nothing}
 use Rattle.ndc_model.specs.Report.{count_kinds, is_original}
-use Rattle.ndc_model.specs.Steps.{trimmed_at}
-use Rattle.ndc_model.specs.World.{World, cell_at, cluster_at, clusters_of, lane_at, link_at, queue_at}
+use Rattle.ndc_model.specs.World.{World, cell_at, cluster_at, clusters_of, lane_at, link_at, queue_at, trimmed_at}
 use Rattle.ndc_model.specs.Writing.{goes_on_as}
 
 -- the places of all that the clusters have written in a shard
@@ -31,7 +30,7 @@ places_written header shard w = flat_map (λ cluster. (cell_at cluster shard w).
 
 -- all batches of a workflow that any cluster has written
 abbrev pub written_of : Header → Name → Name → World → List Batch
-written_of header domain workflow w = filter (is_of domain workflow) (authored header (shard_of domain workflow header.shards) w)
+written_of header domain workflow w = filter (is_of domain workflow) (all_written header (shard_of domain workflow header.shards) w)
 
 -- something holds of the cell of each cluster for each shard
 abbrev pub EachCell : Header → World → (ClusterNo → ℕ → Cell → Type 0) → Type 0
@@ -87,8 +86,8 @@ WritersOwnVersions header w = EachCell header w (λ cluster shard cell. AllByRec
 -- what has arrived was written, each batch once, and a batch has arrived exactly where the one that it carries has
 pub record IsArrivedFit (header : Header) (w : World) (shard : ℕ) (cell : Cell) : Type 0 where
   pub once : AreInOrder cell.arrived
-  pub written : AllByRecursion (λ b. batch_there (authored header shard w) (place_of b) ≡ Some b) cell.arrived
-  pub carried : (b second : Batch) → IsAmong (authored header shard w) b → IsAmong (authored header shard w) second → carries b second ≡ true
+  pub written : AllByRecursion (λ b. batch_there (all_written header shard w) (place_of b) ≡ Some b) cell.arrived
+  pub carried : (b second : Batch) → IsAmong (all_written header shard w) b → IsAmong (all_written header shard w) second → carries b second ≡ true
       → has_arrived b cell ≡ has_arrived second cell
 
 abbrev pub ArrivalsWereWritten : Header → World → Type 0
@@ -105,7 +104,7 @@ pub record IsLaneTrue (header : Header) (reader source : ClusterNo) (shard : ℕ
   pub done_most : lane.done ≤ lane.read
   pub read_most : lane.read ≤ length (queue_at source shard w)
   pub done : AllByRecursion
-      (λ sent. (is_settled_for reader (cluster_at source w).table (cell_at reader shard w) sent || is_late header reader source sent.batch.domain w) ≡ true)
+      (λ sent. (needs_nothing reader (cluster_at source w).table (cell_at reader shard w) sent || is_late header reader source sent.batch.domain w) ≡ true)
       (take lane.done (queue_at source shard w))
   pub flight : AllByRecursion (IsAmong (queue_at source shard w)) lane.flight
 

@@ -13,8 +13,8 @@ use Rattle.ndc_event.specs.declared.name.Name.{Name}
 use Rattle.ndc_script.specs.declared.script.Header.{Header}
 use Rattle.ndc_model.specs.Steps.{Stepped, answered, failover_words}
 use Rattle.ndc_model.specs.Texts.{ok, refusal_words, refused}
-use Rattle.ndc_model.specs.World.{Handover, World, cluster_at, lane_at, link_at, queue_at, same_cluster, shards_of, with_table}
-use Rattle.ndc_model.specs.Writing.{is_writer}
+use Rattle.ndc_model.specs.World.{Handover, World, cluster_at, lane_at, link_at, queue_at, shards_of, with_table}
+use Rattle.ndc_model.specs.Writing.{is_writer, same_cluster}
 
 -- whether a handover is of this domain
 abbrev pub is_handover_of : Name → Handover → Bool

@@ -10,13 +10,13 @@ use Rattle.ndc_text.specs.Text.{batch_text}
 use Rattle.ndc_text.specs.Views.{key_text}
 use Rattle.ndc_text.specs.declared.error.TextError.{TextError}
 use Rattle.ndc_text.specs.declared.form.TextForm.TheVariants.{Two}
-use Rattle.ndc_model.specs.Arrival.{Sent}
-use Rattle.ndc_model.specs.Cells.{Cell, Place, learned_of, place_of, same_place}
-use Rattle.ndc_model.specs.Moves.{Trace, from_world, message_arrived, quietly, renewed, shard_of}
-use Rattle.ndc_model.specs.Queues.{batch_there, entry_of, without_place}
+use Rattle.ndc_model.specs.Arrival.{Message}
+use Rattle.ndc_model.specs.Cells.{Cell, Place, batch_there, learned_of, place_of, same_place}
+use Rattle.ndc_model.specs.Moves.{Trace, cell_of, from_world, message_arrived, quietly, renewed, shard_of}
+use Rattle.ndc_model.specs.Queues.{entry_of}
 use Rattle.ndc_model.specs.Steps.{Stepped, answered, arrived_words, flight_at, moved}
 use Rattle.ndc_model.specs.Texts.{ok, refused}
-use Rattle.ndc_model.specs.World.{Letter, World, cell_at, cluster_at, lane_at, with_cluster, with_lane}
+use Rattle.ndc_model.specs.World.{Letter, World, cluster_at, lane_at, with_cluster, with_lane}
 
 -- whether bytes are read as the batch of a place
 abbrev pub is_read_as : Place → Result Batch TextError → Bool
@@ -28,7 +28,7 @@ abbrev pub with_letters : ClusterNo → List Letter → World → World
 with_letters cluster letters w = with_cluster cluster (record (cluster_at cluster w) { letters = letters }) w
 
 -- what is left of a message of a source
-abbrev pub letter_of : ClusterNo → ℕ → Sent → Letter
+abbrev pub letter_of : ClusterNo → ℕ → Message → Letter
 letter_of source cut sent = record {
   source = source;
   domain = sent.batch.domain;
@@ -47,11 +47,11 @@ damaged header reader source shard place w letter =
     if is_read_as (place_of_letter letter) (read_of Two letter.bytes) then answered w (ok (codes "whole" ∷ []))
     else answered
     (with_letters reader ((cluster_at reader w).letters ++ letter ∷ [])
-    (with_lane reader source shard (record (lane_at header reader source shard w) { flight = without_place place (flight_at header reader source shard w) }) w))
+    (with_lane reader source shard (record (lane_at header reader source shard w) { flight = remove (flight_at header reader source shard w) place }) w))
     (ok (codes "aside" ∷ []))
 
 -- `damage`: so many bytes of the message at a place arrive
-abbrev pub damage_at : Header → ClusterNo → ClusterNo → ℕ → ℕ → ℕ → World → Option Sent → Stepped
+abbrev pub damage_at : Header → ClusterNo → ClusterNo → ℕ → ℕ → ℕ → World → Option Message → Stepped
 damage_at header reader source shard place cut w None = answered w (refused (codes "NoSuchPlace" ∷ []))
 damage_at header reader source shard place cut w (Some sent) = damaged header reader source shard place w (letter_of source cut sent)
 
@@ -74,12 +74,12 @@ abbrev pub purge_step : ClusterNo → World → Stepped
 purge_step reader w = answered (with_letters reader [] w) (ok (decimal (length (cluster_at reader w).letters) ∷ []))
 
 -- the message of a place at a cell: the learned batch there, with the one that it carries; a carried batch has none of its own
-abbrev pub message_at : Cell → Place → Option Sent
+abbrev pub message_at : Cell → Place → Option Message
 message_at cell place =
     entry_of (learned_of place.domain place.workflow cell) (batch_there (learned_of place.domain place.workflow cell) place)
 
 -- a message arrives, where there is one
-abbrev pub arrived_where_there : ClusterNo → ℕ → Trace → Option Sent → Trace
+abbrev pub arrived_where_there : ClusterNo → ℕ → Trace → Option Message → Trace
 arrived_where_there reader shard t None = t
 arrived_where_there reader shard t (Some sent) = message_arrived reader shard t sent
 
@@ -87,7 +87,7 @@ arrived_where_there reader shard t (Some sent) = message_arrived reader shard t 
 abbrev pub letter_arrived : Header → ClusterNo → Trace → Letter → Trace
 letter_arrived header reader t letter =
     arrived_where_there reader (shard_of letter.domain letter.workflow header.shards) t
-    (message_at (cell_at letter.source (shard_of letter.domain letter.workflow header.shards) t.world) (place_of_letter letter))
+    (message_at (cell_of header letter.source letter.domain letter.workflow t.world) (place_of_letter letter))
 
 -- the messages of all letters arrive in order, the list is emptied, and the levels are renewed
 abbrev pub letters_merged : Header → ClusterNo → World → Trace

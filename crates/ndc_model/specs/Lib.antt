@@ -13,4 +13,6 @@ pub mod Lines
 pub mod Report
 pub mod Fair
 pub mod Facts
+pub mod Laws
 pub mod Worked
+pub mod Scripts

@@ -11,10 +11,10 @@ use Rattle.ndc_event.specs.declared.name.Name.{Name}
 use Rattle.ndc_script.specs.declared.script.Header.{Header}
 use Rattle.ndc_sets.specs.Sets.{earlier}
 use Rattle.ndc_sets.specs.Paths.{is_wanted}
-use Rattle.ndc_model.specs.Arrival.{Arrival, known, put_off, learned_now, Sent, arrival_of, arrived_at, has_arrived}
-use Rattle.ndc_model.specs.Cells.{Cell, is_of, placed}
-use Rattle.ndc_model.specs.Queues.{Lane, after_pull, after_renewal, after_rewind, batch_there, is_addressed, is_learned_in, trim_level}
-use Rattle.ndc_model.specs.World.{Link, World, cluster_at, cell_at, queue_at, link_at, lane_at, with_cell, with_link, with_lane, with_table, home_at, clusters_of, others_of, shards_of}
+use Rattle.ndc_model.specs.Arrival.{Arrival, Message, arrival_of, arrived_at, has_arrived}
+use Rattle.ndc_model.specs.Cells.{Cell, ancestry, batch_there, is_learned_in, is_of, placed, put_off_in}
+use Rattle.ndc_model.specs.Queues.{Lane, after_pull, after_renewal, after_rewind, is_addressed, trim_level}
+use Rattle.ndc_model.specs.World.{Link, World, cell_at, cluster_at, clusters_of, home_at, lane_at, link_at, others_of, queue_at, shards_of, trimmed_at, with_cell, with_lane, with_link, with_table}
 use Rattle.ndc_model.specs.Writing.{reapplication_of, with_all_written}
 
 -- the hash of a workflow's place: over the domain's bytes, a zero byte and the workflow's bytes
@@ -27,6 +27,10 @@ hash_of domain workflow = fold hashed 2166136261 (domain ++ 0 ∷ workflow)
 -- the shard in which a workflow lives
 abbrev pub shard_of : Name → Name → ℕ → ℕ
 shard_of domain workflow shards = hash_of domain workflow % shards
+
+-- the cell of a cluster in which a workflow lives
+abbrev pub cell_of : Header → ClusterNo → Name → Name → World → Cell
+cell_of header cluster domain workflow w = cell_at cluster (shard_of domain workflow header.shards) w
 
 -- a pull of a reader from a source for a shard: all, or at most so many
 abbrev pub pulled_shard : Header → ClusterNo → ClusterNo → Option ℕ → World → ℕ → World
@@ -57,9 +61,12 @@ abbrev pub trim_to : Header → ClusterNo → World → ℕ → ℕ
 trim_to header source w shard =
     trim_level (queue_at source shard w) (map (λ reader. (lane_at header reader source shard w).done) (others_of header source))
 
--- the queues of a source are trimmed
+-- the queues of a source are trimmed: what is trimmed only rises
+abbrev pub trimmed_shard : Header → ClusterNo → World → ℕ → ℕ
+trimmed_shard header source w shard = max (trimmed_at source w shard) (trim_to header source w shard)
+
 abbrev pub trimmed_all : Header → ClusterNo → World → World
-trimmed_all header source w = record w { trimmed = slice_set w.trimmed source.number (map (trim_to header source w) (shards_of header)) }
+trimmed_all header source w = record w { trimmed = slice_set w.trimmed source.number (map (trimmed_shard header source w) (shards_of header)) }
 
 -- what came of one move: a message that arrived at a cluster, with how many batches it brought, or a batch that was applied again
 pub data Note : Type 0 where
@@ -79,21 +86,15 @@ from_world w = record { world = w; notes = [] }
 abbrev pub quietly : (World → World) → Trace → Trace
 quietly change t = record t { world = change t.world }
 
--- how many batches a message brings
-abbrev pub brought : Option Batch → ℕ
-brought None = 1
-brought (Some second) = 2
-
-abbrev pub brought_by : Arrival → Sent → ℕ
-brought_by known sent = 0
-brought_by (put_off missing) sent = brought sent.second
-brought_by (learned_now batches) sent = brought sent.second
+-- how many batches a message brings: none where it is known
+abbrev pub brought_by : Message → Cell → ℕ
+brought_by sent cell = length (arrived_at sent cell).arrived - length cell.arrived
 
 -- a message arrives at a cell
-abbrev pub message_arrived : ClusterNo → ℕ → Trace → Sent → Trace
+abbrev pub message_arrived : ClusterNo → ℕ → Trace → Message → Trace
 message_arrived cluster shard t sent = record {
   world = with_cell cluster shard (arrived_at sent (cell_at cluster shard t.world)) t.world;
-  notes = t.notes ++ came cluster (brought_by (arrival_of sent (cell_at cluster shard t.world)) sent) (arrival_of sent (cell_at cluster shard t.world)) ∷ [];
+  notes = t.notes ++ came cluster (brought_by sent (cell_at cluster shard t.world)) (arrival_of sent (cell_at cluster shard t.world)) ∷ [];
 }
 
 -- a batch that has not arrived arrives alone
@@ -142,41 +143,29 @@ abbrev pub in_order : List Batch → List Batch
 in_order batches = fold (λ ordered b. placed b ordered) [] batches
 
 -- all batches that any cluster has written in a shard, in order of place
-abbrev pub authored : Header → ℕ → World → List Batch
-authored header shard w =
+abbrev pub all_written : Header → ℕ → World → List Batch
+all_written header shard w =
     in_order (flat_map (λ cluster. filter_map (batch_there (cell_at cluster shard w).arrived) (cell_at cluster shard w).written) (clusters_of header))
-
--- following earlier keys down through batches, from the last one to the first: the key that is wanted next, and what was found
-abbrev pub ancestors_over : Batch → Option BatchKey × List Batch → Option BatchKey × List Batch
-ancestors_over b walk = if is_wanted walk.0 b then (earlier b, b ∷ walk.1) else walk
-
-abbrev pub ancestors_down : List Batch → Option BatchKey × List Batch → Option BatchKey × List Batch
-ancestors_down [] walk = walk
-ancestors_down (b ∷ batches) walk = ancestors_over b (ancestors_down batches walk)
 
 -- the ancestors of a batch among these
 abbrev pub ancestors_of : List Batch → Batch → List Batch
-ancestors_of batches b = (ancestors_down (filter (is_of b.domain b.workflow) batches) (earlier b, [])).1
-
--- the batches of a cell that are put off
-abbrev pub put_off_in : Cell → List Batch
-put_off_in cell = filter (λ b. not (is_learned_in cell b)) cell.arrived
+ancestors_of batches b = (ancestry b (filter (is_of b.domain b.workflow) batches)).path
 
 -- the ancestors of what a cell has put off, in order of place
-abbrev pub lacking : Header → ClusterNo → ℕ → World → List Batch
-lacking header reader shard w = in_order (flat_map (ancestors_of (authored header shard w)) (put_off_in (cell_at reader shard w)))
+abbrev pub ancestors_of_put_off : Header → ClusterNo → ℕ → World → List Batch
+ancestors_of_put_off header reader shard w = in_order (flat_map (ancestors_of (all_written header shard w)) (put_off_in (cell_at reader shard w)))
 
 -- all ancestors of what is put off arrive, by shard and place, and the levels are renewed
 abbrev pub resent : Header → ClusterNo → World → Trace
 resent header reader w =
     quietly (λ v. renewed header v reader)
-    (fold (λ t shard. fold (batch_arrived reader shard) t (lacking header reader shard t.world)) (from_world w) (shards_of header))
+    (fold (λ t shard. fold (batch_arrived reader shard) t (ancestors_of_put_off header reader shard t.world)) (from_world w) (shards_of header))
 
 -- the learned batches of a cell that are of one of these domains
 abbrev pub learned_of_domains : List Name → Cell → List Batch
 learned_of_domains domains cell = filter (λ b. is_learned_in cell b && list_any (λ domain. bytes_eq domain b.domain) domains) cell.arrived
 
--- a reader takes from a source what this has learned of the domains of which it is a member late
+-- a reader takes from a source what this has learned of the domains of which it is a member late; then none is late, and its levels are renewed
 abbrev pub bootstrapped : Header → ClusterNo → Trace → ClusterNo → Trace
 bootstrapped header reader t source =
     quietly (λ v. renewed header v reader)
@@ -189,7 +178,7 @@ merged_all header w cluster =
     fold (λ v other. with_table cluster (merged (cluster_at cluster v).table (cluster_at other v).table) v) w (others_of header cluster)
 
 -- the entries of a queue from `done` on that are addressed to a reader
-abbrev pub due : Header → ClusterNo → ℕ → ClusterNo → World → List Sent
+abbrev pub due : Header → ClusterNo → ℕ → ClusterNo → World → List Message
 due header reader shard source w =
     filter (is_addressed reader (cluster_at source w).table) (drop (lane_at header reader source shard w).done (queue_at source shard w))
 
@@ -217,6 +206,6 @@ abbrev pub without_flights : World → World
 without_flights w = record w { links = map link_without_flights w.links }
 
 -- settlement: two rounds, and then all levels are renewed
-abbrev pub settled : Header → World → Trace
-settled header w =
+abbrev pub after_settlement : Header → World → Trace
+after_settlement header w =
     quietly (λ v. fold (renewed header) v (clusters_of header)) (settled_once header (settled_once header (from_world (without_flights w))))

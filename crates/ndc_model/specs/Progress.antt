@@ -19,11 +19,11 @@ use Rattle.ndc_state.specs.Pendings.{pending_of}
 use Rattle.ndc_state.specs.Value.{StateValue}
 use Rattle.ndc_state.specs.declared.pendings.Pending.{Pending}
 use Rattle.ndc_model.specs.Cells.{Cell, learned_of}
-use Rattle.ndc_model.specs.Moves.{shard_of}
-use Rattle.ndc_model.specs.Steps.{Stepped, answered, learned_at, tip_answer, written_answer}
+use Rattle.ndc_model.specs.Moves.{cell_of}
+use Rattle.ndc_model.specs.Steps.{Stepped, answered, learned_at, read_answer, tip_answer, written_answer}
 use Rattle.ndc_model.specs.Texts.{ok, refused}
-use Rattle.ndc_model.specs.World.{ActivityRef, Report, World, cell_at, cluster_at, home_at, with_cluster}
-use Rattle.ndc_model.specs.Writing.{Home, may_write, refused as refused_by}
+use Rattle.ndc_model.specs.World.{ActivityRef, Report, World, cluster_at, home_at, with_cluster}
+use Rattle.ndc_model.specs.Writing.{Home, as_command_error, may_write}
 
 -- whether two activities are one
 abbrev pub same_activity : ActivityRef → ActivityRef → Bool
@@ -76,7 +76,7 @@ started_activity domain workflow id batches (Some tip) =
 -- the version with which a cluster may tell of an activity, and the activity, or the first refusal
 abbrev pub told_of : Home → Name → Name → Name → Cell → Result (ℕ × ActivityRef) CommandError
 told_of home domain workflow id cell =
-    refused_by (may_write home domain workflow cell)
+    as_command_error (may_write home domain workflow cell)
     >>= λ version. started_activity domain workflow id (learned_of domain workflow cell) (workflow_tip (learned_of domain workflow cell))
     >>= λ activity. Ok (version, activity)
 
@@ -107,7 +107,7 @@ beat_by cluster details w (Ok told) = beat_unless cluster told.0 told.1 details 
 -- `beat`
 abbrev pub beat_step : Header → ClusterNo → Name → Name → Name → Name → World → Stepped
 beat_step header cluster domain workflow id details w =
-    beat_by cluster details w (told_of (home_at header cluster w) domain workflow id (cell_at cluster (shard_of domain workflow header.shards) w))
+    beat_by cluster details w (told_of (home_at header cluster w) domain workflow id (cell_of header cluster domain workflow w))
 
 -- the activities of reports, each once
 abbrev pub activities_of : List Report → List ActivityRef
@@ -138,5 +138,6 @@ activity_answer reports (Ok activity) = report_answer (held activity reports)
 -- `progress`
 abbrev pub progress_answer : Header → ClusterNo → Name → Name → Name → World → List ℕ
 progress_answer header cluster domain workflow id w =
-    tip_answer (λ tip. activity_answer (cluster_at cluster w).reports (pending_activity domain workflow id (learned_at header cluster domain workflow w) tip))
-    (workflow_tip (learned_at header cluster domain workflow w))
+    read_answer
+    (λ batches. tip_answer (λ tip. activity_answer (cluster_at cluster w).reports (pending_activity domain workflow id batches tip)) (workflow_tip batches))
+    (learned_at header cluster domain workflow w)

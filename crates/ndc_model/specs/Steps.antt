@@ -29,13 +29,13 @@ use Rattle.ndc_sets.specs.View.{view_of}
 use Rattle.ndc_state.specs.Replay.{history_of}
 use Rattle.ndc_state.specs.Text.{state_text}
 use Rattle.ndc_event.specs.Key.{run_text}
-use Rattle.ndc_model.specs.Arrival.{known, put_off, learned_now, Sent}
-use Rattle.ndc_model.specs.Cells.{Cell, arrived_of, is_of, learned_of, missing_of}
-use Rattle.ndc_model.specs.Moves.{Note, came, applied, Trace, authored, pulled_all, pulled_shard, put_off_in, resent, bootstrapped, settled, shard_of, trim_to, trimmed_all, worked, from_world}
-use Rattle.ndc_model.specs.Queues.{after_loss, after_move, after_repeat, is_learned_in, pulled}
-use Rattle.ndc_model.specs.Texts.{event_line, ok, refusal_words, refused}
 use Rattle.ndc_text.specs.Views.{dump_text, item_text, key_text, run_lines, status_text, with_commas}
-use Rattle.ndc_model.specs.World.{World, cell_at, cluster_at, home_at, lane_at, link_at, queue_at, shards_of, with_cell, with_lane, with_table}
+use Rattle.ndc_model.specs.Arrival.{Message, known, learned_now, put_off}
+use Rattle.ndc_model.specs.Cells.{Cell, arrived_of, is_learned_in, is_of, learned_of, missing_of, put_off_in}
+use Rattle.ndc_model.specs.Moves.{Note, Trace, after_settlement, all_written, applied, bootstrapped, came, cell_of, from_world, pulled_all, pulled_shard, resent, shard_of, trimmed_all, trimmed_shard, worked}
+use Rattle.ndc_model.specs.Queues.{after_loss, after_move, after_repeat, put_in_flight}
+use Rattle.ndc_model.specs.Texts.{event_line, ok, refusal_words, refused}
+use Rattle.ndc_model.specs.World.{World, cell_at, cluster_at, home_at, lane_at, link_at, queue_at, shards_of, trimmed_at, with_cell, with_lane, with_table}
 use Rattle.ndc_model.specs.Writing.{cell_after, command_of, reset_at}
 
 -- a batch that became learned at a cluster
@@ -104,34 +104,32 @@ total count notes = decimal (sum (map count notes))
 abbrev pub moved : Trace → List (List ℕ) → Stepped
 moved t words = record { world = t.world; answer = ok words; seen = seen_of t.notes }
 
--- what was to be written is written in a cell: the keys of the batches, or the refusal
+-- the answer to what was to be written: the keys of the batches, or the refusal
 abbrev pub written_answer : Result (List Batch) CommandError → List ℕ
 written_answer (Ok batches) = ok (map (λ b. key_text b.key) batches)
 written_answer (Err (Refused refusal)) = refused (refusal_words refusal)
 written_answer (Err Memory) = []
 
-abbrev pub written_seen : ClusterNo → Result (List Batch) CommandError → List Seen
-written_seen cluster (Ok batches) = seen_at cluster batches
-written_seen cluster (Err error) = []
-
-abbrev pub written_step : ClusterNo → ℕ → Result (List Batch) CommandError → World → Stepped
-written_step cluster shard result w = record {
-  world = with_cell cluster shard (cell_after result (cell_at cluster shard w)) w;
-  answer = written_answer result;
-  seen = written_seen cluster result;
+-- what was to be written is written in a cell; a refusal leaves all as it was
+abbrev pub written_step : ClusterNo → ℕ → World → Result (List Batch) CommandError → Stepped
+written_step cluster shard w (Ok batches) = record {
+  world = with_cell cluster shard (with_all_written batches (cell_at cluster shard w)) w;
+  answer = written_answer (Ok batches);
+  seen = seen_at cluster batches;
 }
+written_step cluster shard w (Err error) = answered w (written_answer (Err error))
 
 -- a command line
 abbrev pub command_step : Header → ClusterNo → Name → Name → Command → World → Stepped
 command_step header cluster domain workflow command w =
-    written_step cluster (shard_of domain workflow header.shards)
-    (command_of (home_at header cluster w) domain workflow command (cell_at cluster (shard_of domain workflow header.shards) w)) w
+    written_step cluster (shard_of domain workflow header.shards) w
+    (command_of (home_at header cluster w) domain workflow command (cell_of header cluster domain workflow w))
 
 -- `reset`
 abbrev pub reset_step : Header → ClusterNo → Name → Name → ℕ → World → Stepped
 reset_step header cluster domain workflow event w =
-    written_step cluster (shard_of domain workflow header.shards)
-    (reset_at (home_at header cluster w) domain workflow event (cell_at cluster (shard_of domain workflow header.shards) w)) w
+    written_step cluster (shard_of domain workflow header.shards) w
+    (reset_at (home_at header cluster w) domain workflow event (cell_of header cluster domain workflow w))
 
 -- what a change of a table that answers a number leaves and answers
 abbrev pub table_step : {E : Type 0} → (E → List (List ℕ)) → ClusterNo → World → Result (ℕ × List DomainRecord) E → Stepped
@@ -189,7 +187,7 @@ domains_step to from w =
 -- how many entries a pull puts in flight
 abbrev pub pull_count : Header → ClusterNo → ClusterNo → Option ℕ → World → ℕ → ℕ
 pull_count header reader source count w shard =
-    length (pulled reader (cluster_at source w).table count (queue_at source shard w) (lane_at header reader source shard w))
+    length (put_in_flight reader (cluster_at source w).table count (queue_at source shard w) (lane_at header reader source shard w))
 
 -- `pull` for every shard, and for one
 abbrev pub pull_step : Header → ClusterNo → ClusterNo → World → Stepped
@@ -201,13 +199,13 @@ pull_some_step header reader source shard count w =
     answered (pulled_shard header reader source (Some count) w shard) (ok (decimal (pull_count header reader source (Some count) w shard) ∷ []))
 
 -- a change of a list in flight, where its places are there
-abbrev pub flight_step : Header → ClusterNo → ClusterNo → ℕ → World → Option (List Sent) → Stepped
+abbrev pub flight_step : Header → ClusterNo → ClusterNo → ℕ → World → Option (List Message) → Stepped
 flight_step header reader source shard w None = answered w (refused (codes "NoSuchPlace" ∷ []))
 flight_step header reader source shard w (Some flight) =
     answered (with_lane reader source shard (record (lane_at header reader source shard w) { flight = flight }) w) (ok [])
 
 -- what is in flight from a source to a reader for a shard
-abbrev pub flight_at : Header → ClusterNo → ClusterNo → ℕ → World → List Sent
+abbrev pub flight_at : Header → ClusterNo → ClusterNo → ℕ → World → List Message
 flight_at header reader source shard w = (lane_at header reader source shard w).flight
 
 -- `lose`, `repeat`, `move`
@@ -228,14 +226,10 @@ work_words notes =
 abbrev pub work_step : Header → ClusterNo → World → Stepped
 work_step header cluster w = moved (worked header cluster w) (work_words (worked header cluster w).notes)
 
--- how far the queue of a source was trimmed for a shard
-abbrev pub trimmed_at : ClusterNo → World → ℕ → ℕ
-trimmed_at source w shard = slice_index_or (slice_index_or w.trimmed source.number []) shard 0
-
 -- `trim`: how many entries are dropped now
 abbrev pub trim_step : Header → ClusterNo → World → Stepped
 trim_step header source w =
-    answered (trimmed_all header source w) (ok (decimal (sum (map (λ shard. trim_to header source w shard - trimmed_at source w shard) (shards_of header))) ∷ []))
+    answered (trimmed_all header source w) (ok (decimal (sum (map (λ shard. trimmed_shard header source w shard - trimmed_at source w shard) (shards_of header))) ∷ []))
 
 -- `levels`
 abbrev pub levels_answer : Header → ClusterNo → ClusterNo → ℕ → World → List ℕ
@@ -252,7 +246,7 @@ item_or_none (Some item) = item
 -- where the gap of a batch that is put off begins: the last event of its last learned ancestor in its own run
 abbrev pub gap_after : Header → ℕ → World → Cell → Batch → Item
 gap_after header shard w cell b =
-    item_or_none (last_item_of (history_of (filter (is_learned_in cell) (path_to b.key (filter (is_of b.domain b.workflow) (authored header shard w))))))
+    item_or_none (last_item_of (history_of (filter (is_learned_in cell) (path_to b.key (filter (is_of b.domain b.workflow) (all_written header shard w))))))
 
 -- the key of what is missing
 abbrev pub missing_text : Option BatchKey → List ℕ
@@ -290,20 +284,20 @@ bootstrap_step header reader source w =
 -- `settle`
 abbrev pub settle_step : Header → World → Stepped
 settle_step header w =
-    moved (settled header w) (codes "learned" ∷ total learned_by (settled header w).notes ∷ codes "reapplied" ∷ total applied_by (settled header w).notes ∷ [])
+    moved (after_settlement header w) (codes "learned" ∷ total learned_by (after_settlement header w).notes ∷ codes "reapplied" ∷ total applied_by (after_settlement header w).notes ∷ [])
 
 -- what is learned of a workflow at a cluster
 abbrev pub learned_at : Header → ClusterNo → Name → Name → World → List Batch
-learned_at header cluster domain workflow w = learned_of domain workflow (cell_at cluster (shard_of domain workflow header.shards) w)
+learned_at header cluster domain workflow w = learned_of domain workflow (cell_of header cluster domain workflow w)
 
 -- the answer of a line that reads a workflow: nothing of it may be learned
 abbrev pub read_answer : (List Batch → List ℕ) → List Batch → List ℕ
 read_answer answer [] = refused (codes "NoWorkflow" ∷ [])
 read_answer answer (b ∷ batches) = answer (b ∷ batches)
 
--- the answer of a line that reads the current branch of the current run
+-- the answer of a line that reads the current branch of the current run; there is one where anything is learned
 abbrev pub tip_answer : (Batch → List ℕ) → Option Batch → List ℕ
-tip_answer answer None = refused (codes "NoWorkflow" ∷ [])
+tip_answer answer None = []
 tip_answer answer (Some tip) = answer tip
 
 -- `history`

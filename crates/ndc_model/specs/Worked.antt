@@ -5,15 +5,14 @@ use Rattle.ndc_domain.specs.declared.record.DomainRecord.{DomainRecord}
 use Rattle.ndc_event.specs.declared.batch.Batch.{Batch}
 use Rattle.ndc_event.specs.declared.kind.EventKind.TheVariants.{WorkflowExecutionStarted, DecisionTaskScheduled, DecisionTaskStarted, DecisionTaskCompleted, DecisionTaskFailed, TimerStarted}
 use Rattle.ndc_sets.specs.Worked.{key, run, from, batch, begun, signaled, signal, copy}
-use Rattle.ndc_model.specs.Arrival.{Sent}
-use Rattle.ndc_model.specs.Cells.{Cell}
-use Rattle.ndc_model.specs.Writing.{Home}
-use Rattle.ndc_model.specs.Queues.{without_place}
-use Rattle.ndc_model.specs.World.{World, lane_at, opening_world, with_lane, with_table}
-use Rattle.ndc_model.specs.Moves.{pulled_all, worked}
-use Rattle.ndc_model.specs.Steps.{command_step}
 use Rattle.ndc_script.specs.declared.script.Header.{Header}
 use Rattle.ndc_command.specs.declared.command.Command.TheVariants.{Start, Signal}
+use Rattle.ndc_model.specs.Arrival.{Message}
+use Rattle.ndc_model.specs.Cells.{Cell}
+use Rattle.ndc_model.specs.Moves.{pulled_all, worked}
+use Rattle.ndc_model.specs.Steps.{command_step}
+use Rattle.ndc_model.specs.World.{World, lane_at, opening_world, with_lane, with_table}
+use Rattle.ndc_model.specs.Writing.{Home}
 
 -- the record of the domain, with this version and both clusters as members
 abbrev pub alpha : ℕ → DomainRecord
@@ -33,7 +32,7 @@ abbrev pub holding : List Batch → Cell
 holding batches = record { arrived = batches; written = [] }
 
 -- a batch that is sent alone
-abbrev pub alone : Batch → Sent
+abbrev pub alone : Batch → Message
 alone b = record { batch = b; second = None }
 
 -- A's second batch, a signal, and B's, which was written beside it
@@ -91,7 +90,7 @@ with_a_loss =
     (worked two_clusters (cluster_no 1)
     (with_lane (cluster_no 1) (cluster_no 0) 0
     (record (lane_at two_clusters (cluster_no 1) (cluster_no 0) 0 (pulled_all two_clusters (cluster_no 1) (cluster_no 0) signalled)) {
-      flight = without_place 0 (lane_at two_clusters (cluster_no 1) (cluster_no 0) 0 (pulled_all two_clusters (cluster_no 1) (cluster_no 0) signalled)).flight;
+      flight = remove (lane_at two_clusters (cluster_no 1) (cluster_no 0) 0 (pulled_all two_clusters (cluster_no 1) (cluster_no 0) signalled)).flight 0;
     })
     (pulled_all two_clusters (cluster_no 1) (cluster_no 0) signalled))).world
 

@@ -10,10 +10,10 @@ use Rattle.ndc_event.specs.declared.key.RunId.{RunId}
 use Rattle.ndc_event.specs.declared.name.Name.{Name}
 use Rattle.ndc_script.specs.declared.script.Header.{Header}
 use Rattle.ndc_script.specs.Register.{clusters_below}
-use Rattle.ndc_model.specs.Arrival.{Sent}
+use Rattle.ndc_model.specs.Arrival.{Message}
 use Rattle.ndc_model.specs.Cells.{Cell, empty_cell}
-use Rattle.ndc_model.specs.Queues.{Lane, new_lane, names_cluster, queue_of}
-use Rattle.ndc_model.specs.Writing.{Home}
+use Rattle.ndc_model.specs.Queues.{Lane, names_cluster, new_lane, queue_of}
+use Rattle.ndc_model.specs.Writing.{Home, same_cluster}
 
 -- a message that was set aside: where it came from, the batch that it was, and the bytes that came
 pub record Letter : Type 0 where
@@ -31,7 +31,7 @@ pub record ActivityRef : Type 0 where
   pub scheduled : ℕ
   pub version : ℕ
 
--- what was told of an activity: by the version of the teller's record, and counted
+-- what was told of an activity: the version of the teller's record, a number that counts from 1 with each version, and details
 pub record Report : Type 0 where
   pub activity : ActivityRef
   pub version : ℕ
@@ -61,20 +61,13 @@ pub record Link : Type 0 where
   pub lanes : List Lane
   pub late : List Name
 
--- a world: the clusters in header order, what each reader has of each other cluster, how far each queue is trimmed, and the open handovers
+-- a world: the clusters in header order, what each reader has of each other cluster, how far each queue is trimmed by source and then shard,
+-- and the open handovers
 pub record World : Type 0 where
   pub clusters : List Cluster
   pub links : List Link
   pub trimmed : List (List ℕ)
   pub handovers : List Handover
-
--- whether two clusters are one
-abbrev pub same_cluster : ClusterNo → ClusterNo → Bool
-same_cluster one two = one.number == two.number
-
--- so many of the same
-abbrev pub many : {X : Type 0} → ℕ → X → List X
-many count x = map (λ _. x) (range_with_len 0 count)
 
 -- the clusters of a header
 abbrev pub clusters_of : Header → List ClusterNo
@@ -90,18 +83,18 @@ others_of header cluster = filter (λ other. not (same_cluster cluster other)) (
 
 -- what a reader has of a source in the beginning
 abbrev pub new_link : Header → ClusterNo → ClusterNo → Link
-new_link header reader source = record { reader = reader; source = source; lanes = many header.shards new_lane; late = [] }
+new_link header reader source = record { reader = reader; source = source; lanes = replicate header.shards new_lane; late = [] }
 
 -- a cluster in the beginning
 abbrev pub new_cluster : ℕ → Cluster
-new_cluster shards = record { table = []; cells = many shards empty_cell; letters = []; reports = [] }
+new_cluster shards = record { table = []; cells = replicate shards empty_cell; letters = []; reports = [] }
 
 -- the opening world: nothing is registered, written or sent
 abbrev pub opening_world : Header → World
 opening_world header = record {
   clusters = map (λ _. new_cluster header.shards) (clusters_of header);
   links = flat_map (λ reader. map (new_link header reader) (others_of header reader)) (clusters_of header);
-  trimmed = map (λ _. many header.shards 0) (clusters_of header);
+  trimmed = map (λ _. replicate header.shards 0) (clusters_of header);
   handovers = [];
 }
 
@@ -114,7 +107,7 @@ abbrev pub cell_at : ClusterNo → ℕ → World → Cell
 cell_at cluster shard w = slice_index_or (cluster_at cluster w).cells shard empty_cell
 
 -- the queue of a source for a shard
-abbrev pub queue_at : ClusterNo → ℕ → World → List Sent
+abbrev pub queue_at : ClusterNo → ℕ → World → List Message
 queue_at source shard w = queue_of (cell_at source shard w)
 
 -- whether it is what this reader has of this source
@@ -156,16 +149,21 @@ newly_naming reader (one ∷ before) after =
     if not (names_cluster reader (Some one)) && names_cluster reader (record_of after one.name)
     then one.name ∷ newly_naming reader before after else newly_naming reader before after
 
--- a table takes the place of another: domains that come to name a reader go last among those of which it is a member late
+-- domains that come to name a reader go last among those of which it is a member late
 abbrev pub with_late : ClusterNo → List DomainRecord → List DomainRecord → Link → Link
 with_late source before after link =
     if same_cluster link.source source then record link { late = link.late ++ newly_naming link.reader before after } else link
 
+-- a table takes the place of another, and readers may come to be members late
 abbrev pub with_table : ClusterNo → List DomainRecord → World → World
 with_table cluster table w = record w {
   clusters = slice_set w.clusters cluster.number (record (cluster_at cluster w) { table = table });
   links = map (with_late cluster (cluster_at cluster w).table table) w.links;
 }
+
+-- how far the queue of a source is trimmed for a shard
+abbrev pub trimmed_at : ClusterNo → World → ℕ → ℕ
+trimmed_at source w shard = slice_index_or (slice_index_or w.trimmed source.number []) shard 0
 
 -- where a cell of a cluster stands
 abbrev pub home_at : Header → ClusterNo → World → Home

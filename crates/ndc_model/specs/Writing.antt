@@ -28,7 +28,7 @@ use Rattle.ndc_sets.specs.Current.{state_to, strays}
 use Rattle.ndc_sets.specs.Paths.{events_to}
 use Rattle.ndc_state.specs.Value.{StateValue}
 use Rattle.ndc_state.specs.Written.{events_from, failover_close}
-use Rattle.ndc_model.specs.Cells.{Cell, place_of, placed, learned_of}
+use Rattle.ndc_model.specs.Cells.{Cell, learned_of, place_of, placed}
 
 -- where a cell stands: the clusters, which of them it is of, the limit of histories, and its cluster's domain records
 pub record Home : Type 0 where
@@ -37,10 +37,14 @@ pub record Home : Type 0 where
   pub limit : ℕ
   pub table : List DomainRecord
 
+-- whether two clusters are one
+abbrev pub same_cluster : ClusterNo → ClusterNo → Bool
+same_cluster one two = one.number == two.number
+
 -- whether the writer of a version is this cluster
 abbrev pub is_writer : ClusterNo → Option ClusterNo → Bool
 is_writer me None = false
-is_writer me (Some writer) = writer.number == me.number
+is_writer me (Some writer) = same_cluster writer me
 
 -- the greatest version of these batches, 0 where there is none
 abbrev pub greatest_version : List Batch → ℕ
@@ -130,14 +134,14 @@ command_batches domain workflow command limit version batches =
     >>= λ kinds. Ok (batches_of domain workflow (begins_run command) (next_key version batches) (workflow_tip batches) batches kinds)
 
 -- a refusal to write as that of the command
-abbrev pub refused : {A : Type 0} → Result A Refusal → Result A CommandError
-refused (Ok x) = Ok x
-refused (Err why) = Err (Refused why)
+abbrev pub as_command_error : {A : Type 0} → Result A Refusal → Result A CommandError
+as_command_error (Ok x) = Ok x
+as_command_error (Err why) = Err (Refused why)
 
 -- the batches that a command at a cell writes, or the first refusal
 abbrev pub command_of : Home → Name → Name → Command → Cell → Result (List Batch) CommandError
 command_of home domain workflow command cell =
-    refused (may_write home domain workflow cell)
+    as_command_error (may_write home domain workflow cell)
     >>= λ version. command_batches domain workflow command home.limit version (learned_of domain workflow cell)
 
 -- the batch of reapplication below an open tip: a copy of each stray, where there is one
@@ -198,7 +202,7 @@ reset_below domain workflow event limit version (Some tip) batches =
 -- the batches that a reset at a cell writes, or the first refusal
 abbrev pub reset_at : Home → Name → Name → ℕ → Cell → Result (List Batch) CommandError
 reset_at home domain workflow event cell =
-    refused (may_write home domain workflow cell)
+    as_command_error (may_write home domain workflow cell)
     >>= λ version. reset_below domain workflow event home.limit version (workflow_tip (learned_of domain workflow cell)) (learned_of domain workflow cell)
 
 -- a batch is written: it goes to its place, and its place goes last among those written
@@ -209,8 +213,3 @@ with_written b cell = record { arrived = placed b cell.arrived; written = cell.w
 abbrev pub with_all_written : List Batch → Cell → Cell
 with_all_written [] cell = cell
 with_all_written (b ∷ batches) cell = with_all_written batches (with_written b cell)
-
--- the cell after what was to be written: a refusal changes nothing
-abbrev pub cell_after : Result (List Batch) CommandError → Cell → Cell
-cell_after (Ok batches) cell = with_all_written batches cell
-cell_after (Err error) cell = cell

@@ -2,7 +2,7 @@
 ghost use Rattle.std.specs.Prelude.{◌≡◌, [], ◌∷◌, codes};
 ghost use Rattle.ndc_domain.specs.Clusters.{cluster_no};
 ghost use Rattle.ndc_sets.specs.Worked.{begun};
-ghost use Rattle.ndc_model.specs.Moves.{hash_of, shard_of, pulled_all, resent, rewound, settled, worked};
+ghost use Rattle.ndc_model.specs.Moves.{hash_of, shard_of, pulled_all, resent, rewound, after_settlement, worked};
 ghost use Rattle.ndc_model.specs.World.{cell_at, cluster_at, lane_at};
 ghost use Rattle.ndc_model.specs.Worked.{two_clusters, with_a_loss, in_conflict, first_signal, other_signal, applied_again, alpha};
 
@@ -27,7 +27,7 @@ pub fn a_lost_message_holds_the_level_back()
 /// lost is applied again.
 #[tactic(auto, unfolding(ndc_state::specs::Table::row, ndc_reapply::specs::Reapplied::reapplied, ndc_command::specs::Plan::plan_of, ndc_command::specs::Plan::start_of, ndc_command::specs::Plan::plan_below, ndc_command::specs::Plan::written, ndc_command::specs::Plan::judged_at, ndc_command::specs::Plan::within, ndc_command::specs::Stage::refuse, ndc_domain::specs::Members::numbers, ndc_domain::specs::Members::numbers_where))]
 pub fn a_settlement_makes_clusters_alike()
-    ensures first { (cell_at (cluster_no 0) 0 (settled two_clusters in_conflict).world).arrived ≡ begun ∷ first_signal ∷ other_signal ∷ applied_again ∷ [] }
-    ensures second { (cell_at (cluster_no 1) 0 (settled two_clusters in_conflict).world).arrived ≡ begun ∷ first_signal ∷ other_signal ∷ applied_again ∷ [] }
-    ensures table { (cluster_at (cluster_no 0) (settled two_clusters in_conflict).world).table ≡ alpha 2 ∷ [] }
+    ensures first { (cell_at (cluster_no 0) 0 (after_settlement two_clusters in_conflict).world).arrived ≡ begun ∷ first_signal ∷ other_signal ∷ applied_again ∷ [] }
+    ensures second { (cell_at (cluster_no 1) 0 (after_settlement two_clusters in_conflict).world).arrived ≡ begun ∷ first_signal ∷ other_signal ∷ applied_again ∷ [] }
+    ensures table { (cluster_at (cluster_no 0) (after_settlement two_clusters in_conflict).world).table ≡ alpha 2 ∷ [] }
 {}

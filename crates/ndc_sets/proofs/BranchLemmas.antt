@@ -32,7 +32,7 @@ same-batch batches a b has other e =
     let there : batch_at a.key batches ≡ Some b = has-found batches a.key b (sym e) other in cc
 
 -- a filter of a list that rises rises
-All-filter : (P : Batch → Type 0) (p : Batch → Bool) (batches : List Batch) → AllByRecursion P batches → AllByRecursion P (filter p batches)
+pub All-filter : (P : Batch → Type 0) (p : Batch → Bool) (batches : List Batch) → AllByRecursion P batches → AllByRecursion P (filter p batches)
 All-filter P p [] all = tt
 All-filter P p (c ∷ cs) all = filter-cases (AllByRecursion P) p c cs (λ _. (all.0, All-filter P p cs all.1)) (λ _. All-filter P p cs all.1)
 

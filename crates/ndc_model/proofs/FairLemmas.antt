@@ -1,0 +1,208 @@
+-- The opening world is fair.
+use Rattle.std.proofs.Common.{◌≡◌, ◌≢◌, ℕ, zero, suc, ◌<◌, ◌≤◌, Bool, true, false, cond, List, [], ◌∷◌, ◌++◌, map, replicate, slice_index_or, Option, Some, None, refl, sym, ◌∙◌, subst, ap, arith}
+use Rattle.std.specs.Prelude.{AllPairs, find}
+use Rattle.std.specs.List.{AllByRecursion, IsAmong, filter, filter_map, flat_map}
+use Rattle.ndc_domain.specs.Laws.{DaysAgree}
+use Rattle.ndc_domain.specs.Records.{IsTable, record_of}
+use Rattle.ndc_domain.specs.declared.clusters.ClusterNo.{ClusterNo}
+use Rattle.ndc_domain.specs.declared.record.DomainRecord.{DomainRecord}
+use Rattle.ndc_event.specs.declared.batch.Batch.{Batch}
+use Rattle.ndc_event.specs.declared.name.Name.{Name}
+use Rattle.ndc_script.specs.declared.script.Header.{Header}
+use Rattle.ndc_sets.specs.Sets.{Has}
+use Rattle.ndc_sets.specs.Sound.{IsSound}
+use Rattle.ndc_model.specs.Cells.{Cell, Place, batch_there, empty_cell, is_of}
+use Rattle.ndc_model.specs.Facts.{BeatsAreSmall, HandoversFit, IsLetterFit, LettersFit}
+use Rattle.ndc_model.specs.Fair.{AreNumbersSmall, ArrivalsWereWritten, CopiesNameOriginals, EachRecord, IsArrivedFit, IsFair, IsLaneTrue, IsOwn, LanesAreTrue, MembersAlone, NumbersAreSmall, RecordsAgree, WritersOwnVersions, WritingIsSound, is_named, places_written, written_of}
+use Rattle.ndc_model.specs.Moves.{all_written, in_order, shard_of}
+use Rattle.ndc_model.specs.Queues.{Lane, names_cluster, new_lane, queue_of}
+use Rattle.ndc_model.specs.World.{Cluster, Link, cell_at, cluster_at, clusters_of, is_link, lane_at, link_at, link_found, new_cluster, new_link, opening_world, others_of, queue_at, trimmed_at}
+
+-- lists of the same
+index-same : {X : Type 0} (x : X) (n i : ℕ) → slice_index_or (replicate n x) i x ≡ x
+index-same x zero i = refl
+index-same x (suc n) zero = refl
+index-same x (suc n) (suc i) = index-same x n i
+
+index-either : {X Y : Type 0} (P : Y → Type 0) (y d : Y) (xs : List X) (i : ℕ) → P y → P d → P (slice_index_or (map (λ _. y) xs) i d)
+index-either P y d [] i p q = q
+index-either P y d (x ∷ xs) zero p q = p
+index-either P y d (x ∷ xs) (suc i) p q = index-either P y d xs i p q
+
+flat-none : {X Y : Type 0} (f : X → List Y) (xs : List X) → ((x : X) → f x ≡ []) → flat_map f xs ≡ []
+flat-none f [] none = refl
+flat-none f (x ∷ xs) none = ap (λ ys. ys ++ flat_map f xs) (none x) ∙ flat-none f xs none
+
+all-append : {X : Type 0} (P : X → Type 0) (xs ys : List X) → AllByRecursion P xs → AllByRecursion P ys → AllByRecursion P (xs ++ ys)
+all-append P [] ys p q = q
+all-append P (x ∷ xs) ys p q = (p.0, all-append P xs ys p.1 q)
+
+all-map : {X Y : Type 0} (P : Y → Type 0) (f : X → Y) (xs : List X) → ((x : X) → P (f x)) → AllByRecursion P (map f xs)
+all-map P f [] each = tt
+all-map P f (x ∷ xs) each = (each x, all-map P f xs each)
+
+all-flat : {X Y : Type 0} (P : Y → Type 0) (f : X → List Y) (xs : List X) → ((x : X) → AllByRecursion P (f x)) → AllByRecursion P (flat_map f xs)
+all-flat P f [] each = tt
+all-flat P f (x ∷ xs) each = all-append P (f x) (flat_map f xs) (each x) (all-flat P f xs each)
+
+module _ (header : Header) where
+  -- what holds of a cluster in the beginning holds of each
+  each-cluster : (P : Cluster → Type 0) (cluster : ClusterNo) → P (new_cluster header.shards) → P (new_cluster 0) → P (cluster_at cluster (opening_world header))
+  each-cluster P cluster p q = index-either P (new_cluster header.shards) (new_cluster 0) (clusters_of header) cluster.number p q
+
+  no-table : (cluster : ClusterNo) → (cluster_at cluster (opening_world header)).table ≡ []
+  no-table cluster = each-cluster (λ c. c.table ≡ []) cluster refl refl
+
+  no-letters : (cluster : ClusterNo) → (cluster_at cluster (opening_world header)).letters ≡ []
+  no-letters cluster = each-cluster (λ c. c.letters ≡ []) cluster refl refl
+
+  no-reports : (cluster : ClusterNo) → (cluster_at cluster (opening_world header)).reports ≡ []
+  no-reports cluster = each-cluster (λ c. c.reports ≡ []) cluster refl refl
+
+  each-cell : (cluster : ClusterNo) (shard : ℕ) → cell_at cluster shard (opening_world header) ≡ empty_cell
+  each-cell cluster shard = each-cluster (λ c. slice_index_or c.cells shard empty_cell ≡ empty_cell) cluster (index-same empty_cell header.shards shard) (index-same empty_cell 0 shard)
+
+  -- what readers have of sources
+  IsNew : Link → Type 0
+  IsNew link = (link.lanes ≡ replicate header.shards new_lane) × (link.late ≡ [])
+
+  links-new : AllByRecursion IsNew (opening_world header).links
+  unfolding IsNew
+  links-new = all-flat IsNew (λ reader. map (new_link header reader) (others_of header reader)) (clusters_of header) (λ reader. all-map IsNew (new_link header reader) (others_of header reader) (λ source. (refl, refl)))
+
+  found-new : (reader source : ClusterNo) (links : List Link) → AllByRecursion IsNew links → IsNew (link_found header reader source (find (is_link reader source) links))
+  unfolding IsNew
+  found-new reader source [] all = (refl, refl)
+  found-new reader source (link ∷ links) all = by (is_link reader source link) (found-new reader source links all.1)
+    where
+      by : (t : Bool) → IsNew (link_found header reader source (find (is_link reader source) links)) → IsNew (link_found header reader source (cond t (Some link) (find (is_link reader source) links)))
+      by true rest = all.0
+      by false rest = rest
+
+  link-new : (reader source : ClusterNo) → IsNew (link_at header reader source (opening_world header))
+  link-new reader source = found-new reader source (opening_world header).links links-new
+
+  each-lane : (reader source : ClusterNo) (shard : ℕ) → lane_at header reader source shard (opening_world header) ≡ new_lane
+  unfolding IsNew
+  each-lane reader source shard = ap (λ lanes. slice_index_or lanes shard new_lane) (link-new reader source).0 ∙ index-same new_lane header.shards shard
+
+  no-late : (reader source : ClusterNo) → (link_at header reader source (opening_world header)).late ≡ []
+  unfolding IsNew
+  no-late reader source = (link-new reader source).1
+
+  no-trimmed : (source : ClusterNo) (shard : ℕ) → trimmed_at source (opening_world header) shard ≡ 0
+  no-trimmed source shard =
+      index-either (λ numbers. slice_index_or numbers shard 0 ≡ 0) (replicate header.shards 0) [] (clusters_of header) source.number (index-same 0 header.shards shard) refl
+
+  no-queue : (source : ClusterNo) (shard : ℕ) → queue_at source shard (opening_world header) ≡ []
+  no-queue source shard = ap queue_of (each-cell source shard)
+
+  no-writing : (shard : ℕ) → all_written header shard (opening_world header) ≡ []
+  no-writing shard = ap in_order (flat-none _ (clusters_of header) (λ cluster. ap written_in (each-cell cluster shard)))
+    where
+      written_in : Cell → List Batch
+      written_in cell = filter_map (batch_there cell.arrived) cell.written
+
+  no-places : (shard : ℕ) → places_written header shard (opening_world header) ≡ []
+  no-places shard = flat-none _ (clusters_of header) (λ cluster. ap (λ (c : Cell). c.written) (each-cell cluster shard))
+
+  none-written : (domain workflow : Name) → written_of header domain workflow (opening_world header) ≡ []
+  none-written domain workflow = ap (filter (is_of domain workflow)) (no-writing (shard_of domain workflow header.shards))
+
+  sound-none : IsSound []
+  sound-none = record {
+    set = record { ordered = tt; back = tt };
+    closed = λ b h. absurd (cc);
+    faultless = λ b h. absurd (cc);
+    parents = λ b before key h. absurd (cc);
+    chains = λ one two h. absurd (cc);
+    origins = λ b h. absurd (cc);
+    copies = λ b other h. absurd (cc);
+    replays = λ b h. absurd (cc);
+    carriers = λ b carrier key h. absurd (cc);
+  }
+
+  small-none : AreNumbersSmall 0 []
+  small-none = record { tasks = tt; batches_most = omega arith; originals_most = omega arith; events_most = tt }
+
+  writing-fair : WritingIsSound header (opening_world header)
+  writing-fair = record {
+    differ = λ shard below. subst (λ (places : List Place). AllPairs (λ one two. one ≢ two) places) (sym (no-places shard)) (λ i j d lt in_list. absurd (omega (arith, in_list)));
+    sound = λ domain workflow. subst IsSound (sym (none-written domain workflow)) sound-none;
+    carried = λ domain workflow b has. let none : Has [] b = subst (λ (bs : List Batch). Has bs b) (none-written domain workflow) has in absurd (cc);
+  }
+
+  copies-fair : CopiesNameOriginals header (opening_world header)
+  copies-fair domain workflow b has = let none : Has [] b = subst (λ (bs : List Batch). Has bs b) (none-written domain workflow) has in absurd (cc)
+
+  writers-fair : WritersOwnVersions header (opening_world header)
+  writers-fair cluster shard known below =
+      subst (λ (cell : Cell). AllByRecursion (IsOwn header cluster (cluster_at cluster (opening_world header)).table cell) cell.written) (sym (each-cell cluster shard)) tt
+
+  arrivals-fair : ArrivalsWereWritten header (opening_world header)
+  arrivals-fair cluster shard known below = subst (IsArrivedFit header (opening_world header) shard) (sym (each-cell cluster shard)) (record {
+    once = tt;
+    written = tt;
+    carried = λ b second among. let none : IsAmong [] b = subst (λ (bs : List Batch). IsAmong bs b) (no-writing shard) among in absurd (omega (arith, none.1.0));
+  })
+
+  lanes-fair : LanesAreTrue header (opening_world header)
+  lanes-fair reader source shard two below = subst (IsLaneTrue header reader source shard (opening_world header)) (sym (each-lane reader source shard)) (record {
+    trimmed_most = omega (arith, no-trimmed source shard);
+    done_most = omega arith;
+    read_most = omega arith;
+    done = tt;
+    flight = tt;
+  })
+
+  -- what holds of no record holds of each
+  each-record : (holds : DomainRecord → Type 0) → EachRecord header (opening_world header) holds
+  each-record holds cluster known = subst (AllByRecursion holds) (sym (no-table cluster)) tt
+
+  no-days : (others : List DomainRecord) → DaysAgree [] others
+  no-days others name ours theirs found = absurd (cc)
+
+  records-fair : RecordsAgree header 0 (opening_world header)
+  records-fair = record {
+    tables = λ cluster known. subst IsTable (sym (no-table cluster)) (record { ordered = tt; sound = tt });
+    ranges = each-record _;
+    known = each-record _;
+    days = λ one two first second. subst (λ (table : List DomainRecord). DaysAgree table (cluster_at two (opening_world header)).table) (sym (no-table one)) (no-days _);
+  }
+
+  members-fair : MembersAlone header (opening_world header)
+  members-fair = record {
+    members = each-record _;
+    arrived = λ cluster shard known below. subst (λ (cell : Cell). AllByRecursion (λ b. is_named header cluster (opening_world header) b.domain ≡ true) cell.arrived) (sym (each-cell cluster shard)) tt;
+    flight = λ reader source shard two below. subst (λ (lane : Lane). AllByRecursion (λ sent. is_named header reader (opening_world header) sent.batch.domain ≡ true) lane.flight) (sym (each-lane reader source shard)) tt;
+    late = λ reader source two. subst (AllByRecursion (λ domain. names_cluster reader (record_of (cluster_at source (opening_world header)).table domain) ≡ true)) (sym (no-late reader source)) tt;
+  }
+
+  numbers-fair : NumbersAreSmall header 0 (opening_world header)
+  numbers-fair = record {
+    written = λ domain workflow. subst (AreNumbersSmall 0) (sym (none-written domain workflow)) small-none;
+    lines_most = omega arith;
+  }
+
+-- the opening world is fair
+pub opening_fair : (header : Header) → IsFair header 0 (opening_world header)
+opening_fair header = record {
+  writing = writing-fair header;
+  copies = copies-fair header;
+  writers = writers-fair header;
+  arrivals = arrivals-fair header;
+  lanes = lanes-fair header;
+  records = records-fair header;
+  numbers = numbers-fair header;
+  members = members-fair header;
+}
+
+-- and has no handover, letter or report
+pub opening_handovers : (header : Header) → HandoversFit header (opening_world header)
+opening_handovers header = record { one_each = λ i j d lt in_list. absurd (omega (arith, in_list)); each = tt }
+
+pub opening_letters : (header : Header) → LettersFit header (opening_world header)
+opening_letters header cluster known = subst (AllByRecursion (IsLetterFit header (opening_world header) cluster)) (sym (no-letters header cluster)) tt
+
+pub opening_beats : (header : Header) → BeatsAreSmall header 0 (opening_world header)
+opening_beats header cluster known = subst (AllByRecursion (λ report. report.beat ≤ 0)) (sym (no-reports header cluster)) tt

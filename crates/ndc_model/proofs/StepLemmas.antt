@@ -1,0 +1,184 @@
+-- Lines that change nothing.
+use Rattle.std.proofs.Common.{◌≡◌, ℕ, Bool, true, false, List, [], ◌∷◌, Option, Some, None, Result, Ok, Err, not, is_some, codes, cond, find, if◌then◌else◌, refl, sym, subst, true≢false}
+use Rattle.std.proofs.lemmas.Slice.Eq.{bytes_eq-Decides}
+use Rattle.ndc_command.specs.declared.refusal.CommandError.{CommandError}
+use Rattle.ndc_domain.specs.declared.clusters.ClusterNo.{ClusterNo}
+use Rattle.ndc_domain.specs.declared.record.DomainRecord.{DomainRecord}
+use Rattle.ndc_domain.specs.declared.record.FailoverError.{FailoverError}
+use Rattle.ndc_domain.specs.declared.record.JoinError.{JoinError}
+use Rattle.ndc_event.specs.declared.batch.Batch.{Batch}
+use Rattle.ndc_event.specs.declared.name.Name.{Name}
+use Rattle.ndc_script.specs.declared.script.Act.{Act}
+use Rattle.ndc_script.specs.declared.script.Act.TheVariants as act
+use Rattle.ndc_script.specs.declared.script.Header.{Header}
+use Rattle.ndc_model.specs.Arrival.{Message}
+use Rattle.ndc_model.specs.Handovers.{complete_lagging, complete_open, complete_overtaken, complete_step, handover_begun, handover_by, is_bootstrap_due, is_handover_of, lagging_shard, open_handover, without_handover}
+use Rattle.ndc_model.specs.Laws.{ChangesNothing, is_overtaken, is_reading, is_refusal}
+use Rattle.ndc_model.specs.Letters.{damage_at, damaged, is_read_as}
+use Rattle.ndc_model.specs.Lines.{act_step}
+use Rattle.ndc_model.specs.Progress.{beat_by, beat_unless}
+use Rattle.ndc_model.specs.Steps.{Stepped, answered, flight_step, join_step, table_step, written_step}
+use Rattle.ndc_model.specs.Texts.{refused}
+use Rattle.ndc_model.specs.World.{ActivityRef, Handover, Letter, World}
+
+-- a step that changes nothing where it refuses; an answer that ends a handover aside
+abbrev pub IsQuietRefusal : World → Stepped → Type 0
+IsQuietRefusal w step = is_refusal step.answer ≡ true → is_overtaken step.answer ≡ false → ChangesNothing w step
+
+-- what is answered without a change
+same : (w : World) (answer : List ℕ) → ChangesNothing w (answered w answer)
+same w answer = record { world = refl; seen = refl }
+
+-- a step, by a test
+either : (w : World) (test : Bool) (one two : Stepped) → IsQuietRefusal w one → IsQuietRefusal w two → IsQuietRefusal w (if test then one else two)
+either w true one two first second = first
+either w false one two first second = second
+
+of-table : {E : Type 0} (words : E → List (List ℕ)) (at : ClusterNo) (w : World) (result : Result (ℕ × List DomainRecord) E) → IsQuietRefusal w (table_step words at w result)
+of-table words at w (Ok answer) r o = absurd (true≢false (sym r))
+of-table words at w (Err error) r o = record { world = refl; seen = refl }
+
+of-join : (at : ClusterNo) (w : World) (result : Result (List DomainRecord) JoinError) → IsQuietRefusal w (join_step at w result)
+of-join at w (Ok table) r o = absurd (true≢false (sym r))
+of-join at w (Err error) r o = record { world = refl; seen = refl }
+
+of-flight : (header : Header) (reader source : ClusterNo) (shard : ℕ) (w : World) (flight : Option (List Message)) → IsQuietRefusal w (flight_step header reader source shard w flight)
+of-flight header reader source shard w None r o = record { world = refl; seen = refl }
+of-flight header reader source shard w (Some flight) r o = absurd (true≢false (sym r))
+
+of-writing : (cluster : ClusterNo) (shard : ℕ) (w : World) (result : Result (List Batch) CommandError) → IsQuietRefusal w (written_step cluster shard w result)
+of-writing cluster shard w (Ok batches) r o = absurd (true≢false (sym r))
+of-writing cluster shard w (Err error) r o = record { world = refl; seen = refl }
+
+of-begun : (header : Header) (at : ClusterNo) (domain : Name) (target : ClusterNo) (one : DomainRecord) (w : World) (result : Result (ℕ × List DomainRecord) FailoverError)
+    → IsQuietRefusal w (handover_begun header at domain target one w result)
+of-begun header at domain target one w (Ok answer) r o = absurd (true≢false (sym r))
+of-begun header at domain target one w (Err error) r o = record { world = refl; seen = refl }
+
+of-handover : (header : Header) (at : ClusterNo) (domain : Name) (target : ClusterNo) (w : World) (found : Option DomainRecord) → IsQuietRefusal w (handover_by header at domain target w found)
+of-handover header at domain target w None r o = record { world = refl; seen = refl }
+of-handover header at domain target w (Some one) = either w _ _ _ (λ _ _. record { world = refl; seen = refl }) (of-begun header at domain target one w _)
+
+of-lagging : (header : Header) (handover : Handover) (w : World) (shard : Option ℕ) → IsQuietRefusal w (complete_lagging header handover w shard)
+of-lagging header handover w None r o = absurd (true≢false (sym r))
+of-lagging header handover w (Some shard) r o = record { world = refl; seen = refl }
+
+of-overtaken : (header : Header) (handover : Handover) (w : World) (version : Option ℕ) → IsQuietRefusal w (complete_overtaken header handover w version)
+of-overtaken header handover w (Some version) r o = absurd (true≢false o)
+of-overtaken header handover w None = either w _ _ _ (λ _ _. record { world = refl; seen = refl }) (of-lagging header handover w (lagging_shard header handover w))
+
+of-complete : (header : Header) (at : ClusterNo) (w : World) (found : Option Handover) → IsQuietRefusal w (complete_open header at w found)
+of-complete header at w None r o = record { world = refl; seen = refl }
+of-complete header at w (Some handover) = either w _ _ _ (λ _ _. record { world = refl; seen = refl }) (of-overtaken header handover w _)
+
+of-damaged : (header : Header) (reader source : ClusterNo) (shard place : ℕ) (w : World) (letter : Letter) → IsQuietRefusal w (damaged header reader source shard place w letter)
+of-damaged header reader source shard place w letter = either w _ _ _ (λ _ _. record { world = refl; seen = refl }) (λ r o. absurd (true≢false (sym r)))
+
+of-damage : (header : Header) (reader source : ClusterNo) (shard place cut : ℕ) (w : World) (found : Option Message) → IsQuietRefusal w (damage_at header reader source shard place cut w found)
+of-damage header reader source shard place cut w None r o = record { world = refl; seen = refl }
+of-damage header reader source shard place cut w (Some sent) = of-damaged header reader source shard place w _
+
+of-unless : (cluster : ClusterNo) (version : ℕ) (activity : ActivityRef) (details : Name) (w : World) (stale : Option ℕ) → IsQuietRefusal w (beat_unless cluster version activity details w stale)
+of-unless cluster version activity details w (Some stale) r o = record { world = refl; seen = refl }
+of-unless cluster version activity details w None r o = absurd (true≢false (sym r))
+
+of-beat : (cluster : ClusterNo) (details : Name) (w : World) (result : Result (ℕ × ActivityRef) CommandError) → IsQuietRefusal w (beat_by cluster details w result)
+of-beat cluster details w (Err error) r o = record { world = refl; seen = refl }
+of-beat cluster details w (Ok told) = of-unless cluster told.0 told.1 details w _
+
+-- a refused line changes nothing, but where a handover is overtaken
+pub refused_changes_nothing : (header : Header) (a : Act) (w : World) → IsQuietRefusal w (act_step header a w)
+refused_changes_nothing header (act.Command cluster domain workflow command) w = of-writing cluster _ w _
+refused_changes_nothing header (act.Burst cluster jobs) w = λ _ _. record { world = refl; seen = refl }
+refused_changes_nothing header (act.Register at domain target days members) w = of-table _ at w _
+refused_changes_nothing header (act.Retain at domain days) w = of-table _ at w _
+refused_changes_nothing header (act.Join at domain member) w = of-join at w _
+refused_changes_nothing header (act.Failover at domain target) w = of-table _ at w _
+refused_changes_nothing header (act.Domains to from) w = λ r _. absurd (true≢false (sym r))
+refused_changes_nothing header (act.Domain at domain) w = λ _ _. record { world = refl; seen = refl }
+refused_changes_nothing header (act.MembersOf at domain) w = λ _ _. record { world = refl; seen = refl }
+refused_changes_nothing header (act.Pull reader source) w = λ r _. absurd (true≢false (sym r))
+refused_changes_nothing header (act.PullSome reader source shard count) w = λ r _. absurd (true≢false (sym r))
+refused_changes_nothing header (act.Lose reader source shard place) w = of-flight header reader source shard w _
+refused_changes_nothing header (act.Repeat reader source shard place) w = of-flight header reader source shard w _
+refused_changes_nothing header (act.Move reader source shard place to) w = of-flight header reader source shard w _
+refused_changes_nothing header (act.Work cluster) w = λ r _. absurd (true≢false (sym r))
+refused_changes_nothing header (act.Rewind reader source) w = λ r _. absurd (true≢false (sym r))
+refused_changes_nothing header (act.Trim source) w = λ r _. absurd (true≢false (sym r))
+refused_changes_nothing header (act.LevelsOf reader source shard) w = λ _ _. record { world = refl; seen = refl }
+refused_changes_nothing header (act.Gaps cluster) w = λ _ _. record { world = refl; seen = refl }
+refused_changes_nothing header (act.Resend cluster) w = λ r _. absurd (true≢false (sym r))
+refused_changes_nothing header (act.Bootstrap reader source) w = λ r _. absurd (true≢false (sym r))
+refused_changes_nothing header act.Settle w = λ r _. absurd (true≢false (sym r))
+refused_changes_nothing header (act.History cluster domain workflow) w = λ _ _. record { world = refl; seen = refl }
+refused_changes_nothing header (act.Branches cluster domain workflow) w = λ _ _. record { world = refl; seen = refl }
+refused_changes_nothing header (act.Current cluster domain workflow) w = λ _ _. record { world = refl; seen = refl }
+refused_changes_nothing header (act.StateOf cluster domain workflow) w = λ _ _. record { world = refl; seen = refl }
+refused_changes_nothing header (act.Dump cluster domain workflow) w = λ _ _. record { world = refl; seen = refl }
+refused_changes_nothing header (act.Compare one two domain workflow) w = λ _ _. record { world = refl; seen = refl }
+refused_changes_nothing header (act.Handover at domain target) w = either w _ _ _ (λ _ _. record { world = refl; seen = refl }) (of-handover header at domain target w _)
+refused_changes_nothing header (act.Complete at domain) w = of-complete header at w _
+refused_changes_nothing header (act.Reset cluster domain workflow event) w = of-writing cluster _ w _
+refused_changes_nothing header (act.Damage reader source shard place cut) w = of-damage header reader source shard place cut w _
+refused_changes_nothing header (act.LettersOf reader) w = λ _ _. record { world = refl; seen = refl }
+refused_changes_nothing header (act.Purge reader) w = λ r _. absurd (true≢false (sym r))
+refused_changes_nothing header (act.MergeLetters reader) w = λ r _. absurd (true≢false (sym r))
+refused_changes_nothing header (act.Beat cluster domain workflow id details) w = of-beat cluster details w _
+refused_changes_nothing header (act.Sync to from) w = λ r _. absurd (true≢false (sym r))
+refused_changes_nothing header (act.ProgressOf cluster domain workflow id) w = λ _ _. record { world = refl; seen = refl }
+
+-- a line that only reads changes nothing
+pub reading_changes_nothing : (header : Header) (a : Act) (w : World) → is_reading a ≡ true → ChangesNothing w (act_step header a w)
+reading_changes_nothing header (act.Domain at domain) w r = record { world = refl; seen = refl }
+reading_changes_nothing header (act.MembersOf at domain) w r = record { world = refl; seen = refl }
+reading_changes_nothing header (act.LevelsOf reader source shard) w r = record { world = refl; seen = refl }
+reading_changes_nothing header (act.Gaps cluster) w r = record { world = refl; seen = refl }
+reading_changes_nothing header (act.History cluster domain workflow) w r = record { world = refl; seen = refl }
+reading_changes_nothing header (act.Branches cluster domain workflow) w r = record { world = refl; seen = refl }
+reading_changes_nothing header (act.Current cluster domain workflow) w r = record { world = refl; seen = refl }
+reading_changes_nothing header (act.StateOf cluster domain workflow) w r = record { world = refl; seen = refl }
+reading_changes_nothing header (act.Dump cluster domain workflow) w r = record { world = refl; seen = refl }
+reading_changes_nothing header (act.Compare one two domain workflow) w r = record { world = refl; seen = refl }
+reading_changes_nothing header (act.LettersOf reader) w r = record { world = refl; seen = refl }
+reading_changes_nothing header (act.ProgressOf cluster domain workflow id) w r = record { world = refl; seen = refl }
+reading_changes_nothing header _ w r = absurd (true≢false (sym r))
+
+-- what an overtaken handover leaves
+by-overtaken : (header : Header) (handover : Handover) (w : World) (version : Option ℕ) → is_overtaken (complete_overtaken header handover w version).answer ≡ true
+    → (complete_overtaken header handover w version).world ≡ without_handover handover.domain w
+by-overtaken header handover w (Some version) o = refl
+by-overtaken header handover w None = by (is_bootstrap_due header handover w) (lagging_shard header handover w)
+  where
+    by : (due : Bool) (shard : Option ℕ)
+        → is_overtaken (if due then answered w (refused (codes "BootstrapDue" ∷ [])) else complete_lagging header handover w shard).answer ≡ true
+        → (if due then answered w (refused (codes "BootstrapDue" ∷ [])) else complete_lagging header handover w shard).world ≡ without_handover handover.domain w
+    by true shard o = absurd (true≢false (sym o))
+    by false None o = absurd (true≢false (sym o))
+    by false (Some shard) o = absurd (true≢false (sym o))
+
+-- what is found passes the test
+found-passes : {X : Type 0} (test : X → Bool) (xs : List X) (x : X) → find test xs ≡ Some x → test x ≡ true
+found-passes test [] x e = absurd (cc)
+found-passes test (y ∷ ys) x e = by (test y) refl e (found-passes test ys x)
+  where
+    by : (t : Bool) → test y ≡ t → cond t (Some y) (find test ys) ≡ Some x → (find test ys ≡ Some x → test x ≡ true) → test x ≡ true
+    by true passes e rest = let same : y ≡ x = cc in subst (λ z. test z ≡ true) same passes
+    by false passes e rest = rest e
+
+-- an overtaken handover is ended
+pub overtaken_ends : (header : Header) (at : ClusterNo) (domain : Name) (w : World) → is_overtaken (complete_step header at domain w).answer ≡ true
+    → (complete_step header at domain w).world ≡ without_handover domain w
+overtaken_ends header at domain w = by (open_handover domain w) refl
+  where
+    tested : (other : Bool) (handover : Handover) (version : Option ℕ)
+        → is_overtaken (if other then answered w (refused (codes "NoHandover" ∷ [])) else complete_overtaken header handover w version).answer ≡ true
+        → (if other then answered w (refused (codes "NoHandover" ∷ [])) else complete_overtaken header handover w version).world ≡ without_handover handover.domain w
+    tested true handover version o = absurd (true≢false (sym o))
+    tested false handover version o = by-overtaken header handover w version o
+
+    by : (found : Option Handover) → open_handover domain w ≡ found → is_overtaken (complete_open header at w found).answer ≡ true
+        → (complete_open header at w found).world ≡ without_handover domain w
+    by None e o = absurd (true≢false (sym o))
+    by (Some handover) e o =
+        let of_it : handover.domain ≡ domain = (bytes_eq-Decides handover.domain domain).0 (found-passes (is_handover_of domain) w.handovers handover e) in
+        subst (λ (d : Name). (complete_open header at w (Some handover)).world ≡ without_handover d w) of_it (tested _ handover _ o)
