@@ -1,11 +1,13 @@
 -- Levels stay in order.
 use Rattle.std.proofs.Common.{ℕ, ◌+◌, ◌≤◌, Bool, true, false, List, [], ◌∷◌, length, drop, Option, Some, None, if◌then◌else◌, arith, length-drop}
+use Rattle.std.specs.List.{prefix_len}
 use Rattle.std.proofs.lemmas.List.{length-take}
+use Rattle.std.proofs.lemmas.List.Sums.{prefix_len-le-length}
 use Rattle.ndc_domain.specs.declared.clusters.ClusterNo.{ClusterNo}
 use Rattle.ndc_domain.specs.declared.record.DomainRecord.{DomainRecord}
 use Rattle.ndc_model.specs.Arrival.{Message}
 use Rattle.ndc_model.specs.Cells.{Cell}
-use Rattle.ndc_model.specs.Queues.{Lane, taken, after_pull, needs_nothing, prefix_len, after_renewal, after_rewind, AreLevels}
+use Rattle.ndc_model.specs.Queues.{Lane, taken, after_pull, needs_nothing, after_renewal, after_rewind, AreLevels}
 
 taken-most : (count : Option ℕ) (queue : List Message) (lane : Lane) → lane.read ≤ length queue → lane.read + length (taken count queue lane) ≤ length queue
 taken-most None queue lane h = omega (arith, h, length-drop lane.read queue)

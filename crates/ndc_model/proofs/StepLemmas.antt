@@ -1,5 +1,5 @@
 -- Lines that change nothing.
-use Rattle.std.proofs.Common.{◌≡◌, ℕ, Bool, true, false, List, [], ◌∷◌, Option, Some, None, Result, Ok, Err, not, is_some, codes, cond, find, if◌then◌else◌, refl, sym, subst, true≢false}
+use Rattle.std.proofs.Common.{◌≡◌, ℕ, Bool, true, false, List, [], ◌∷◌, ◌++◌, remove, Option, Some, None, Result, Ok, Err, not, is_some, codes, cond, find, if◌then◌else◌, refl, sym, subst, true≢false}
 use Rattle.std.proofs.lemmas.Slice.Eq.{bytes_eq-Decides}
 use Rattle.ndc_command.specs.declared.refusal.CommandError.{CommandError}
 use Rattle.ndc_domain.specs.declared.clusters.ClusterNo.{ClusterNo}
@@ -11,23 +11,29 @@ use Rattle.ndc_event.specs.declared.name.Name.{Name}
 use Rattle.ndc_script.specs.declared.script.Act.{Act}
 use Rattle.ndc_script.specs.declared.script.Act.TheVariants as act
 use Rattle.ndc_script.specs.declared.script.Header.{Header}
+use Rattle.ndc_command.specs.declared.refusal.Refusal.TheVariants.{NotActive}
+use Rattle.ndc_domain.specs.Clusters.{writer_of}
+use Rattle.ndc_domain.specs.Records.{failover_of, record_of}
+use Rattle.ndc_text.specs.Read.{read_of}
+use Rattle.ndc_text.specs.declared.form.TextForm.TheVariants.{Two}
 use Rattle.ndc_model.specs.Arrival.{Message}
-use Rattle.ndc_model.specs.Handovers.{complete_lagging, complete_open, complete_overtaken, complete_step, handover_begun, handover_by, is_bootstrap_due, is_handover_of, lagging_shard, open_handover, without_handover}
+use Rattle.ndc_model.specs.Handovers.{complete_lagging, complete_open, complete_overtaken, complete_step, handover_begun, handover_by, is_bootstrap_due, is_handover_of, lagging_shard, not_below, open_handover, without_handover}
 use Rattle.ndc_model.specs.Laws.{ChangesNothing, is_overtaken, is_reading, is_refusal}
-use Rattle.ndc_model.specs.Letters.{damage_at, damaged, is_read_as}
+use Rattle.ndc_model.specs.Letters.{damage_at, is_read_as, letter_of, place_of_letter, with_letters}
 use Rattle.ndc_model.specs.Lines.{act_step}
 use Rattle.ndc_model.specs.Progress.{beat_by, beat_unless}
-use Rattle.ndc_model.specs.Steps.{Stepped, answered, flight_step, join_step, table_step, written_step}
-use Rattle.ndc_model.specs.Texts.{refused}
-use Rattle.ndc_model.specs.World.{ActivityRef, Handover, Letter, World}
+use Rattle.ndc_model.specs.Steps.{Stepped, answered, flight_at, flight_step, join_step, table_step, written_step}
+use Rattle.ndc_model.specs.Texts.{ok, refusal_words, refused}
+use Rattle.ndc_model.specs.World.{ActivityRef, Handover, Letter, World, cluster_at, lane_at, with_lane}
+use Rattle.ndc_model.specs.Writing.{is_writer, same_cluster}
 
 -- a step that changes nothing where it refuses; an answer that ends a handover aside
 abbrev pub IsQuietRefusal : World → Stepped → Type 0
 IsQuietRefusal w step = is_refusal step.answer ≡ true → is_overtaken step.answer ≡ false → ChangesNothing w step
 
 -- what is answered without a change
-same : (w : World) (answer : List ℕ) → ChangesNothing w (answered w answer)
-same w answer = record { world = refl; seen = refl }
+quiet : (w : World) (answer : List ℕ) → IsQuietRefusal w (answered w answer)
+quiet w answer r o = record { world = refl; seen = refl }
 
 -- a step, by a test
 either : (w : World) (test : Bool) (one two : Stepped) → IsQuietRefusal w one → IsQuietRefusal w two → IsQuietRefusal w (if test then one else two)
@@ -56,47 +62,64 @@ of-begun header at domain target one w (Ok answer) r o = absurd (true≢false (s
 of-begun header at domain target one w (Err error) r o = record { world = refl; seen = refl }
 
 of-handover : (header : Header) (at : ClusterNo) (domain : Name) (target : ClusterNo) (w : World) (found : Option DomainRecord) → IsQuietRefusal w (handover_by header at domain target w found)
-of-handover header at domain target w None r o = record { world = refl; seen = refl }
-of-handover header at domain target w (Some one) = either w _ _ _ (λ _ _. record { world = refl; seen = refl }) (of-begun header at domain target one w _)
+of-handover header at domain target w None = quiet w _
+of-handover header at domain target w (Some one) =
+    either w (not (is_writer at (writer_of header.clusters one.version))) (answered w (refused (refusal_words (NotActive one.version))))
+    (handover_begun header at domain target one w (failover_of header.clusters domain target (cluster_at at w).table))
+    (quiet w _) (of-begun header at domain target one w (failover_of header.clusters domain target (cluster_at at w).table))
 
 of-lagging : (header : Header) (handover : Handover) (w : World) (shard : Option ℕ) → IsQuietRefusal w (complete_lagging header handover w shard)
 of-lagging header handover w None r o = absurd (true≢false (sym r))
 of-lagging header handover w (Some shard) r o = record { world = refl; seen = refl }
 
 of-overtaken : (header : Header) (handover : Handover) (w : World) (version : Option ℕ) → IsQuietRefusal w (complete_overtaken header handover w version)
-of-overtaken header handover w (Some version) r o = absurd (true≢false o)
-of-overtaken header handover w None = either w _ _ _ (λ _ _. record { world = refl; seen = refl }) (of-lagging header handover w (lagging_shard header handover w))
+of-overtaken header handover w (Some version) = λ r o. absurd (true≢false o)
+of-overtaken header handover w None =
+    either w (is_bootstrap_due header handover w) (answered w (refused (codes "BootstrapDue" ∷ []))) (complete_lagging header handover w (lagging_shard header handover w))
+    (quiet w _) (of-lagging header handover w (lagging_shard header handover w))
 
 of-complete : (header : Header) (at : ClusterNo) (w : World) (found : Option Handover) → IsQuietRefusal w (complete_open header at w found)
-of-complete header at w None r o = record { world = refl; seen = refl }
-of-complete header at w (Some handover) = either w _ _ _ (λ _ _. record { world = refl; seen = refl }) (of-overtaken header handover w _)
-
-of-damaged : (header : Header) (reader source : ClusterNo) (shard place : ℕ) (w : World) (letter : Letter) → IsQuietRefusal w (damaged header reader source shard place w letter)
-of-damaged header reader source shard place w letter = either w _ _ _ (λ _ _. record { world = refl; seen = refl }) (λ r o. absurd (true≢false (sym r)))
+of-complete header at w None = quiet w _
+of-complete header at w (Some handover) =
+    either w (not (same_cluster handover.taker at)) (answered w (refused (codes "NoHandover" ∷ [])))
+    (complete_overtaken header handover w (not_below handover.new (record_of (cluster_at at w).table handover.domain)))
+    (quiet w _) (of-overtaken header handover w (not_below handover.new (record_of (cluster_at at w).table handover.domain)))
 
 of-damage : (header : Header) (reader source : ClusterNo) (shard place cut : ℕ) (w : World) (found : Option Message) → IsQuietRefusal w (damage_at header reader source shard place cut w found)
-of-damage header reader source shard place cut w None r o = record { world = refl; seen = refl }
-of-damage header reader source shard place cut w (Some sent) = of-damaged header reader source shard place w _
+of-damage header reader source shard place cut w None = quiet w _
+of-damage header reader source shard place cut w (Some sent) = by (is_read_as (place_of_letter letter) (read_of Two letter.bytes))
+  where
+    letter : Letter
+    letter = letter_of source cut sent
+
+    after : World
+    after =
+        with_letters reader ((cluster_at reader w).letters ++ letter ∷ [])
+        (with_lane reader source shard (record (lane_at header reader source shard w) { flight = remove (flight_at header reader source shard w) place }) w)
+
+    by : (whole : Bool) → IsQuietRefusal w (if whole then answered w (ok (codes "whole" ∷ [])) else answered after (ok (codes "aside" ∷ [])))
+    by true r o = absurd (true≢false (sym r))
+    by false r o = absurd (true≢false (sym r))
 
 of-unless : (cluster : ClusterNo) (version : ℕ) (activity : ActivityRef) (details : Name) (w : World) (stale : Option ℕ) → IsQuietRefusal w (beat_unless cluster version activity details w stale)
 of-unless cluster version activity details w (Some stale) r o = record { world = refl; seen = refl }
 of-unless cluster version activity details w None r o = absurd (true≢false (sym r))
 
 of-beat : (cluster : ClusterNo) (details : Name) (w : World) (result : Result (ℕ × ActivityRef) CommandError) → IsQuietRefusal w (beat_by cluster details w result)
-of-beat cluster details w (Err error) r o = record { world = refl; seen = refl }
+of-beat cluster details w (Err error) = quiet w _
 of-beat cluster details w (Ok told) = of-unless cluster told.0 told.1 details w _
 
 -- a refused line changes nothing, but where a handover is overtaken
 pub refused_changes_nothing : (header : Header) (a : Act) (w : World) → IsQuietRefusal w (act_step header a w)
 refused_changes_nothing header (act.Command cluster domain workflow command) w = of-writing cluster _ w _
-refused_changes_nothing header (act.Burst cluster jobs) w = λ _ _. record { world = refl; seen = refl }
+refused_changes_nothing header (act.Burst cluster jobs) w = quiet w _
 refused_changes_nothing header (act.Register at domain target days members) w = of-table _ at w _
 refused_changes_nothing header (act.Retain at domain days) w = of-table _ at w _
 refused_changes_nothing header (act.Join at domain member) w = of-join at w _
 refused_changes_nothing header (act.Failover at domain target) w = of-table _ at w _
 refused_changes_nothing header (act.Domains to from) w = λ r _. absurd (true≢false (sym r))
-refused_changes_nothing header (act.Domain at domain) w = λ _ _. record { world = refl; seen = refl }
-refused_changes_nothing header (act.MembersOf at domain) w = λ _ _. record { world = refl; seen = refl }
+refused_changes_nothing header (act.Domain at domain) w = quiet w _
+refused_changes_nothing header (act.MembersOf at domain) w = quiet w _
 refused_changes_nothing header (act.Pull reader source) w = λ r _. absurd (true≢false (sym r))
 refused_changes_nothing header (act.PullSome reader source shard count) w = λ r _. absurd (true≢false (sym r))
 refused_changes_nothing header (act.Lose reader source shard place) w = of-flight header reader source shard w _
@@ -105,27 +128,29 @@ refused_changes_nothing header (act.Move reader source shard place to) w = of-fl
 refused_changes_nothing header (act.Work cluster) w = λ r _. absurd (true≢false (sym r))
 refused_changes_nothing header (act.Rewind reader source) w = λ r _. absurd (true≢false (sym r))
 refused_changes_nothing header (act.Trim source) w = λ r _. absurd (true≢false (sym r))
-refused_changes_nothing header (act.LevelsOf reader source shard) w = λ _ _. record { world = refl; seen = refl }
-refused_changes_nothing header (act.Gaps cluster) w = λ _ _. record { world = refl; seen = refl }
+refused_changes_nothing header (act.LevelsOf reader source shard) w = quiet w _
+refused_changes_nothing header (act.Gaps cluster) w = quiet w _
 refused_changes_nothing header (act.Resend cluster) w = λ r _. absurd (true≢false (sym r))
 refused_changes_nothing header (act.Bootstrap reader source) w = λ r _. absurd (true≢false (sym r))
 refused_changes_nothing header act.Settle w = λ r _. absurd (true≢false (sym r))
-refused_changes_nothing header (act.History cluster domain workflow) w = λ _ _. record { world = refl; seen = refl }
-refused_changes_nothing header (act.Branches cluster domain workflow) w = λ _ _. record { world = refl; seen = refl }
-refused_changes_nothing header (act.Current cluster domain workflow) w = λ _ _. record { world = refl; seen = refl }
-refused_changes_nothing header (act.StateOf cluster domain workflow) w = λ _ _. record { world = refl; seen = refl }
-refused_changes_nothing header (act.Dump cluster domain workflow) w = λ _ _. record { world = refl; seen = refl }
-refused_changes_nothing header (act.Compare one two domain workflow) w = λ _ _. record { world = refl; seen = refl }
-refused_changes_nothing header (act.Handover at domain target) w = either w _ _ _ (λ _ _. record { world = refl; seen = refl }) (of-handover header at domain target w _)
+refused_changes_nothing header (act.History cluster domain workflow) w = quiet w _
+refused_changes_nothing header (act.Branches cluster domain workflow) w = quiet w _
+refused_changes_nothing header (act.Current cluster domain workflow) w = quiet w _
+refused_changes_nothing header (act.StateOf cluster domain workflow) w = quiet w _
+refused_changes_nothing header (act.Dump cluster domain workflow) w = quiet w _
+refused_changes_nothing header (act.Compare one two domain workflow) w = quiet w _
+refused_changes_nothing header (act.Handover at domain target) w =
+    either w (is_some (open_handover domain w)) (answered w (refused (codes "HandoverOpen" ∷ []))) (handover_by header at domain target w (record_of (cluster_at at w).table domain))
+    (quiet w _) (of-handover header at domain target w (record_of (cluster_at at w).table domain))
 refused_changes_nothing header (act.Complete at domain) w = of-complete header at w _
 refused_changes_nothing header (act.Reset cluster domain workflow event) w = of-writing cluster _ w _
 refused_changes_nothing header (act.Damage reader source shard place cut) w = of-damage header reader source shard place cut w _
-refused_changes_nothing header (act.LettersOf reader) w = λ _ _. record { world = refl; seen = refl }
+refused_changes_nothing header (act.LettersOf reader) w = quiet w _
 refused_changes_nothing header (act.Purge reader) w = λ r _. absurd (true≢false (sym r))
 refused_changes_nothing header (act.MergeLetters reader) w = λ r _. absurd (true≢false (sym r))
 refused_changes_nothing header (act.Beat cluster domain workflow id details) w = of-beat cluster details w _
 refused_changes_nothing header (act.Sync to from) w = λ r _. absurd (true≢false (sym r))
-refused_changes_nothing header (act.ProgressOf cluster domain workflow id) w = λ _ _. record { world = refl; seen = refl }
+refused_changes_nothing header (act.ProgressOf cluster domain workflow id) w = quiet w _
 
 -- a line that only reads changes nothing
 pub reading_changes_nothing : (header : Header) (a : Act) (w : World) → is_reading a ≡ true → ChangesNothing w (act_step header a w)
@@ -146,7 +171,7 @@ reading_changes_nothing header _ w r = absurd (true≢false (sym r))
 -- what an overtaken handover leaves
 by-overtaken : (header : Header) (handover : Handover) (w : World) (version : Option ℕ) → is_overtaken (complete_overtaken header handover w version).answer ≡ true
     → (complete_overtaken header handover w version).world ≡ without_handover handover.domain w
-by-overtaken header handover w (Some version) o = refl
+by-overtaken header handover w (Some version) = λ o. refl
 by-overtaken header handover w None = by (is_bootstrap_due header handover w) (lagging_shard header handover w)
   where
     by : (due : Bool) (shard : Option ℕ)

@@ -1,5 +1,5 @@
 -- Dead letters: messages that came damaged and were set aside.
-use Rattle.std.specs.Prelude.{ℕ, Bool, false, List, [], ◌∷◌, ◌++◌, length, take, codes, decimal, slice_get, Option, Some, None, Result, Ok, Err, if◌then◌else◌}
+use Rattle.std.specs.Prelude.{ℕ, Bool, false, List, [], ◌∷◌, ◌++◌, length, take, codes, decimal, slice_get, Option, Some, None, Result, Ok, Err, if◌then◌else◌, remove}
 use Rattle.std.specs.List.{flat_map, fold}
 use Rattle.ndc_domain.specs.Clusters.{name_of}
 use Rattle.ndc_domain.specs.declared.clusters.ClusterNo.{ClusterNo}

@@ -1,5 +1,5 @@
 -- How messages move: pulls, work, resending, bootstrap, settlement.
-use Rattle.std.specs.Prelude.{ℕ, ◌*◌, ◌%◌, ◌^◌, ◌&&◌, not, List, [], ◌∷◌, ◌++◌, map, drop, slice_set, Option, Some, None, if◌then◌else◌}
+use Rattle.std.specs.Prelude.{ℕ, ◌*◌, ◌%◌, ◌^◌, ◌&&◌, not, List, [], ◌∷◌, ◌++◌, map, drop, slice_set, Option, Some, None, if◌then◌else◌, length, max, ◌-◌}
 use Rattle.std.specs.List.{filter, filter_map, flat_map, fold, list_any}
 use Rattle.std.specs.Int.Bits.{bit_xor}
 use Rattle.std.specs.Str.{bytes_eq}

@@ -1,6 +1,6 @@
 -- Queues, levels and lists in flight.
-use Rattle.std.specs.Prelude.{ℕ, ◌+◌, ◌≤◌, max, min, Bool, true, false, not, ◌&&◌, ◌||◌, nat_lt, is_some, List, [], ◌∷◌, ◌++◌, length, take, drop, find, slice_get, Option, Some, None, if◌then◌else◌}
-use Rattle.std.specs.List.{filter, filter_map}
+use Rattle.std.specs.Prelude.{ℕ, ◌+◌, ◌≤◌, max, min, Bool, true, false, not, ◌&&◌, ◌||◌, nat_lt, is_some, List, [], ◌∷◌, ◌++◌, length, take, drop, find, slice_get, Option, Some, None, if◌then◌else◌, option_map, unwrap_or, remove, insert}
+use Rattle.std.specs.List.{filter, filter_map, prefix_len, reduce}
 use Rattle.std.specs.Option.{option_to_list}
 use Rattle.ndc_domain.specs.declared.clusters.ClusterNo.{ClusterNo}
 use Rattle.ndc_domain.specs.declared.record.DomainRecord.{DomainRecord}

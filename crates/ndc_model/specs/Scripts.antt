@@ -95,7 +95,8 @@ levels queue trimmed read done flight =
 -- the answer of `state`, where only a decision may be pending
 abbrev pub state : ℕ → ℕ → ℕ → List ℕ
 state next decision signals =
-    ok ((codes "next=" ++ decimal next ++ codes " decision=" ++ pending_text (scheduled_by decision) ++ codes " activities=- timers=- children=- signals=" ++ decimal signals ++ codes " cancel=no") ∷ [])
+    ok ((codes "next=" ++ decimal next ++ codes " decision=" ++ pending_text (scheduled_by decision) ++ codes " activities=" ++ codes "-" ++ codes " timers=" ++ codes "-"
+    ++ codes " children=" ++ codes "-" ++ codes " signals=" ++ decimal signals ++ codes " cancel=" ++ codes "no") ∷ [])
 
 -- the run of a key
 abbrev pub run_word : ℕ → ℕ → List ℕ

@@ -36,7 +36,7 @@ use Rattle.ndc_model.specs.Moves.{Note, Trace, after_settlement, all_written, ap
 use Rattle.ndc_model.specs.Queues.{after_loss, after_move, after_repeat, put_in_flight}
 use Rattle.ndc_model.specs.Texts.{event_line, ok, refusal_words, refused}
 use Rattle.ndc_model.specs.World.{World, cell_at, cluster_at, home_at, lane_at, link_at, queue_at, shards_of, trimmed_at, with_cell, with_lane, with_table}
-use Rattle.ndc_model.specs.Writing.{cell_after, command_of, reset_at}
+use Rattle.ndc_model.specs.Writing.{command_of, reset_at, with_all_written}
 
 -- a batch that became learned at a cluster
 pub record Seen : Type 0 where

@@ -1,5 +1,5 @@
 -- Small worked cells: a workflow at cluster A, and at cluster B after a failover.
-use Rattle.std.specs.Prelude.{ℕ, List, [], ◌∷◌, codes, Some, None}
+use Rattle.std.specs.Prelude.{ℕ, List, [], ◌∷◌, codes, Some, None, remove}
 use Rattle.ndc_domain.specs.Clusters.{cluster_no}
 use Rattle.ndc_domain.specs.declared.record.DomainRecord.{DomainRecord}
 use Rattle.ndc_event.specs.declared.batch.Batch.{Batch}

@@ -1,5 +1,5 @@
 -- The world: all clusters, and what each has of the queues of each other.
-use Rattle.std.specs.Prelude.{ℕ, Bool, ◌&&◌, not, ◌==◌, List, [], ◌∷◌, ◌++◌, map, find, slice_index_or, slice_set, Option, Some, None, if◌then◌else◌}
+use Rattle.std.specs.Prelude.{ℕ, Bool, ◌&&◌, not, ◌==◌, List, [], ◌∷◌, ◌++◌, map, find, slice_index_or, slice_set, Option, Some, None, if◌then◌else◌, replicate}
 use Rattle.std.specs.List.{filter, flat_map, range_with_len}
 use Rattle.ndc_domain.specs.Clusters.{count_of}
 use Rattle.ndc_domain.specs.declared.clusters.ClusterNo.{ClusterNo}
