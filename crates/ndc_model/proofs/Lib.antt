@@ -4,3 +4,5 @@ pub mod LevelLemmas
 pub mod StepLemmas
 pub mod ScriptLemmas
 pub mod FairLemmas
+pub mod LetterLemmas
+pub mod WorldLemmas

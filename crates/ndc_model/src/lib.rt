@@ -4,8 +4,10 @@
 
 pub mod cell_laws;
 pub mod fair_laws;
+pub mod letter_laws;
 pub mod level_laws;
 pub mod script_laws;
 pub mod worked_cells;
 pub mod worked_scripts;
 pub mod worked_worlds;
+pub mod world_laws;

@@ -1,0 +1,50 @@
+-- A damaged message is read as what it was exactly where no byte is missing.
+use Rattle.std.proofs.Common.{◌≡◌, ℕ, zero, suc, ◌<◌, ◌≤◌, Bool, true, false, not, nat_lt, List, [], ◌∷◌, ◌++◌, length, take, drop, Result, Ok, Err, None, refl, ap, sym, ◌∙◌, subst, arith, length-drop}
+use Rattle.std.proofs.lemmas.Bool.{and_from}
+use Rattle.std.proofs.lemmas.Bool.Decides.{nat_tests}
+use Rattle.std.proofs.lemmas.List.{take-append-drop}
+use Rattle.std.proofs.lemmas.Slice.Eq.{bytes_eq-Decides}
+use Rattle.ndc_event.specs.Batch.{fault_of}
+use Rattle.ndc_event.specs.declared.batch.Batch.{Batch}
+use Rattle.ndc_sets.proofs.KeyLemmas.{key_eq-self}
+use Rattle.ndc_text.proofs.Exact.{found, no_front, text_again}
+use Rattle.ndc_text.specs.Ranges.{InRange}
+use Rattle.ndc_text.specs.Read.{read_of}
+use Rattle.ndc_text.specs.Text.{batch_text}
+use Rattle.ndc_text.specs.declared.error.TextError.{TextError}
+use Rattle.ndc_text.specs.declared.form.TextForm.TheVariants.{Two}
+use Rattle.ndc_model.specs.Cells.{Place, place_of, same_place}
+use Rattle.ndc_model.specs.Letters.{is_read_as}
+
+take-beyond : (cut : ℕ) (bytes : List ℕ) → length bytes ≤ cut → take cut bytes ≡ bytes
+take-beyond zero [] h = refl
+take-beyond zero (x ∷ xs) h = absurd (omega (arith, h))
+take-beyond (suc cut) [] h = refl
+take-beyond (suc cut) (x ∷ xs) h = ap (λ l. x ∷ l) (take-beyond cut xs (omega (arith, h)))
+
+-- a place is itself
+same_place-self : (place : Place) → same_place place place ≡ true
+same_place-self place =
+    and_from _ _ ((bytes_eq-Decides place.domain place.domain).1 refl) (and_from _ _ ((bytes_eq-Decides place.workflow place.workflow).1 refl) (key_eq-self place.key))
+
+-- a front of a batch text that is read as a batch is the whole text
+front-whole : (b c : Batch) (cut : ℕ) → InRange b → read_of Two (take cut (batch_text b)) ≡ Ok c → length (batch_text b) ≤ cut
+front-whole b c cut range read =
+    let f = found Two (take cut (batch_text b)) c read in
+    let whole : batch_text c ++ drop cut (batch_text b) ≡ batch_text b = ap (λ front. front ++ drop cut (batch_text b)) (sym f.1) ∙ take-append-drop cut (batch_text b) in
+    let none : drop cut (batch_text b) ≡ [] = no_front c b (drop cut (batch_text b)) f.0 range whole in
+    omega (arith, length-drop cut (batch_text b), ap length none)
+
+pub read_where_whole : (b : Batch) (cut : ℕ) → InRange b → fault_of b ≡ None → is_read_as (place_of b) (read_of Two (take cut (batch_text b))) ≡ not (nat_lt cut (length (batch_text b)))
+read_where_whole b cut range sound = by (nat_lt cut (length (batch_text b))) refl
+  where
+    cut_off : (r : Result Batch TextError) → read_of Two (take cut (batch_text b)) ≡ r → cut < length (batch_text b) → is_read_as (place_of b) r ≡ false
+    cut_off (Ok c) read less = absurd (omega (arith, less, front-whole b c cut range read))
+    cut_off (Err error) read less = refl
+
+    by : (t : Bool) → nat_lt cut (length (batch_text b)) ≡ t → is_read_as (place_of b) (read_of Two (take cut (batch_text b))) ≡ not t
+    by true e = let less : cut < length (batch_text b) = grind (arith, nat_tests) in cut_off (read_of Two (take cut (batch_text b))) refl less
+    by false e =
+        let most : length (batch_text b) ≤ cut = grind (arith, nat_tests) in
+        let whole : take cut (batch_text b) ≡ batch_text b = take-beyond cut (batch_text b) most in
+        ap (λ bytes. is_read_as (place_of b) (read_of Two bytes)) whole ∙ ap (is_read_as (place_of b)) (text_again b range sound) ∙ same_place-self (place_of b)
