@@ -6,3 +6,4 @@ pub mod ScriptLemmas
 pub mod FairLemmas
 pub mod LetterLemmas
 pub mod WorldLemmas
+pub mod AlikeLemmas

@@ -1,5 +1,5 @@
 -- Scripts in two parts.
-use Rattle.std.proofs.Common.{◌≡◌, ℕ, List, [], ◌∷◌, ◌++◌, refl, ap, sym, ◌∙◌}
+use Rattle.std.proofs.Common.{◌≡◌, ℕ, List, [], ◌∷◌, ◌++◌, append-nil, refl, ap, sym, ◌∙◌}
 use Rattle.std.specs.List.{flat_map}
 use Rattle.std.proofs.lemmas.Grind.{flat_map-append}
 use Rattle.ndc_script.specs.declared.script.Header.{Header}
@@ -42,3 +42,14 @@ pub seen_in_parts : (header : Header) (lines more : List Line)
     → seen_in (runs_of (script_of header (lines ++ more)))
     ≡ seen_in (runs_of (script_of header lines)) ++ seen_in (runs_from header (world_behind (opening_world header) (runs_of (script_of header lines))) (plain_lines more))
 seen_in_parts header lines more = ap seen_in (script_in_parts header lines more) ∙ flat_map-append (λ run. run.step.seen) (runs_of (script_of header lines)) _
+
+-- the report without indexers is the answers
+report-answers : (header : Header) (lines : List Line) → report_of (script_of header lines) [] [] ≡ answers_of (runs_of (script_of header lines))
+report-answers header lines = append-nil (answers_of (runs_of (script_of header lines)))
+
+pub report_in_parts : (header : Header) (lines more : List Line)
+    → report_of (script_of header (lines ++ more)) [] []
+    ≡ report_of (script_of header lines) [] [] ++ answers_of (runs_from header (world_behind (opening_world header) (runs_of (script_of header lines))) (plain_lines more))
+report_in_parts header lines more =
+    report-answers header (lines ++ more) ∙ answers_in_parts header lines more
+    ∙ sym (ap (λ text. text ++ answers_of (runs_from header (world_behind (opening_world header) (runs_of (script_of header lines))) (plain_lines more))) (report-answers header lines))

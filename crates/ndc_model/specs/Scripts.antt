@@ -1,21 +1,27 @@
 -- Worked scripts: their lines, and how answers are told.
-use Rattle.std.specs.Prelude.{ℕ, ◌+◌, List, [], ◌∷◌, ◌++◌, map, codes, decimal}
+use Rattle.std.specs.Prelude.{ℕ, ◌+◌, List, [], ◌∷◌, ◌++◌, map, length, codes, decimal}
+use Rattle.std.specs.List.{flat_map}
 use Rattle.ndc_command.specs.declared.command.Action.TheVariants as action
 use Rattle.ndc_command.specs.declared.command.Command.{Command}
 use Rattle.ndc_command.specs.declared.command.Command.TheVariants as command
 use Rattle.ndc_domain.specs.Clusters.{cluster_no}
 use Rattle.ndc_domain.specs.declared.clusters.ClusterNo.{ClusterNo}
 use Rattle.ndc_event.specs.Key.{run_of, run_text}
+use Rattle.ndc_event.specs.declared.key.BatchKey.{BatchKey}
+use Rattle.ndc_history.specs.declared.item.Item.{Item}
 use Rattle.ndc_script.specs.declared.script.Act.{Act}
 use Rattle.ndc_script.specs.declared.script.Act.TheVariants as act
 use Rattle.ndc_script.specs.declared.script.BurstJob.{BurstJob}
 use Rattle.ndc_script.specs.declared.script.Header.{Header}
 use Rattle.ndc_script.specs.declared.script.Line.{Line}
+use Rattle.ndc_sets.specs.Worked.{begun, item, key, signal as signal_kind, signaled}
 use Rattle.ndc_state.specs.Pendings.{scheduled_by}
 use Rattle.ndc_state.specs.Text.{pending_text}
-use Rattle.ndc_text.specs.Views.{key_text}
+use Rattle.ndc_text.specs.Text.{batch_text}
+use Rattle.ndc_text.specs.Views.{item_text, key_text, with_commas}
 use Rattle.ndc_model.specs.Laws.{script_of}
-use Rattle.ndc_model.specs.Lines.{runs_of}
+use Rattle.ndc_model.specs.Lines.{runs_of, seen_in}
+use Rattle.ndc_model.specs.Report.{Indexer, index_line}
 use Rattle.ndc_model.specs.Texts.{ok, refused}
 
 -- clusters A, B and C
@@ -68,7 +74,7 @@ abbrev pub number : ℕ → List ℕ
 number n = ok (decimal n ∷ [])
 
 abbrev pub wrote : ℕ → ℕ → List ℕ
-wrote version task = ok (key_text (record { version = version; task = task }) ∷ [])
+wrote version task = ok (key_text (key version task) ∷ [])
 
 abbrev pub done : List ℕ
 done = ok []
@@ -93,14 +99,58 @@ levels queue trimmed read done flight =
     ok (codes "queue" ∷ decimal queue ∷ codes "trimmed" ∷ decimal trimmed ∷ codes "read" ∷ decimal read ∷ codes "done" ∷ decimal done ∷ codes "flight" ∷ decimal flight ∷ [])
 
 -- the answer of `state`, where only a decision may be pending
+abbrev pub state_as : ℕ → ℕ → ℕ → List ℕ
+state_as next decision signals =
+    codes "next=" ++ decimal next ++ codes " decision=" ++ pending_text (scheduled_by decision) ++ codes " activities=" ++ codes "-" ++ codes " timers=" ++ codes "-"
+    ++ codes " children=" ++ codes "-" ++ codes " signals=" ++ decimal signals ++ codes " cancel=" ++ codes "no"
+
 abbrev pub state : ℕ → ℕ → ℕ → List ℕ
-state next decision signals =
-    ok ((codes "next=" ++ decimal next ++ codes " decision=" ++ pending_text (scheduled_by decision) ++ codes " activities=" ++ codes "-" ++ codes " timers=" ++ codes "-"
-    ++ codes " children=" ++ codes "-" ++ codes " signals=" ++ decimal signals ++ codes " cancel=" ++ codes "no") ∷ [])
+state next decision signals = ok (state_as next decision signals ∷ [])
 
 -- the run of a key
 abbrev pub run_word : ℕ → ℕ → List ℕ
-run_word version task = run_text (run_of (record { version = version; task = task }))
+run_word version task = run_text (run_of (key version task))
+
+-- a line of a run, with its status and mark, and a line of a branch, with its history and mark
+abbrev pub run_as : ℕ → ℕ → List ℕ → List ℕ → List ℕ
+run_as version task status mark = codes "run " ++ run_word version task ++ codes " " ++ status ++ mark ++ codes "\n"
+
+abbrev pub branch_as : ℕ → ℕ → List Item → List ℕ → List ℕ
+branch_as version task history mark =
+    codes "branch " ++ key_text (key version task) ++ codes " " ++ with_commas (map item_text history) ++ mark ++ codes "\n"
+
+-- the answer of `branches`: runs, each with its branches
+abbrev pub runs_as : List (List ℕ × List (List ℕ)) → List ℕ
+runs_as runs = ok (decimal (length runs) ∷ []) ++ flat_map (λ run. run.0 ++ flat_map (λ branch. branch) run.1) runs
+
+-- the answer of `history`
+abbrev pub event_as : ℕ → ℕ → List ℕ → List ℕ
+event_as id version kind = decimal id ++ codes "@" ++ decimal version ++ codes " " ++ kind ++ codes "\n"
+
+abbrev pub history_as : List (List ℕ) → List ℕ
+history_as events = ok (decimal (length events) ∷ []) ++ flat_map (λ event. event) events
+
+-- a line of `gaps`: a batch of alpha's w1, what it comes after, what it begins with, and what is missing
+abbrev pub gap_as : BatchKey → Item → Item → BatchKey → List ℕ
+gap_as key after before missing =
+    codes "gap alpha w1 " ++ key_text key ++ codes " after " ++ item_text after ++ codes " before " ++ item_text before ++ codes " missing " ++ key_text missing ++ codes "\n"
+
+abbrev pub gaps_as : List (List ℕ) → List ℕ
+gaps_as gaps = ok (decimal (length gaps) ∷ []) ++ (flat_map (λ gap. gap) gaps ++ [])
+
+-- a line of `letters`: so many bytes of A's first batch of alpha's w1
+abbrev pub letter_as : ℕ → List ℕ
+letter_as size = codes "letter A alpha w1 " ++ key_text (key 1 1) ++ codes " " ++ decimal size ++ codes "\n"
+
+abbrev pub letters_as : List (List ℕ) → List ℕ
+letters_as letters = ok (decimal (length letters) ∷ []) ++ flat_map (λ letter. letter) letters
+
+-- the dump of the workflow that A began and signalled
+abbrev pub dumped : List ℕ
+dumped =
+    codes "dump 2 alpha w1\n" ++ flat_map (λ b. batch_text b ++ codes "\n") (begun ∷ signaled (key 1 2) (key 1 1) 3 (signal_kind (codes "ping") (codes "x")) ∷ [])
+    ++ flat_map (λ line. line) ((run_as 1 1 (codes "open") (codes " current")
+    ++ flat_map (λ line. line) ((branch_as 1 2 (item 3 1 ∷ []) (codes " current") ++ codes "state " ++ state_as 4 2 1 ++ codes "\n") ∷ [])) ∷ []) ++ codes "end\n"
 
 -- domains: registered, failed over and retained
 abbrev pub on_domains : List Act
@@ -112,7 +162,7 @@ on_domains =
 abbrev pub without_conflict : List Act
 without_conflict =
     register A (0 ∷ 1 ∷ []) ∷ act.Domains B A ∷ start A ∷ signal A (codes "ping") (codes "x") ∷ act.Pull B A ∷ act.Work B ∷ failover A B ∷ act.Domains B A
-    ∷ signal B (codes "ping") (codes "y") ∷ signal B (codes "ping") (codes "z") ∷ []
+    ∷ signal B (codes "ping") (codes "y") ∷ signal B (codes "ping") (codes "z") ∷ act.Branches B (codes "alpha") (codes "w1") ∷ []
 
 -- the beginning of scripts in which B takes a workflow over while A does not know
 abbrev pub taken_over : List Act
@@ -122,7 +172,7 @@ taken_over = register A (0 ∷ 1 ∷ []) ∷ act.Domains B A ∷ start A ∷ act
 abbrev pub with_conflict : List Act
 with_conflict =
     taken_over
-    ++ signal B (codes "b1") (codes "y") ∷ signal A (codes "a1") (codes "x") ∷ act.Pull A B ∷ act.Work A ∷ signal A (codes "a2") (codes "x") ∷ act.Pull B A ∷ act.Work B
+    ++ signal B (codes "b1") (codes "y") ∷ signal A (codes "a1") (codes "x") ∷ act.Pull A B ∷ act.Work A ∷ act.Branches A (codes "alpha") (codes "w1") ∷ signal A (codes "a2") (codes "x") ∷ act.Pull B A ∷ act.Work B
     ∷ act.StateOf B (codes "alpha") (codes "w1") ∷ act.Settle ∷ act.Command A (codes "alpha") (codes "w2") (command.Start (codes "order")) ∷ []
 
 -- messages that are lost, and queues that are trimmed
@@ -135,7 +185,7 @@ with_losses =
 abbrev pub with_repeats : List Act
 with_repeats =
     register A (0 ∷ 1 ∷ 2 ∷ []) ∷ act.Domains B A ∷ start A ∷ act.Pull B A ∷ act.Work B ∷ failover B B ∷ signal B (codes "b1") (codes "y") ∷ signal A (codes "a1") (codes "x")
-    ∷ act.Pull C B ∷ act.Work C ∷ act.LevelsOf C B 0 ∷ act.Pull C A ∷ act.Repeat C A 0 1 ∷ act.Move C A 0 1 0 ∷ act.Work C ∷ []
+    ∷ act.Pull C B ∷ act.Work C ∷ act.Gaps C ∷ act.LevelsOf C B 0 ∷ act.Pull C A ∷ act.Repeat C A 0 1 ∷ act.Move C A 0 1 0 ∷ act.Work C ∷ []
 
 -- a burst with a run that goes on as a new one
 abbrev pub job : ℕ → List ℕ → Command → BurstJob
@@ -163,13 +213,13 @@ with_a_late_member =
 abbrev pub with_a_carried_batch : List Act
 with_a_carried_batch =
     register A (0 ∷ 1 ∷ []) ∷ start A ∷ ask A command.Decide ∷ ask A (command.Respond (action.Continue (codes "order") ∷ [])) ∷ act.Pull B A ∷ act.Lose B A 0 0 ∷ act.Work B
-    ∷ act.Resend B ∷ act.LevelsOf B A 0 ∷ []
+    ∷ act.Gaps B ∷ act.Resend B ∷ act.LevelsOf B A 0 ∷ []
 
 -- a handover, from its beginning to its end
 abbrev pub with_a_handover : List Act
 with_a_handover =
     register A (0 ∷ 1 ∷ []) ∷ act.Domains B A ∷ start A ∷ act.Handover A (codes "alpha") B ∷ signal A (codes "a") (codes "x") ∷ act.Complete B (codes "alpha") ∷ act.Pull B A ∷ act.Work B
-    ∷ act.Complete B (codes "alpha") ∷ signal B (codes "b") (codes "y") ∷ act.Complete B (codes "alpha") ∷ []
+    ∷ act.Complete B (codes "alpha") ∷ signal B (codes "b") (codes "y") ∷ act.Branches B (codes "alpha") (codes "w1") ∷ act.Complete B (codes "alpha") ∷ []
 
 -- a handover that is overtaken
 abbrev pub with_an_overtaken_handover : List Act
@@ -181,7 +231,7 @@ with_an_overtaken_handover =
 abbrev pub with_a_reset : List Act
 with_a_reset =
     act.Register A (codes "alpha") A 7 (0 ∷ []) ∷ start A ∷ signal A (codes "p") (codes "x") ∷ ask A command.Decide ∷ ask A (command.Respond (action.Timer (codes "t") ∷ []))
-    ∷ signal A (codes "q") (codes "y") ∷ act.Reset A (codes "alpha") (codes "w1") 4 ∷ act.Reset A (codes "alpha") (codes "w1") 5 ∷ act.StateOf A (codes "alpha") (codes "w1")
+    ∷ signal A (codes "q") (codes "y") ∷ act.Reset A (codes "alpha") (codes "w1") 4 ∷ act.Reset A (codes "alpha") (codes "w1") 5 ∷ act.History A (codes "alpha") (codes "w1") ∷ act.StateOf A (codes "alpha") (codes "w1")
     ∷ act.Current A (codes "alpha") (codes "w1") ∷ []
 
 -- an activity whose progress is told, and told on
@@ -196,3 +246,41 @@ with_progress =
     register A (0 ∷ 1 ∷ []) ∷ act.Domains B A ∷ start A ∷ ask A command.Decide ∷ ask A (command.Respond (action.Activity (codes "pay") (codes "charge") ∷ []))
     ∷ beat A (codes "p0") ∷ ask A (command.ActivityStart (codes "pay")) ∷ beat A (codes "p10") ∷ beat A (codes "p20") ∷ act.Pull B A ∷ act.Work B ∷ progress B ∷ act.Sync B A ∷ progress B
     ∷ failover B B ∷ beat B (codes "p5") ∷ beat A (codes "p30") ∷ act.Sync A B ∷ act.Sync B A ∷ progress A ∷ beat A (codes "p40") ∷ []
+
+-- a new run that comes before the old one's close
+abbrev pub with_two_runs : List Act
+with_two_runs =
+    register A (0 ∷ 1 ∷ []) ∷ act.Domains B A ∷ start A ∷ act.Pull B A ∷ act.Work B ∷ ask A (command.Terminate (codes "stop")) ∷ start A ∷ act.Pull B A ∷ act.Lose B A 0 0 ∷ act.Work B
+    ∷ act.Branches B (codes "alpha") (codes "w1") ∷ act.Rewind B A ∷ act.Pull B A ∷ act.Work B ∷ act.Current B (codes "alpha") (codes "w1") ∷ []
+
+-- signals that are copied on two branches
+abbrev pub with_copies : List Act
+with_copies =
+    register A (0 ∷ 1 ∷ 2 ∷ []) ∷ act.Domains B A ∷ act.Domains C A ∷ start A ∷ act.Pull B A ∷ act.Work B ∷ act.Pull C A ∷ act.Work C ∷ signal A (codes "a1") (codes "x") ∷ failover B B
+    ∷ signal B (codes "b1") (codes "y") ∷ failover C C ∷ signal C (codes "c1") (codes "z") ∷ act.Pull B A ∷ act.Work B ∷ act.Pull C A ∷ act.Work C ∷ act.Settle
+    ∷ act.StateOf A (codes "alpha") (codes "w1") ∷ act.Branches A (codes "alpha") (codes "w1") ∷ []
+
+-- strays of a closed run, which wait for the next one
+abbrev pub with_a_closed_run : List Act
+with_a_closed_run =
+    taken_over
+    ++ ask B (command.Terminate (codes "stop")) ∷ signal A (codes "a1") (codes "x") ∷ act.Pull B A ∷ act.Work B ∷ signal B (codes "b1") (codes "y") ∷ start B ∷ act.Work B
+    ∷ act.History B (codes "alpha") (codes "w1") ∷ []
+
+-- a message that comes damaged is set aside, and comes again
+abbrev pub with_a_letter : List Act
+with_a_letter =
+    register A (0 ∷ 1 ∷ []) ∷ start A ∷ signal A (codes "ping") (codes "x") ∷ act.Pull B A ∷ act.Damage B A 0 0 30 ∷ act.Work B ∷ act.LettersOf B ∷ act.LevelsOf B A 0 ∷ act.MergeLetters B
+    ∷ act.LevelsOf B A 0 ∷ act.LettersOf B ∷ act.Damage B A 0 0 1 ∷ act.Purge B ∷ []
+
+-- one workflow at one cluster
+abbrev pub alone : List Act
+alone = act.Register A (codes "alpha") A 7 (0 ∷ []) ∷ start A ∷ signal A (codes "ping") (codes "x") ∷ act.History A (codes "alpha") (codes "w1") ∷ act.Dump A (codes "alpha") (codes "w1") ∷ []
+
+-- an indexer that is asked for, and whose calls of these numbers fail
+abbrev pub asked_for : List ℕ → List ℕ → Indexer
+asked_for name failing = record { name = name; failing = failing; own = [] }
+
+-- the index lines of a script
+abbrev pub index_lines : Header → List Line → List Indexer → List (List ℕ)
+index_lines header lines indexers = map (index_line (seen_in (runs_of (script_of header lines)))) indexers
