@@ -45,7 +45,7 @@ seen_in_parts header lines more = ap seen_in (script_in_parts header lines more)
 
 -- the report without indexers is the answers
 report-answers : (header : Header) (lines : List Line) → report_of (script_of header lines) [] [] ≡ answers_of (runs_of (script_of header lines))
-report-answers header lines = append-nil (answers_of (runs_of (script_of header lines)))
+report-answers header lines = append-nil (answers_of (runs_of (script_of header lines)) ++ []) ∙ append-nil (answers_of (runs_of (script_of header lines)))
 
 pub report_in_parts : (header : Header) (lines more : List Line)
     → report_of (script_of header (lines ++ more)) [] []
