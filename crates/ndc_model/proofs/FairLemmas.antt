@@ -1,22 +1,26 @@
 -- The opening world is fair.
-use Rattle.std.proofs.Common.{◌≡◌, ◌≢◌, ℕ, zero, suc, ◌<◌, ◌≤◌, Bool, true, false, cond, List, [], ◌∷◌, ◌++◌, map, replicate, slice_index_or, Option, Some, None, refl, sym, ◌∙◌, subst, ap, arith}
-use Rattle.std.specs.Prelude.{AllPairs, find}
+use Rattle.std.proofs.Common.{◌≡◌, ◌≢◌, ℕ, zero, suc, ◌≤◌, Bool, true, false, cond, List, [], ◌∷◌, ◌++◌, length, map, replicate, slice_index_or, Some, refl, sym, ◌∙◌, subst, ap, arith}
+use Rattle.std.specs.Prelude.{AllPairs, IsSomeAnd, find}
 use Rattle.std.specs.List.{AllByRecursion, IsAmong, filter, filter_map, flat_map}
+use Rattle.std.proofs.lemmas.List.{length-append, length-map, length-replicate}
+use Rattle.ndc_domain.specs.Clusters.{cluster_no, count_of, writer_of}
 use Rattle.ndc_domain.specs.Laws.{DaysAgree}
 use Rattle.ndc_domain.specs.Records.{IsTable, record_of}
 use Rattle.ndc_domain.specs.declared.clusters.ClusterNo.{ClusterNo}
 use Rattle.ndc_domain.specs.declared.record.DomainRecord.{DomainRecord}
 use Rattle.ndc_event.specs.declared.batch.Batch.{Batch}
 use Rattle.ndc_event.specs.declared.name.Name.{Name}
+use Rattle.ndc_script.specs.Register.{clusters_below}
 use Rattle.ndc_script.specs.declared.script.Header.{Header}
 use Rattle.ndc_sets.specs.Sets.{Has}
 use Rattle.ndc_sets.specs.Sound.{IsSound}
+use Rattle.ndc_text.specs.Ranges.{InRange}
 use Rattle.ndc_model.specs.Cells.{Cell, Place, batch_there, empty_cell, is_of}
-use Rattle.ndc_model.specs.Facts.{BeatsAreSmall, HandoversFit, IsLetterFit, LettersFit}
-use Rattle.ndc_model.specs.Fair.{AreNumbersSmall, ArrivalsWereWritten, CopiesNameOriginals, EachRecord, IsArrivedFit, IsFair, IsLaneTrue, IsOwn, LanesAreTrue, MembersAlone, NumbersAreSmall, RecordsAgree, WritersOwnVersions, WritingIsSound, is_named, places_written, written_of}
+use Rattle.ndc_model.specs.Facts.{IsLetterFit, IsReached, ReportsAgree}
+use Rattle.ndc_model.specs.Fair.{AreNumbersSmall, ArrivalsWereWritten, CopiesNameOriginals, EachRecord, IsArrivedFit, IsFair, IsLaneTrue, IsOwn, IsShaped, LanesAreTrue, MembersAlone, NumbersAreSmall, RecordsAgree, WritersOwnVersions, WritingIsSound, is_named, places_written, written_of}
 use Rattle.ndc_model.specs.Moves.{all_written, in_order, shard_of}
 use Rattle.ndc_model.specs.Queues.{Lane, names_cluster, new_lane, queue_of}
-use Rattle.ndc_model.specs.World.{Cluster, Link, cell_at, cluster_at, clusters_of, is_link, lane_at, link_at, link_found, new_cluster, new_link, opening_world, others_of, queue_at, trimmed_at}
+use Rattle.ndc_model.specs.World.{Cluster, Link, Report, cell_at, cluster_at, all_clusters, is_link, lane_at, link_at, link_found, new_cluster, new_link, opening_world, others_of, queue_at, trimmed_at}
 
 -- lists of the same
 index-same : {X : Type 0} (x : X) (n i : ℕ) → slice_index_or (replicate n x) i x ≡ x
@@ -45,10 +49,14 @@ all-flat : {X Y : Type 0} (P : Y → Type 0) (f : X → List Y) (xs : List X) �
 all-flat P f [] each = tt
 all-flat P f (x ∷ xs) each = all-append P (f x) (flat_map f xs) (each x) (all-flat P f xs each)
 
+all-weaker : {X : Type 0} (P Q : X → Type 0) → ((x : X) → P x → Q x) → (xs : List X) → AllByRecursion P xs → AllByRecursion Q xs
+all-weaker P Q weaker [] all = tt
+all-weaker P Q weaker (x ∷ xs) all = (weaker x all.0, all-weaker P Q weaker xs all.1)
+
 module _ (header : Header) where
   -- what holds of a cluster in the beginning holds of each
   each-cluster : (P : Cluster → Type 0) (cluster : ClusterNo) → P (new_cluster header.shards) → P (new_cluster 0) → P (cluster_at cluster (opening_world header))
-  each-cluster P cluster p q = index-either P (new_cluster header.shards) (new_cluster 0) (clusters_of header) cluster.number p q
+  each-cluster P cluster p q = index-either P (new_cluster header.shards) (new_cluster 0) (all_clusters header) cluster.number p q
 
   no-table : (cluster : ClusterNo) → (cluster_at cluster (opening_world header)).table ≡ []
   no-table cluster = each-cluster (λ c. c.table ≡ []) cluster refl refl
@@ -68,7 +76,7 @@ module _ (header : Header) where
 
   links-new : AllByRecursion IsNew (opening_world header).links
   unfolding IsNew
-  links-new = all-flat IsNew (λ reader. map (new_link header reader) (others_of header reader)) (clusters_of header) (λ reader. all-map IsNew (new_link header reader) (others_of header reader) (λ source. (refl, refl)))
+  links-new = all-flat IsNew (λ reader. map (new_link header reader) (others_of header reader)) (all_clusters header) (λ reader. all-map IsNew (new_link header reader) (others_of header reader) (λ source. (refl, refl)))
 
   found-new : (reader source : ClusterNo) (links : List Link) → AllByRecursion IsNew links → IsNew (link_found header reader source (find (is_link reader source) links))
   unfolding IsNew
@@ -92,19 +100,19 @@ module _ (header : Header) where
 
   no-trimmed : (source : ClusterNo) (shard : ℕ) → trimmed_at source (opening_world header) shard ≡ 0
   no-trimmed source shard =
-      index-either (λ numbers. slice_index_or numbers shard 0 ≡ 0) (replicate header.shards 0) [] (clusters_of header) source.number (index-same 0 header.shards shard) refl
+      index-either (λ numbers. slice_index_or numbers shard 0 ≡ 0) (replicate header.shards 0) [] (all_clusters header) source.number (index-same 0 header.shards shard) refl
 
   no-queue : (source : ClusterNo) (shard : ℕ) → queue_at source shard (opening_world header) ≡ []
   no-queue source shard = ap queue_of (each-cell source shard)
 
   no-writing : (shard : ℕ) → all_written header shard (opening_world header) ≡ []
-  no-writing shard = ap in_order (flat-none _ (clusters_of header) (λ cluster. ap written_in (each-cell cluster shard)))
+  no-writing shard = ap in_order (flat-none _ (all_clusters header) (λ cluster. ap written_in (each-cell cluster shard)))
     where
       written_in : Cell → List Batch
       written_in cell = filter_map (batch_there cell.arrived) cell.written
 
   no-places : (shard : ℕ) → places_written header shard (opening_world header) ≡ []
-  no-places shard = flat-none _ (clusters_of header) (λ cluster. ap (λ (c : Cell). c.written) (each-cell cluster shard))
+  no-places shard = flat-none _ (all_clusters header) (λ cluster. ap (λ (c : Cell). c.written) (each-cell cluster shard))
 
   none-written : (domain workflow : Name) → written_of header domain workflow (opening_world header) ≡ []
   none-written domain workflow = ap (filter (is_of domain workflow)) (no-writing (shard_of domain workflow header.shards))
@@ -137,7 +145,7 @@ module _ (header : Header) where
 
   writers-fair : WritersOwnVersions header (opening_world header)
   writers-fair cluster shard known below =
-      subst (λ (cell : Cell). AllByRecursion (IsOwn header cluster (cluster_at cluster (opening_world header)).table cell) cell.written) (sym (each-cell cluster shard)) tt
+      subst (λ (cell : Cell). AllByRecursion (IsOwn header cluster shard (cluster_at cluster (opening_world header)).table cell) cell.written) (sym (each-cell cluster shard)) tt
 
   arrivals-fair : ArrivalsWereWritten header (opening_world header)
   arrivals-fair cluster shard known below = subst (IsArrivedFit header (opening_world header) shard) (sym (each-cell cluster shard)) (record {
@@ -149,8 +157,7 @@ module _ (header : Header) where
   lanes-fair : LanesAreTrue header (opening_world header)
   lanes-fair reader source shard two below = subst (IsLaneTrue header reader source shard (opening_world header)) (sym (each-lane reader source shard)) (record {
     trimmed_most = omega (arith, no-trimmed source shard);
-    done_most = omega arith;
-    read_most = omega arith;
+    levels = record { done_most = omega arith; read_most = omega arith };
     done = tt;
     flight = tt;
   })
@@ -184,25 +191,57 @@ module _ (header : Header) where
     lines_most = omega arith;
   }
 
--- the opening world is fair
-pub opening_fair : (header : Header) → IsFair header 0 (opening_world header)
-opening_fair header = record {
-  writing = writing-fair header;
-  copies = copies-fair header;
-  writers = writers-fair header;
-  arrivals = arrivals-fair header;
-  lanes = lanes-fair header;
-  records = records-fair header;
-  numbers = numbers-fair header;
-  members = members-fair header;
+  -- there are as many clusters as the header names
+  length-below : (count : ℕ) → length (clusters_below count) ≡ count
+  length-below zero = refl
+  length-below (suc count) = length-append (clusters_below count) (cluster_no count ∷ []) ∙ omega (arith, length-below count)
+
+  length-clusters : length (all_clusters header) ≡ count_of header.clusters
+  length-clusters = length-below (count_of header.clusters)
+
+  all-new : AllByRecursion IsNew (opening_world header).links → AllByRecursion (λ link. length link.lanes ≡ header.shards) (opening_world header).links
+  unfolding IsNew
+  all-new all = all-weaker _ _ (λ link new. ap length new.0 ∙ length-replicate header.shards new_lane) (opening_world header).links all
+
+  shaped : IsShaped header (opening_world header)
+  shaped = record {
+    clusters = length-map (all_clusters header) _ ∙ length-clusters;
+    cells = all-map _ _ (all_clusters header) (λ cluster. length-replicate header.shards empty_cell);
+    links = refl;
+    lanes = all-new links-new;
+    sources = length-map (all_clusters header) _ ∙ length-clusters;
+    trimmed = all-map _ _ (all_clusters header) (λ cluster. length-replicate header.shards 0);
+  }
+
+  fair : IsFair header 0 (opening_world header)
+  fair = record {
+    writing = writing-fair;
+    copies = copies-fair;
+    writers = writers-fair;
+    arrivals = arrivals-fair;
+    lanes = lanes-fair;
+    records = records-fair;
+    numbers = numbers-fair;
+    members = members-fair;
+  }
+
+  none-among : {X : Type 0} (x : X) → IsAmong [] x → ⊥
+  none-among x among = omega (arith, among.1.0)
+
+  reports : ReportsAgree header (opening_world header)
+  reports = record {
+    one = λ first second report other known known' among. let none : IsAmong [] report = subst (λ (rs : List Report). IsAmong rs report) (no-reports first) among in absurd (none-among report none);
+    told = λ cluster known. subst (AllByRecursion (λ report. IsSomeAnd (writer_of header.clusters report.version) (λ writer. IsAmong (cluster_at writer (opening_world header)).reports report))) (sym (no-reports cluster)) tt;
+  }
+
+-- the opening world is fair, and has no handover, letter or report
+pub opening_reached : (header : Header) → IsReached header 0 (opening_world header)
+opening_reached header = record {
+  shaped = shaped header;
+  fair = fair header;
+  ranges = λ domain workflow. subst (AllByRecursion InRange) (sym (none-written header domain workflow)) tt;
+  handovers = record { one_each = λ i j d lt in_list. absurd (omega (arith, in_list)); each = tt };
+  letters = λ cluster known. subst (AllByRecursion (IsLetterFit header (opening_world header) cluster)) (sym (no-letters header cluster)) tt;
+  beats = λ cluster known. subst (AllByRecursion (λ report. report.beat ≤ 0)) (sym (no-reports header cluster)) tt;
+  reports = reports header;
 }
-
--- and has no handover, letter or report
-pub opening_handovers : (header : Header) → HandoversFit header (opening_world header)
-opening_handovers header = record { one_each = λ i j d lt in_list. absurd (omega (arith, in_list)); each = tt }
-
-pub opening_letters : (header : Header) → LettersFit header (opening_world header)
-opening_letters header cluster known = subst (AllByRecursion (IsLetterFit header (opening_world header) cluster)) (sym (no-letters header cluster)) tt
-
-pub opening_beats : (header : Header) → BeatsAreSmall header 0 (opening_world header)
-opening_beats header cluster known = subst (AllByRecursion (λ report. report.beat ≤ 0)) (sym (no-reports header cluster)) tt

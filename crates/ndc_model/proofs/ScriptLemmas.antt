@@ -1,24 +1,22 @@
 -- Scripts in two parts.
-use Rattle.std.proofs.Common.{◌≡◌, ℕ, List, [], ◌∷◌, ◌++◌, append-nil, refl, ap, sym, ◌∙◌}
-use Rattle.std.specs.List.{flat_map}
+use Rattle.std.proofs.Common.{◌≡◌, List, [], ◌∷◌, ◌++◌, append-nil, refl, ap, sym, ◌∙◌}
 use Rattle.std.proofs.lemmas.Grind.{flat_map-append}
 use Rattle.ndc_script.specs.declared.script.Header.{Header}
 use Rattle.ndc_script.specs.declared.script.Line.{Line}
 use Rattle.ndc_model.specs.Laws.{script_of}
-use Rattle.ndc_model.specs.Lines.{Run, act_step, answer_text, answers_of, lines_of_act, plain_lines, runs_from, runs_of, seen_in, world_behind}
+use Rattle.ndc_model.specs.Lines.{act_step, answer_text, answers_of, lines_of_act, plain_lines, ran_from, ran_of, seen_in, world_behind}
 use Rattle.ndc_model.specs.Report.{report_of}
-use Rattle.ndc_model.specs.Steps.{Seen}
 use Rattle.ndc_model.specs.World.{World, opening_world}
 
 -- lines in two parts: the second runs in the world that the first left
-pub runs_in_parts : (header : Header) (w : World) (lines more : List Line) → runs_from header w (lines ++ more) ≡ runs_from header w lines ++ runs_from header (world_behind w (runs_from header w lines)) more
+pub runs_in_parts : (header : Header) (w : World) (lines more : List Line) → ran_from header w (lines ++ more) ≡ ran_from header w lines ++ ran_from header (world_behind w (ran_from header w lines)) more
 runs_in_parts header w [] more = refl
 runs_in_parts header w (line ∷ lines) more =
     ap (λ runs. record { number = line.number; step = act_step header line.act w } ∷ runs) (runs_in_parts header (act_step header line.act w).world lines more)
 
 -- the world behind both parts
 pub world_in_parts : (header : Header) (w : World) (lines more : List Line)
-    → world_behind w (runs_from header w (lines ++ more)) ≡ world_behind (world_behind w (runs_from header w lines)) (runs_from header (world_behind w (runs_from header w lines)) more)
+    → world_behind w (ran_from header w (lines ++ more)) ≡ world_behind (world_behind w (ran_from header w lines)) (ran_from header (world_behind w (ran_from header w lines)) more)
 world_in_parts header w [] more = refl
 world_in_parts header w (line ∷ lines) more = world_in_parts header (act_step header line.act w).world lines more
 
@@ -28,28 +26,28 @@ plain-append lines more = flat_map-append (λ line. lines_of_act line.number lin
 
 -- the lines of a script in two parts
 pub script_in_parts : (header : Header) (lines more : List Line)
-    → runs_of (script_of header (lines ++ more))
-    ≡ runs_of (script_of header lines) ++ runs_from header (world_behind (opening_world header) (runs_of (script_of header lines))) (plain_lines more)
+    → ran_of (script_of header (lines ++ more))
+    ≡ ran_of (script_of header lines) ++ ran_from header (world_behind (opening_world header) (ran_of (script_of header lines))) (plain_lines more)
 script_in_parts header lines more =
-    ap (runs_from header (opening_world header)) (plain-append lines more) ∙ runs_in_parts header (opening_world header) (plain_lines lines) (plain_lines more)
+    ap (ran_from header (opening_world header)) (plain-append lines more) ∙ runs_in_parts header (opening_world header) (plain_lines lines) (plain_lines more)
 
 pub answers_in_parts : (header : Header) (lines more : List Line)
-    → answers_of (runs_of (script_of header (lines ++ more)))
-    ≡ answers_of (runs_of (script_of header lines)) ++ answers_of (runs_from header (world_behind (opening_world header) (runs_of (script_of header lines))) (plain_lines more))
-answers_in_parts header lines more = ap answers_of (script_in_parts header lines more) ∙ flat_map-append answer_text (runs_of (script_of header lines)) _
+    → answers_of (ran_of (script_of header (lines ++ more)))
+    ≡ answers_of (ran_of (script_of header lines)) ++ answers_of (ran_from header (world_behind (opening_world header) (ran_of (script_of header lines))) (plain_lines more))
+answers_in_parts header lines more = ap answers_of (script_in_parts header lines more) ∙ flat_map-append answer_text (ran_of (script_of header lines)) _
 
 pub seen_in_parts : (header : Header) (lines more : List Line)
-    → seen_in (runs_of (script_of header (lines ++ more)))
-    ≡ seen_in (runs_of (script_of header lines)) ++ seen_in (runs_from header (world_behind (opening_world header) (runs_of (script_of header lines))) (plain_lines more))
-seen_in_parts header lines more = ap seen_in (script_in_parts header lines more) ∙ flat_map-append (λ run. run.step.seen) (runs_of (script_of header lines)) _
+    → seen_in (ran_of (script_of header (lines ++ more)))
+    ≡ seen_in (ran_of (script_of header lines)) ++ seen_in (ran_from header (world_behind (opening_world header) (ran_of (script_of header lines))) (plain_lines more))
+seen_in_parts header lines more = ap seen_in (script_in_parts header lines more) ∙ flat_map-append (λ run. run.step.seen) (ran_of (script_of header lines)) _
 
 -- the report without indexers is the answers
-report-answers : (header : Header) (lines : List Line) → report_of (script_of header lines) [] [] ≡ answers_of (runs_of (script_of header lines))
-report-answers header lines = append-nil (answers_of (runs_of (script_of header lines)) ++ []) ∙ append-nil (answers_of (runs_of (script_of header lines)))
+report-answers : (header : Header) (lines : List Line) → report_of (script_of header lines) [] [] ≡ answers_of (ran_of (script_of header lines))
+report-answers header lines = append-nil (answers_of (ran_of (script_of header lines)) ++ []) ∙ append-nil (answers_of (ran_of (script_of header lines)))
 
 pub report_in_parts : (header : Header) (lines more : List Line)
     → report_of (script_of header (lines ++ more)) [] []
-    ≡ report_of (script_of header lines) [] [] ++ answers_of (runs_from header (world_behind (opening_world header) (runs_of (script_of header lines))) (plain_lines more))
+    ≡ report_of (script_of header lines) [] [] ++ answers_of (ran_from header (world_behind (opening_world header) (ran_of (script_of header lines))) (plain_lines more))
 report_in_parts header lines more =
     report-answers header (lines ++ more) ∙ answers_in_parts header lines more
-    ∙ sym (ap (λ text. text ++ answers_of (runs_from header (world_behind (opening_world header) (runs_of (script_of header lines))) (plain_lines more))) (report-answers header lines))
+    ∙ sym (ap (λ text. text ++ answers_of (ran_from header (world_behind (opening_world header) (ran_of (script_of header lines))) (plain_lines more))) (report-answers header lines))

@@ -1,5 +1,6 @@
 -- Lines that change nothing.
 use Rattle.std.proofs.Common.{◌≡◌, ℕ, Bool, true, false, List, [], ◌∷◌, ◌++◌, remove, Option, Some, None, Result, Ok, Err, not, is_some, codes, cond, find, if◌then◌else◌, refl, sym, subst, true≢false}
+use Rattle.std.proofs.lemmas.Bool.{and_parts}
 use Rattle.std.proofs.lemmas.Slice.Eq.{bytes_eq-Decides}
 use Rattle.ndc_command.specs.declared.refusal.CommandError.{CommandError}
 use Rattle.ndc_domain.specs.declared.clusters.ClusterNo.{ClusterNo}
@@ -17,14 +18,14 @@ use Rattle.ndc_domain.specs.Records.{failover_of, record_of}
 use Rattle.ndc_text.specs.Read.{read_of}
 use Rattle.ndc_text.specs.declared.form.TextForm.TheVariants.{Two}
 use Rattle.ndc_model.specs.Arrival.{Message}
-use Rattle.ndc_model.specs.Handovers.{complete_lagging, complete_open, complete_overtaken, complete_step, handover_begun, handover_by, is_bootstrap_due, is_handover_of, lagging_shard, not_below, open_handover, without_handover}
+use Rattle.ndc_model.specs.Handovers.{complete_lagging, complete_open, complete_overtaken, handover_begun, handover_by, handover_to, is_handover_of, lagging_shard, open_handover, without_handover}
 use Rattle.ndc_model.specs.Laws.{ChangesNothing, is_overtaken, is_reading, is_refusal}
 use Rattle.ndc_model.specs.Letters.{damage_at, is_read_as, letter_of, place_of_letter, with_letters}
 use Rattle.ndc_model.specs.Lines.{act_step}
 use Rattle.ndc_model.specs.Progress.{beat_by, beat_unless}
 use Rattle.ndc_model.specs.Steps.{Stepped, answered, flight_at, flight_step, join_step, table_step, written_step}
 use Rattle.ndc_model.specs.Texts.{ok, refusal_words, refused}
-use Rattle.ndc_model.specs.World.{ActivityRef, Handover, Letter, World, cluster_at, lane_at, with_lane}
+use Rattle.ndc_model.specs.World.{ActivityRef, Handover, Letter, World, cluster_at, is_late, lane_at, with_lane}
 use Rattle.ndc_model.specs.Writing.{is_writer, same_cluster}
 
 -- a step that changes nothing where it refuses; an answer that ends a handover aside
@@ -75,15 +76,12 @@ of-lagging header handover w (Some shard) r o = record { world = refl; seen = re
 of-overtaken : (header : Header) (handover : Handover) (w : World) (version : Option ℕ) → IsQuietRefusal w (complete_overtaken header handover w version)
 of-overtaken header handover w (Some version) = λ r o. absurd (true≢false o)
 of-overtaken header handover w None =
-    either w (is_bootstrap_due header handover w) (answered w (refused (codes "BootstrapDue" ∷ []))) (complete_lagging header handover w (lagging_shard header handover w))
+    either w (is_late header handover.taker handover.giver handover.domain w) (answered w (refused (codes "BootstrapDue" ∷ []))) (complete_lagging header handover w (lagging_shard header handover w))
     (quiet w _) (of-lagging header handover w (lagging_shard header handover w))
 
-of-complete : (header : Header) (at : ClusterNo) (w : World) (found : Option Handover) → IsQuietRefusal w (complete_open header at w found)
-of-complete header at w None = quiet w _
-of-complete header at w (Some handover) =
-    either w (not (same_cluster handover.taker at)) (answered w (refused (codes "NoHandover" ∷ [])))
-    (complete_overtaken header handover w (not_below handover.new (record_of (cluster_at at w).table handover.domain)))
-    (quiet w _) (of-overtaken header handover w (not_below handover.new (record_of (cluster_at at w).table handover.domain)))
+of-complete : (header : Header) (w : World) (found : Option Handover) → IsQuietRefusal w (complete_open header w found)
+of-complete header w None = quiet w _
+of-complete header w (Some handover) = of-overtaken header handover w _
 
 of-damage : (header : Header) (reader source : ClusterNo) (shard place cut : ℕ) (w : World) (found : Option Message) → IsQuietRefusal w (damage_at header reader source shard place cut w found)
 of-damage header reader source shard place cut w None = quiet w _
@@ -142,7 +140,7 @@ refused_changes_nothing header (act.Compare one two domain workflow) w = quiet w
 refused_changes_nothing header (act.Handover at domain target) w =
     either w (is_some (open_handover domain w)) (answered w (refused (codes "HandoverOpen" ∷ []))) (handover_by header at domain target w (record_of (cluster_at at w).table domain))
     (quiet w _) (of-handover header at domain target w (record_of (cluster_at at w).table domain))
-refused_changes_nothing header (act.Complete at domain) w = of-complete header at w _
+refused_changes_nothing header (act.Complete at domain) w = of-complete header w _
 refused_changes_nothing header (act.Reset cluster domain workflow event) w = of-writing cluster _ w _
 refused_changes_nothing header (act.Damage reader source shard place cut) w = of-damage header reader source shard place cut w _
 refused_changes_nothing header (act.LettersOf reader) w = quiet w _
@@ -170,13 +168,13 @@ reading_changes_nothing header _ w r = absurd (true≢false (sym r))
 
 -- what an overtaken handover leaves
 by-overtaken : (header : Header) (handover : Handover) (w : World) (version : Option ℕ) → is_overtaken (complete_overtaken header handover w version).answer ≡ true
-    → (complete_overtaken header handover w version).world ≡ without_handover handover.domain w
-by-overtaken header handover w (Some version) = λ o. refl
-by-overtaken header handover w None = by (is_bootstrap_due header handover w) (lagging_shard header handover w)
+    → ChangesNothing (without_handover handover.domain w) (complete_overtaken header handover w version)
+by-overtaken header handover w (Some version) = λ o. record { world = refl; seen = refl }
+by-overtaken header handover w None = by (is_late header handover.taker handover.giver handover.domain w) (lagging_shard header handover w)
   where
     by : (due : Bool) (shard : Option ℕ)
         → is_overtaken (if due then answered w (refused (codes "BootstrapDue" ∷ [])) else complete_lagging header handover w shard).answer ≡ true
-        → (if due then answered w (refused (codes "BootstrapDue" ∷ [])) else complete_lagging header handover w shard).world ≡ without_handover handover.domain w
+        → ChangesNothing (without_handover handover.domain w) (if due then answered w (refused (codes "BootstrapDue" ∷ [])) else complete_lagging header handover w shard)
     by true shard o = absurd (true≢false (sym o))
     by false None o = absurd (true≢false (sym o))
     by false (Some shard) o = absurd (true≢false (sym o))
@@ -190,20 +188,15 @@ found-passes test (y ∷ ys) x e = by (test y) refl e (found-passes test ys x)
     by true passes e rest = let same : y ≡ x = cc in subst (λ z. test z ≡ true) same passes
     by false passes e rest = rest e
 
--- an overtaken handover is ended
-pub overtaken_ends : (header : Header) (at : ClusterNo) (domain : Name) (w : World) → is_overtaken (complete_step header at domain w).answer ≡ true
-    → (complete_step header at domain w).world ≡ without_handover domain w
-overtaken_ends header at domain w = by (open_handover domain w) refl
+-- an overtaken handover is ended, and nothing else changes
+pub overtaken_ends : (header : Header) (at : ClusterNo) (domain : Name) (w : World) → is_overtaken (act_step header (act.Complete at domain) w).answer ≡ true
+    → ChangesNothing (without_handover domain w) (act_step header (act.Complete at domain) w)
+overtaken_ends header at domain w = by (handover_to at domain w) refl
   where
-    tested : (other : Bool) (handover : Handover) (version : Option ℕ)
-        → is_overtaken (if other then answered w (refused (codes "NoHandover" ∷ [])) else complete_overtaken header handover w version).answer ≡ true
-        → (if other then answered w (refused (codes "NoHandover" ∷ [])) else complete_overtaken header handover w version).world ≡ without_handover handover.domain w
-    tested true handover version o = absurd (true≢false (sym o))
-    tested false handover version o = by-overtaken header handover w version o
-
-    by : (found : Option Handover) → open_handover domain w ≡ found → is_overtaken (complete_open header at w found).answer ≡ true
-        → (complete_open header at w found).world ≡ without_handover domain w
+    by : (found : Option Handover) → handover_to at domain w ≡ found → is_overtaken (complete_open header w found).answer ≡ true
+        → ChangesNothing (without_handover domain w) (complete_open header w found)
     by None e o = absurd (true≢false (sym o))
     by (Some handover) e o =
-        let of_it : handover.domain ≡ domain = (bytes_eq-Decides handover.domain domain).0 (found-passes (is_handover_of domain) w.handovers handover e) in
-        subst (λ (d : Name). (complete_open header at w (Some handover)).world ≡ without_handover d w) of_it (tested _ handover _ o)
+        let passes = and_parts (is_handover_of domain handover) (same_cluster handover.taker at) (found-passes _ w.handovers handover e) in
+        let of_it : handover.domain ≡ domain = (bytes_eq-Decides handover.domain domain).0 passes.0 in
+        subst (λ (d : Name). ChangesNothing (without_handover d w) (complete_open header w (Some handover))) of_it (by-overtaken header handover w _ o)

@@ -26,7 +26,7 @@ use Rattle.ndc_model.specs.Cells.{Cell, empty_cell, is_of, learned_of}
 use Rattle.ndc_model.specs.Moves.{Trace, cell_of, message_arrived, shard_of}
 use Rattle.ndc_model.specs.Steps.{command_step, reset_step, written_step}
 use Rattle.ndc_model.specs.World.{Cluster, World, cell_at, cluster_at, home_at, new_cluster, with_cell}
-use Rattle.ndc_model.specs.Writing.{Home, as_command_error, batch_below, batches_of, carried_by, closing_batches, command_batches, command_of, first_batch, goes_on_as, is_close_full, key_behind, may_write, next_key, reset_at, reset_batches, reset_below, reset_close, reset_key, reset_refused, state_under, with_all_written, with_written}
+use Rattle.ndc_model.specs.Writing.{Home, as_command_error, batch_below, batches_of, carried_by, closing_batches, command_of, first_batch, goes_on_as, is_close_full, key_behind, may_write, next_key, reset_at, reset_below, reset_close, reset_key, reset_refused, state_under, with_all_written, with_written}
 use Rattle.ndc_model.proofs.CellLemmas.{others_learned, others_learned_by}
 
 -- an item of a list in which one was put

@@ -1,40 +1,35 @@
 -- What holds further of every world that a script comes to: of handovers, letters and reports.
-use Rattle.std.specs.Prelude.{◌≡◌, ◌≢◌, ℕ, ◌<◌, ◌≤◌, Bool, true, ◌&&◌, ◌==◌, not, AllPairs, List, drop, length, Some}
-use Rattle.std.specs.List.{AllByRecursion, list_any}
+use Rattle.ndc_text.specs.Ranges.{InRange}
+use Rattle.ndc_event.specs.declared.name.Name.{Name}
+use Rattle.std.specs.Prelude.{◌≡◌, ◌≢◌, ℕ, ◌<◌, ◌≤◌, Bool, true, ◌&&◌, ◌==◌, not, AllPairs, drop, length, Some, IsSomeAnd}
+use Rattle.std.specs.List.{AllByRecursion, list_any, IsAmong}
 use Rattle.std.specs.Str.{bytes_eq}
 use Rattle.ndc_domain.specs.Clusters.{writer_of}
-use Rattle.ndc_domain.specs.Members.{has_member}
 use Rattle.ndc_domain.specs.Records.{record_of}
 use Rattle.ndc_domain.specs.declared.clusters.ClusterNo.{ClusterNo}
-use Rattle.ndc_domain.specs.declared.record.DomainRecord.{DomainRecord}
 use Rattle.ndc_script.specs.WellFormed.{AreTwoClusters, IsCluster}
 use Rattle.ndc_script.specs.declared.script.Header.{Header}
 use Rattle.ndc_model.specs.Arrival.{Message}
 use Rattle.ndc_model.specs.Cells.{place_of, same_place}
-use Rattle.ndc_model.specs.Fair.{is_named}
+use Rattle.ndc_model.specs.Fair.{HasRecordFrom, IsFair, IsShaped, is_named, written_of}
 use Rattle.ndc_model.specs.Handovers.{place_in}
 use Rattle.ndc_model.specs.Letters.{place_of_letter}
 use Rattle.ndc_model.specs.Moves.{shard_of}
-use Rattle.ndc_model.specs.World.{Handover, Letter, World, cluster_at, queue_at}
-
--- the record of the domain at the giver names the taker and has come to the new version
-pub record IsGiven (handover : Handover) (table : List DomainRecord) : Type 0 where
-  pub found : DomainRecord
-  pub has : record_of table handover.domain ≡ Some found
-  pub names : has_member found.members handover.taker.number ≡ true
-  pub version : handover.new ≤ found.version
+use Rattle.ndc_model.specs.Queues.{names_cluster}
+use Rattle.ndc_model.specs.World.{Handover, Letter, Report, World, cluster_at, queue_at}
 
 -- whether a message is of the domain of a handover and of its old version
 abbrev pub is_old : Handover → Message → Bool
 is_old handover sent = bytes_eq sent.batch.domain handover.domain && (sent.batch.key.version == handover.old)
 
--- an open handover: its old version is the giver's, the new one is above it and stands in the giver's record, and for each shard there is a
+-- an open handover: its old version is the giver's, the new one is above it, the giver's record has come to it and names the taker, and for each shard there is a
 -- place in the giver's queue behind all that is of the domain and of the old version
 pub record IsHandoverFit (header : Header) (w : World) (handover : Handover) : Type 0 where
   pub clusters : AreTwoClusters header handover.giver handover.taker
   pub giver : writer_of header.clusters handover.old ≡ Some handover.giver
   pub later : handover.old < handover.new
-  pub given : IsGiven handover (cluster_at handover.giver w).table
+  pub given : HasRecordFrom handover.new handover.domain (cluster_at handover.giver w).table
+  pub names : names_cluster handover.taker (record_of (cluster_at handover.giver w).table handover.domain) ≡ true
   pub places : length handover.places ≡ header.shards
   pub place_most : (shard : ℕ) → shard < header.shards → place_in handover shard ≤ length (queue_at handover.giver shard w)
   pub behind : (shard : ℕ) → shard < header.shards
@@ -54,6 +49,27 @@ pub record IsLetterFit (header : Header) (w : World) (cluster : ClusterNo) (lett
 abbrev pub LettersFit : Header → World → Type 0
 LettersFit header w = (cluster : ClusterNo) → IsCluster header cluster → AllByRecursion (IsLetterFit header w cluster) (cluster_at cluster w).letters
 
--- reports were not told more often than lines were run
+-- no report's number is above the number of lines run
 abbrev pub BeatsAreSmall : Header → ℕ → World → Type 0
 BeatsAreSmall header lines w = (cluster : ClusterNo) → IsCluster header cluster → AllByRecursion (λ report. report.beat ≤ lines) (cluster_at cluster w).reports
+
+-- reports of one activity, version and number are one, and each stands in the list of the version's writer
+pub record ReportsAgree (header : Header) (w : World) : Type 0 where
+  pub one : (first second : ClusterNo) (report other : Report) → IsCluster header first → IsCluster header second → IsAmong (cluster_at first w).reports report
+      → IsAmong (cluster_at second w).reports other → report.activity ≡ other.activity → report.version ≡ other.version → report.beat ≡ other.beat → report ≡ other
+  pub told : (cluster : ClusterNo) → IsCluster header cluster
+      → AllByRecursion (λ report. IsSomeAnd (writer_of header.clusters report.version) (λ writer. IsAmong (cluster_at writer w).reports report)) (cluster_at cluster w).reports
+
+-- the numbers of all that was written are in the ranges of batch texts
+abbrev pub WritingIsInRange : Header → World → Type 0
+WritingIsInRange header w = (domain workflow : Name) → AllByRecursion InRange (written_of header domain workflow w)
+
+-- all that holds of a world that so many lines lead to
+pub record IsReached (header : Header) (lines : ℕ) (w : World) : Type 0 where
+  pub shaped : IsShaped header w
+  pub fair : IsFair header lines w
+  pub ranges : WritingIsInRange header w
+  pub handovers : HandoversFit header w
+  pub letters : LettersFit header w
+  pub beats : BeatsAreSmall header lines w
+  pub reports : ReportsAgree header w

@@ -1,7 +1,6 @@
 -- Fair worlds: what holds of every world that a script comes to, in eight parts.
-use Rattle.std.specs.Prelude.{◌≡◌, ◌≢◌, ℕ, ◌+◌, ◌*◌, ◌^◌, ◌<◌, ◌≤◌, Bool, true, ◌||◌, is_some, AllPairs, List, map, drop, length, slice_index_or, take, Option, Some, None, if◌then◌else◌}
+use Rattle.std.specs.Prelude.{◌≡◌, ◌≢◌, ℕ, ◌*◌, ◌<◌, ◌≤◌, Bool, true, ◌||◌, is_some, AllPairs, List, map, length, take, Some, None, if◌then◌else◌}
 use Rattle.std.specs.List.{AllByRecursion, IsAmong, filter, flat_map, list_any}
-use Rattle.std.specs.Str.{bytes_eq}
 use Rattle.ndc_domain.specs.Clusters.{cluster_no, count_of, writer_of}
 use Rattle.ndc_domain.specs.Laws.{DaysAgree, NamesActive}
 use Rattle.ndc_domain.specs.Records.{IsTable, record_of}
@@ -19,14 +18,14 @@ use Rattle.ndc_sets.specs.Sound.{IsSound, Names}
 use Rattle.ndc_model.specs.Arrival.{has_arrived}
 use Rattle.ndc_model.specs.Cells.{AreInOrder, Cell, Place, batch_there, is_of, learned_of, place_of}
 use Rattle.ndc_model.specs.Moves.{all_written, shard_of}
-use Rattle.ndc_model.specs.Queues.{Lane, carries, names_cluster, needs_nothing}
+use Rattle.ndc_model.specs.Queues.{AreLevels, Lane, carries, names_cluster, needs_nothing}
 use Rattle.ndc_model.specs.Report.{count_kinds, is_original}
-use Rattle.ndc_model.specs.World.{World, cell_at, cluster_at, clusters_of, lane_at, link_at, queue_at, trimmed_at}
+use Rattle.ndc_model.specs.World.{World, all_clusters, cell_at, cluster_at, is_late, lane_at, link_at, opening_world, queue_at, trimmed_at, Link}
 use Rattle.ndc_model.specs.Writing.{goes_on_as}
 
 -- the places of all that the clusters have written in a shard
 abbrev pub places_written : Header → ℕ → World → List Place
-places_written header shard w = flat_map (λ cluster. (cell_at cluster shard w).written) (clusters_of header)
+places_written header shard w = flat_map (λ cluster. (cell_at cluster shard w).written) (all_clusters header)
 
 -- all batches of a workflow that any cluster has written
 abbrev pub written_of : Header → Name → Name → World → List Batch
@@ -73,15 +72,17 @@ pub record HasRecordFrom (version : ℕ) (domain : Name) (table : List DomainRec
   pub has : record_of table domain ≡ Some found
   pub least : version ≤ found.version
 
--- what a cluster wrote: the version is its own, the batch is learned there, and its record of the domain has come to the version
-pub record IsOwn (header : Header) (cluster : ClusterNo) (table : List DomainRecord) (cell : Cell) (place : Place) : Type 0 where
+-- what a cluster wrote in a shard: it is the workflow's shard, the version is the cluster's own, the batch is learned there, and the cluster's
+-- record of the domain has come to the version
+pub record IsOwn (header : Header) (cluster : ClusterNo) (shard : ℕ) (table : List DomainRecord) (cell : Cell) (place : Place) : Type 0 where
+  pub lives : shard_of place.domain place.workflow header.shards ≡ shard
   pub version : writer_of header.clusters place.key.version ≡ Some cluster
   pub learned : is_some (batch_there (learned_of place.domain place.workflow cell) place) ≡ true
   pub recorded : HasRecordFrom place.key.version place.domain table
 
 -- each cluster has written with versions of its own
 abbrev pub WritersOwnVersions : Header → World → Type 0
-WritersOwnVersions header w = EachCell header w (λ cluster shard cell. AllByRecursion (IsOwn header cluster (cluster_at cluster w).table cell) cell.written)
+WritersOwnVersions header w = EachCell header w (λ cluster shard cell. AllByRecursion (IsOwn header cluster shard (cluster_at cluster w).table cell) cell.written)
 
 -- what has arrived was written, each batch once, and a batch has arrived exactly where the one that it carries has
 pub record IsArrivedFit (header : Header) (w : World) (shard : ℕ) (cell : Cell) : Type 0 where
@@ -93,16 +94,11 @@ pub record IsArrivedFit (header : Header) (w : World) (shard : ℕ) (cell : Cell
 abbrev pub ArrivalsWereWritten : Header → World → Type 0
 ArrivalsWereWritten header w = EachCell header w (λ cluster shard cell. IsArrivedFit header w shard cell)
 
--- whether a domain is one of those that a reader still lacks from a source
-abbrev pub is_late : Header → ClusterNo → ClusterNo → Name → World → Bool
-is_late header reader source domain w = list_any (λ late. bytes_eq late domain) (link_at header reader source w).late
-
 -- the levels of a lane: nothing is trimmed that is not done, nothing is done that was not read, and nothing was read behind the queue's end;
 -- what is done is learned by the reader, not addressed to it, or late; what is in flight is in the queue
 pub record IsLaneTrue (header : Header) (reader source : ClusterNo) (shard : ℕ) (w : World) (lane : Lane) : Type 0 where
   pub trimmed_most : trimmed_at source w shard ≤ lane.done
-  pub done_most : lane.done ≤ lane.read
-  pub read_most : lane.read ≤ length (queue_at source shard w)
+  pub levels : AreLevels (queue_at source shard w) lane
   pub done : AllByRecursion
       (λ sent. (needs_nothing reader (cluster_at source w).table (cell_at reader shard w) sent || is_late header reader source sent.batch.domain w) ≡ true)
       (take lane.done (queue_at source shard w))
@@ -122,13 +118,12 @@ pub record IsConfigKnown (table : List DomainRecord) (one : DomainRecord) : Type
   pub has : record_of table one.name ≡ Some found
   pub most : one.config ≤ found.config
 
--- a record's version is in range and has a writer, and its config version is at most the number of lines run
+-- a record's version has a writer, and its config version is at most the number of lines run
 pub record IsRecordInRange (header : Header) (lines : ℕ) (one : DomainRecord) : Type 0 where
-  pub version_most : one.version ≤ 10 ^ 13
   pub writer : is_some (writer_of header.clusters one.version) ≡ true
   pub config_most : one.config ≤ lines
 
--- tables are in order and their records in range; the primary knows each domain and its greatest config version; equal config versions have equal days
+-- tables are in order and their records in range, versions at most 10^13; the primary knows each domain and its greatest config version; equal config versions have equal days
 pub record RecordsAgree (header : Header) (lines : ℕ) (w : World) : Type 0 where
   pub tables : (cluster : ClusterNo) → IsCluster header cluster → IsTable (cluster_at cluster w).table
   pub ranges : EachRecord header w (IsRecordInRange header lines)
@@ -157,7 +152,7 @@ pub record AreMembersKnown (header : Header) (one : DomainRecord) : Type 0 where
 
 -- whether some cluster's record of a domain names a cluster
 abbrev pub is_named : Header → ClusterNo → World → Name → Bool
-is_named header cluster w domain = list_any (λ other. names_cluster cluster (record_of (cluster_at other w).table domain)) (clusters_of header)
+is_named header cluster w domain = list_any (λ other. names_cluster cluster (record_of (cluster_at other w).table domain)) (all_clusters header)
 
 -- batches come to members alone: what has arrived, what is in flight and what is late is of domains that name the cluster
 pub record MembersAlone (header : Header) (w : World) : Type 0 where
@@ -167,6 +162,19 @@ pub record MembersAlone (header : Header) (w : World) : Type 0 where
       → AllByRecursion (λ sent. is_named header reader w sent.batch.domain ≡ true) (lane_at header reader source shard w).flight
   pub late : (reader source : ClusterNo) → AreTwoClusters header reader source
       → AllByRecursion (λ domain. names_cluster reader (record_of (cluster_at source w).table domain) ≡ true) (link_at header reader source w).late
+
+-- the reader and the source of a link
+abbrev pub ends_of : Link → ClusterNo × ClusterNo
+ends_of link = (link.reader, link.source)
+
+-- a world has a part for each cluster, reader, source and shard of the header
+pub record IsShaped (header : Header) (w : World) : Type 0 where
+  pub clusters : length w.clusters ≡ count_of header.clusters
+  pub cells : AllByRecursion (λ cluster. length cluster.cells ≡ header.shards) w.clusters
+  pub links : map ends_of w.links ≡ map ends_of (opening_world header).links
+  pub lanes : AllByRecursion (λ link. length link.lanes ≡ header.shards) w.links
+  pub sources : length w.trimmed ≡ count_of header.clusters
+  pub trimmed : AllByRecursion (λ levels. length levels ≡ header.shards) w.trimmed
 
 -- a fair world, behind so many lines
 pub record IsFair (header : Header) (lines : ℕ) (w : World) : Type 0 where

@@ -1,6 +1,6 @@
 -- Handing a domain over: begun at its active cluster, completed at the target once it has all that was written before.
-use Rattle.std.specs.Prelude.{ℕ, Bool, true, false, not, is_some, nat_lt, List, [], ◌∷◌, ◌++◌, map, length, codes, decimal, find, slice_index_or, Option, Some, None, Result, Ok, Err, if◌then◌else◌}
-use Rattle.std.specs.List.{filter, list_any}
+use Rattle.std.specs.Prelude.{ℕ, Bool, not, is_some, nat_lt, List, [], ◌∷◌, ◌++◌, map, length, codes, decimal, find, slice_index_or, Option, Some, None, Result, Ok, Err, if◌then◌else◌, ◌&&◌}
+use Rattle.std.specs.List.{filter}
 use Rattle.std.specs.Str.{bytes_eq}
 use Rattle.ndc_command.specs.declared.refusal.Refusal.TheVariants.{UnknownDomain, NotActive}
 use Rattle.ndc_domain.specs.Clusters.{writer_of}
@@ -13,7 +13,7 @@ use Rattle.ndc_event.specs.declared.name.Name.{Name}
 use Rattle.ndc_script.specs.declared.script.Header.{Header}
 use Rattle.ndc_model.specs.Steps.{Stepped, answered, failover_words}
 use Rattle.ndc_model.specs.Texts.{ok, refusal_words, refused}
-use Rattle.ndc_model.specs.World.{Handover, World, cluster_at, lane_at, link_at, queue_at, shards_of, with_table}
+use Rattle.ndc_model.specs.World.{Handover, World, cluster_at, is_late, lane_at, queue_at, shards_of, with_table}
 use Rattle.ndc_model.specs.Writing.{is_writer, same_cluster}
 
 -- whether a handover is of this domain
@@ -83,10 +83,6 @@ done_in header handover w shard = (lane_at header handover.taker handover.giver 
 abbrev pub lagging_shard : Header → Handover → World → Option ℕ
 lagging_shard header handover w = find (λ shard. nat_lt (done_in header handover w shard) (place_in handover shard)) (shards_of header)
 
--- whether the target is still to be brought what it lacks of the domain
-abbrev pub is_bootstrap_due : Header → Handover → World → Bool
-is_bootstrap_due header handover w = list_any (λ domain. bytes_eq domain handover.domain) (link_at header handover.taker handover.giver w).late
-
 -- the target merges the one record, and the handover ends
 abbrev pub handed_over : Handover → World → World
 handed_over handover w =
@@ -107,16 +103,19 @@ complete_lagging header handover w (Some shard) =
 abbrev pub complete_overtaken : Header → Handover → World → Option ℕ → Stepped
 complete_overtaken header handover w (Some version) = answered (without_handover handover.domain w) (refused (codes "Overtaken" ∷ decimal version ∷ []))
 complete_overtaken header handover w None =
-    if is_bootstrap_due header handover w then answered w (refused (codes "BootstrapDue" ∷ []))
+    if is_late header handover.taker handover.giver handover.domain w then answered w (refused (codes "BootstrapDue" ∷ []))
     else complete_lagging header handover w (lagging_shard header handover w)
 
--- only the target completes
-abbrev pub complete_open : Header → ClusterNo → World → Option Handover → Stepped
-complete_open header at w None = answered w (refused (codes "NoHandover" ∷ []))
-complete_open header at w (Some handover) =
-    if not (same_cluster handover.taker at) then answered w (refused (codes "NoHandover" ∷ []))
-    else complete_overtaken header handover w (not_below handover.new (record_of (cluster_at at w).table handover.domain))
+-- the open handover of a domain to a target, where there is one
+abbrev pub handover_to : ClusterNo → Name → World → Option Handover
+handover_to taker domain w = find (λ handover. is_handover_of domain handover && same_cluster handover.taker taker) w.handovers
+
+-- the target completes a handover to it
+abbrev pub complete_open : Header → World → Option Handover → Stepped
+complete_open header w None = answered w (refused (codes "NoHandover" ∷ []))
+complete_open header w (Some handover) =
+    complete_overtaken header handover w (not_below handover.new (record_of (cluster_at handover.taker w).table handover.domain))
 
 -- `complete`
 abbrev pub complete_step : Header → ClusterNo → Name → World → Stepped
-complete_step header at domain w = complete_open header at w (open_handover domain w)
+complete_step header at domain w = complete_open header w (handover_to at domain w)

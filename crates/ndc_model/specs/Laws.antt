@@ -1,8 +1,6 @@
 -- What holds of every line and every script.
 use Rattle.std.specs.Prelude.{◌≡◌, ℕ, Bool, true, false, List, [], take, length, codes}
 use Rattle.std.specs.Str.{bytes_eq}
-use Rattle.ndc_event.specs.declared.batch.Batch.{Batch}
-use Rattle.ndc_event.specs.declared.name.Name.{Name}
 use Rattle.ndc_script.specs.declared.script.Act.{Act}
 use Rattle.ndc_script.specs.declared.script.Act.TheVariants as act
 use Rattle.ndc_script.specs.declared.script.Header.{Header}

@@ -74,40 +74,40 @@ abbrev pub plain_lines : List Line → List Line
 plain_lines lines = flat_map (λ line. lines_of_act line.number line.act) lines
 
 -- a line that was run: its number, and what it left, answered and made learned
-pub record Run : Type 0 where
+pub record Ran : Type 0 where
   pub number : ℕ
   pub step : Stepped
 
 -- a line that was run, and what runs in the world that it left
-abbrev pub run_behind : ℕ → Stepped → (World → List Run) → List Run
-run_behind number step rest = record { number = number; step = step } ∷ rest step.world
+abbrev pub ran_behind : ℕ → Stepped → (World → List Ran) → List Ran
+ran_behind number step rest = record { number = number; step = step } ∷ rest step.world
 
 -- lines run from a world on, each in the world that the last one left
-abbrev pub runs_from : Header → World → List Line → List Run
-runs_from header w [] = []
-runs_from header w (line ∷ lines) = run_behind line.number (act_step header line.act w) (λ v. runs_from header v lines)
+abbrev pub ran_from : Header → World → List Line → List Ran
+ran_from header w [] = []
+ran_from header w (line ∷ lines) = ran_behind line.number (act_step header line.act w) (λ v. ran_from header v lines)
 
 -- the world that lines left, where some were run
-abbrev pub world_behind : World → List Run → World
+abbrev pub world_behind : World → List Ran → World
 world_behind w [] = w
 world_behind w (run ∷ runs) = world_behind run.step.world runs
 
 -- the lines of a script, run from the opening world on
-abbrev pub runs_of : Script → List Run
-runs_of script = runs_from script.header (opening_world script.header) (plain_lines script.lines)
+abbrev pub ran_of : Script → List Ran
+ran_of script = ran_from script.header (opening_world script.header) (plain_lines script.lines)
 
 -- the worlds of a script: the opening one, and the one behind each line
 abbrev pub worlds_of : Script → List World
-worlds_of script = opening_world script.header ∷ map (λ run. run.step.world) (runs_of script)
+worlds_of script = opening_world script.header ∷ map (λ run. run.step.world) (ran_of script)
 
 -- an answer behind the number of its line
-abbrev pub answer_text : Run → List ℕ
+abbrev pub answer_text : Ran → List ℕ
 answer_text run = decimal run.number ++ codes " " ++ run.step.answer
 
 -- the answers of lines
-abbrev pub answers_of : List Run → List ℕ
+abbrev pub answers_of : List Ran → List ℕ
 answers_of runs = flat_map answer_text runs
 
 -- what lines made learned, in the order of being told
-abbrev pub seen_in : List Run → List Seen
+abbrev pub seen_in : List Ran → List Seen
 seen_in runs = flat_map (λ run. run.step.seen) runs

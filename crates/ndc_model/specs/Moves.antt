@@ -1,20 +1,17 @@
 -- How messages move: pulls, work, resending, bootstrap, settlement.
-use Rattle.std.specs.Prelude.{ℕ, ◌*◌, ◌%◌, ◌^◌, ◌&&◌, not, List, [], ◌∷◌, ◌++◌, map, drop, slice_set, Option, Some, None, if◌then◌else◌, length, max, ◌-◌}
+use Rattle.std.specs.Prelude.{ℕ, ◌*◌, ◌%◌, ◌^◌, ◌&&◌, List, [], ◌∷◌, ◌++◌, map, drop, slice_set, Option, Some, None, if◌then◌else◌, length, max, ◌-◌}
 use Rattle.std.specs.List.{filter, filter_map, flat_map, fold, list_any}
 use Rattle.std.specs.Int.Bits.{bit_xor}
 use Rattle.std.specs.Str.{bytes_eq}
 use Rattle.ndc_domain.specs.declared.clusters.ClusterNo.{ClusterNo}
 use Rattle.ndc_domain.specs.Merge.{merged}
 use Rattle.ndc_event.specs.declared.batch.Batch.{Batch}
-use Rattle.ndc_event.specs.declared.key.BatchKey.{BatchKey}
 use Rattle.ndc_event.specs.declared.name.Name.{Name}
 use Rattle.ndc_script.specs.declared.script.Header.{Header}
-use Rattle.ndc_sets.specs.Sets.{earlier}
-use Rattle.ndc_sets.specs.Paths.{is_wanted}
 use Rattle.ndc_model.specs.Arrival.{Arrival, Message, arrival_of, arrived_at, has_arrived}
 use Rattle.ndc_model.specs.Cells.{Cell, ancestry, batch_there, is_learned_in, is_of, placed, put_off_in}
-use Rattle.ndc_model.specs.Queues.{Lane, after_pull, after_renewal, after_rewind, is_addressed, trim_level}
-use Rattle.ndc_model.specs.World.{Link, World, cell_at, cluster_at, clusters_of, home_at, lane_at, link_at, others_of, queue_at, shards_of, trimmed_at, with_cell, with_lane, with_link, with_table}
+use Rattle.ndc_model.specs.Queues.{Lane, after_pull, after_renewal, after_rewind, entry_with, is_addressed, trim_level}
+use Rattle.ndc_model.specs.World.{Link, World, all_clusters, cell_at, cluster_at, home_at, lane_at, link_at, others_of, queue_at, shards_of, trimmed_at, with_cell, with_lane, with_link, with_table}
 use Rattle.ndc_model.specs.Writing.{reapplication_of, with_all_written}
 
 -- the hash of a workflow's place: over the domain's bytes, a zero byte and the workflow's bytes
@@ -62,11 +59,11 @@ trim_to header source w shard =
     trim_level (queue_at source shard w) (map (λ reader. (lane_at header reader source shard w).done) (others_of header source))
 
 -- the queues of a source are trimmed: what is trimmed only rises
-abbrev pub trimmed_shard : Header → ClusterNo → World → ℕ → ℕ
-trimmed_shard header source w shard = max (trimmed_at source w shard) (trim_to header source w shard)
+abbrev pub trimmed_level : Header → ClusterNo → World → ℕ → ℕ
+trimmed_level header source w shard = max (trimmed_at source w shard) (trim_to header source w shard)
 
 abbrev pub trimmed_all : Header → ClusterNo → World → World
-trimmed_all header source w = record w { trimmed = slice_set w.trimmed source.number (map (trimmed_shard header source w) (shards_of header)) }
+trimmed_all header source w = record w { trimmed = slice_set w.trimmed source.number (map (trimmed_level header source w) (shards_of header)) }
 
 -- what came of one move: a message that arrived at a cluster, with how many batches it brought, or a batch that was applied again
 pub data Note : Type 0 where
@@ -97,10 +94,13 @@ message_arrived cluster shard t sent = record {
   notes = t.notes ++ came cluster (brought_by sent (cell_at cluster shard t.world)) (arrival_of sent (cell_at cluster shard t.world)) ∷ [];
 }
 
--- a batch that has not arrived arrives alone
-abbrev pub batch_arrived : ClusterNo → ℕ → Trace → Batch → Trace
-batch_arrived cluster shard t b =
-    if has_arrived b (cell_at cluster shard t.world) then t else message_arrived cluster shard t (record { batch = b; second = None })
+-- a message arrives, where its batch has not arrived
+abbrev pub message_brought : ClusterNo → ℕ → Trace → Message → Trace
+message_brought cluster shard t sent = if has_arrived sent.batch (cell_at cluster shard t.world) then t else message_arrived cluster shard t sent
+
+-- batches are brought by their messages, in order: a carried one comes with its carrier
+abbrev pub all_brought : ClusterNo → ℕ → Trace → List Batch → Trace
+all_brought cluster shard t batches = fold (message_brought cluster shard) t (filter_map (entry_with batches) batches)
 
 -- what is in flight from a source for a shard arrives
 abbrev pub flight_arrived : Header → ClusterNo → ℕ → Trace → ClusterNo → Trace
@@ -145,7 +145,7 @@ in_order batches = fold (λ ordered b. placed b ordered) [] batches
 -- all batches that any cluster has written in a shard, in order of place
 abbrev pub all_written : Header → ℕ → World → List Batch
 all_written header shard w =
-    in_order (flat_map (λ cluster. filter_map (batch_there (cell_at cluster shard w).arrived) (cell_at cluster shard w).written) (clusters_of header))
+    in_order (flat_map (λ cluster. filter_map (batch_there (cell_at cluster shard w).arrived) (cell_at cluster shard w).written) (all_clusters header))
 
 -- the ancestors of a batch among these
 abbrev pub ancestors_of : List Batch → Batch → List Batch
@@ -159,7 +159,7 @@ ancestors_of_put_off header reader shard w = in_order (flat_map (ancestors_of (a
 abbrev pub resent : Header → ClusterNo → World → Trace
 resent header reader w =
     quietly (λ v. renewed header v reader)
-    (fold (λ t shard. fold (batch_arrived reader shard) t (ancestors_of_put_off header reader shard t.world)) (from_world w) (shards_of header))
+    (fold (λ t shard. all_brought reader shard t (ancestors_of_put_off header reader shard t.world)) (from_world w) (shards_of header))
 
 -- the learned batches of a cell that are of one of these domains
 abbrev pub learned_of_domains : List Name → Cell → List Batch
@@ -170,7 +170,7 @@ abbrev pub bootstrapped : Header → ClusterNo → Trace → ClusterNo → Trace
 bootstrapped header reader t source =
     quietly (λ v. renewed header v reader)
     (quietly (with_link reader source (λ link. record link { late = [] }))
-    (fold (λ v shard. fold (batch_arrived reader shard) v (learned_of_domains (link_at header reader source v.world).late (cell_at source shard v.world))) t (shards_of header)))
+    (fold (λ v shard. all_brought reader shard v (learned_of_domains (link_at header reader source v.world).late (cell_at source shard v.world))) t (shards_of header)))
 
 -- a cluster merges the tables of all others, in header order
 abbrev pub merged_all : Header → World → ClusterNo → World
@@ -193,7 +193,7 @@ settled_once header t =
     fold (reapplied_all header)
     (fold (due_arrived header)
     (fold (λ v reader. fold (bootstrapped header reader) v (others_of header reader))
-    (quietly (λ w. fold (merged_all header) w (clusters_of header)) t) (clusters_of header)) (clusters_of header)) (clusters_of header)
+    (quietly (λ w. fold (merged_all header) w (all_clusters header)) t) (all_clusters header)) (all_clusters header)) (all_clusters header)
 
 -- nothing is in flight
 abbrev pub without_flight : Lane → Lane
@@ -208,4 +208,4 @@ without_flights w = record w { links = map link_without_flights w.links }
 -- settlement: two rounds, and then all levels are renewed
 abbrev pub after_settlement : Header → World → Trace
 after_settlement header w =
-    quietly (λ v. fold (renewed header) v (clusters_of header)) (settled_once header (settled_once header (from_world (without_flights w))))
+    quietly (λ v. fold (renewed header) v (all_clusters header)) (settled_once header (settled_once header (from_world (without_flights w))))

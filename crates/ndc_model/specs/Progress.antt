@@ -20,7 +20,7 @@ use Rattle.ndc_state.specs.Value.{StateValue}
 use Rattle.ndc_state.specs.declared.pendings.Pending.{Pending}
 use Rattle.ndc_model.specs.Cells.{Cell, learned_of}
 use Rattle.ndc_model.specs.Moves.{cell_of}
-use Rattle.ndc_model.specs.Steps.{Stepped, answered, learned_at, read_answer, tip_answer, written_answer}
+use Rattle.ndc_model.specs.Steps.{Stepped, answered, error_answer, learned_at, read_answer, tip_answer}
 use Rattle.ndc_model.specs.Texts.{ok, refused}
 use Rattle.ndc_model.specs.World.{ActivityRef, Report, World, cluster_at, home_at, with_cluster}
 use Rattle.ndc_model.specs.Writing.{Home, as_command_error, may_write}
@@ -101,7 +101,7 @@ beat_unless cluster version activity details w None =
     (ok (decimal version ∷ decimal (next_beat version (held activity (cluster_at cluster w).reports)) ∷ []))
 
 abbrev pub beat_by : ClusterNo → Name → World → Result (ℕ × ActivityRef) CommandError → Stepped
-beat_by cluster details w (Err error) = answered w (written_answer (Err error))
+beat_by cluster details w (Err error) = answered w (error_answer error)
 beat_by cluster details w (Ok told) = beat_unless cluster told.0 told.1 details w (stale_by told.0 (held told.1 (cluster_at cluster w).reports))
 
 -- `beat`
@@ -132,7 +132,7 @@ report_answer None = refused (codes "NoProgress" ∷ [])
 report_answer (Some report) = ok (decimal report.version ∷ decimal report.beat ∷ report.details ∷ [])
 
 abbrev pub activity_answer : List Report → Result ActivityRef CommandError → List ℕ
-activity_answer reports (Err error) = written_answer (Err error)
+activity_answer reports (Err error) = error_answer error
 activity_answer reports (Ok activity) = report_answer (held activity reports)
 
 -- `progress`

@@ -1,13 +1,11 @@
 -- Queues, levels and lists in flight.
 use Rattle.std.specs.Prelude.{ℕ, ◌+◌, ◌≤◌, max, min, Bool, true, false, not, ◌&&◌, ◌||◌, nat_lt, is_some, List, [], ◌∷◌, ◌++◌, length, take, drop, find, slice_get, Option, Some, None, if◌then◌else◌, option_map, unwrap_or, remove, insert}
 use Rattle.std.specs.List.{filter, filter_map, prefix_len, reduce}
-use Rattle.std.specs.Option.{option_to_list}
 use Rattle.ndc_domain.specs.declared.clusters.ClusterNo.{ClusterNo}
 use Rattle.ndc_domain.specs.declared.record.DomainRecord.{DomainRecord}
 use Rattle.ndc_domain.specs.Members.{has_member}
 use Rattle.ndc_domain.specs.Records.{record_of}
 use Rattle.ndc_event.specs.declared.batch.Batch.{Batch}
-use Rattle.ndc_sets.specs.Learned.{has_key}
 use Rattle.ndc_sets.specs.Paths.{is_wanted}
 use Rattle.ndc_model.specs.Arrival.{Message}
 use Rattle.ndc_model.specs.Cells.{Cell, batch_there, is_learned_in, is_of}

@@ -11,11 +11,11 @@ use Rattle.ndc_event.specs.declared.kind.EventKind.TheVariants.{WorkflowExecutio
 use Rattle.ndc_event.specs.declared.name.Name.{Name}
 use Rattle.ndc_script.specs.declared.script.Script.{Script}
 use Rattle.ndc_state.specs.Table.{is_start}
-use Rattle.ndc_model.specs.Lines.{answers_of, runs_of, seen_in}
+use Rattle.ndc_model.specs.Lines.{answers_of, ran_of, seen_in}
 use Rattle.ndc_model.specs.Steps.{Seen}
 use Rattle.ndc_model.specs.Texts.{spaced}
 
--- an indexer that is asked for: its name, the numbers of its calls that fail, counted from 1, and the text that it appends of its own
+-- an indexer that is asked for: its name, the numbers of its calls that fail, with_one_more from 1, and the text that it appends of its own
 pub record Indexer : Type 0 where
   pub name : Name
   pub failing : List ℕ
@@ -30,10 +30,10 @@ abbrev pub count_kinds : (EventKind → Bool) → List Event → ℕ
 count_kinds test events = count_by (λ event. test event.kind) events
 
 -- one more of a name, in counts in order of name
-abbrev pub counted : List (Name × ℕ) → Name → List (Name × ℕ)
-counted [] name = (name, 1) ∷ []
-counted (entry ∷ counts) name =
-    match_ordering (names_cmp name entry.0) ((name, 1) ∷ entry ∷ counts) ((entry.0, entry.1 + 1) ∷ counts) (entry ∷ counted counts name)
+abbrev pub with_one_more : List (Name × ℕ) → Name → List (Name × ℕ)
+with_one_more [] name = (name, 1) ∷ []
+with_one_more (entry ∷ counts) name =
+    match_ordering (names_cmp name entry.0) ((name, 1) ∷ entry ∷ counts) ((entry.0, entry.1 + 1) ∷ counts) (entry ∷ with_one_more counts name)
 
 -- a name and its count
 abbrev pub count_text : Name × ℕ → List ℕ
@@ -46,7 +46,7 @@ counts_text (entry ∷ counts) = count_text entry ++ spaced (map count_text coun
 
 -- `kinds`: how many events there are of each kind
 abbrev pub kinds_text : List Event → List ℕ
-kinds_text events = counts_text (fold counted [] (map (λ event. kind_name event.kind) events))
+kinds_text events = counts_text (fold with_one_more [] (map (λ event. kind_name event.kind) events))
 
 -- whether the kind closes a run
 abbrev pub is_close : EventKind → Bool
@@ -100,4 +100,4 @@ index_line seen indexer = codes "index " ++ indexer.name ++ codes " " ++ shown_b
 -- the report of a script: its answers, the lines of the indexers that are told as it runs, and those of the ones that are told behind it
 abbrev pub report_of : Script → List Indexer → List Indexer → List ℕ
 report_of script indexers late =
-    answers_of (runs_of script) ++ flat_map (index_line (seen_in (runs_of script))) indexers ++ flat_map (index_line (seen_in (runs_of script))) late
+    answers_of (ran_of script) ++ flat_map (index_line (seen_in (ran_of script))) indexers ++ flat_map (index_line (seen_in (ran_of script))) late

@@ -20,7 +20,7 @@ use Rattle.ndc_state.specs.Text.{pending_text}
 use Rattle.ndc_text.specs.Text.{batch_text}
 use Rattle.ndc_text.specs.Views.{item_text, key_text, with_commas}
 use Rattle.ndc_model.specs.Laws.{script_of}
-use Rattle.ndc_model.specs.Lines.{runs_of, seen_in}
+use Rattle.ndc_model.specs.Lines.{ran_of, seen_in}
 use Rattle.ndc_model.specs.Report.{Indexer, index_line}
 use Rattle.ndc_model.specs.Texts.{ok, refused}
 
@@ -51,7 +51,7 @@ numbered number (asked ∷ acts) = record { number = number; act = asked } ∷ n
 
 -- what lines answer, behind their numbers
 abbrev pub answers : Header → List Line → List (ℕ × List ℕ)
-answers header lines = map (λ run. (run.number, run.step.answer)) (runs_of (script_of header lines))
+answers header lines = map (λ run. (run.number, run.step.answer)) (ran_of (script_of header lines))
 
 -- lines on the domain alpha, and commands to its workflow w1
 abbrev pub register : ClusterNo → List ℕ → Act
@@ -76,8 +76,8 @@ number n = ok (decimal n ∷ [])
 abbrev pub wrote : ℕ → ℕ → List ℕ
 wrote version task = ok (key_text (key version task) ∷ [])
 
-abbrev pub done : List ℕ
-done = ok []
+abbrev pub plain_ok : List ℕ
+plain_ok = ok []
 
 abbrev pub refusal : List ℕ → List ℕ
 refusal word = refused (word ∷ [])
@@ -98,12 +98,13 @@ abbrev pub levels : ℕ → ℕ → ℕ → ℕ → ℕ → List ℕ
 levels queue trimmed read done flight =
     ok (codes "queue" ∷ decimal queue ∷ codes "trimmed" ∷ decimal trimmed ∷ codes "read" ∷ decimal read ∷ codes "done" ∷ decimal done ∷ codes "flight" ∷ decimal flight ∷ [])
 
--- the answer of `state`, where only a decision may be pending
+-- a state in which a decision is pending and nothing else
 abbrev pub state_as : ℕ → ℕ → ℕ → List ℕ
 state_as next decision signals =
     codes "next=" ++ decimal next ++ codes " decision=" ++ pending_text (scheduled_by decision) ++ codes " activities=" ++ codes "-" ++ codes " timers=" ++ codes "-"
     ++ codes " children=" ++ codes "-" ++ codes " signals=" ++ decimal signals ++ codes " cancel=" ++ codes "no"
 
+-- the answer of `state`
 abbrev pub state : ℕ → ℕ → ℕ → List ℕ
 state next decision signals = ok (state_as next decision signals ∷ [])
 
@@ -197,8 +198,8 @@ with_a_burst =
     ∷ record {
       number = 7;
       act = act.Burst A (
-        job 8 (codes "w1") (command.Start (codes "order")) ∷ job 9 (codes "w1") command.Decide ∷ job 10 (codes "w2") (command.Start (codes "order"))
-        ∷ job 11 (codes "w1") (command.Respond (action.Continue (codes "order") ∷ [])) ∷ []);
+          job 8 (codes "w1") (command.Start (codes "order")) ∷ job 9 (codes "w1") command.Decide ∷ job 10 (codes "w2") (command.Start (codes "order"))
+          ∷ job 11 (codes "w1") (command.Respond (action.Continue (codes "order") ∷ [])) ∷ []);
     }
     ∷ record { number = 13; act = act.Current A (codes "alpha") (codes "w1") } ∷ []
 
@@ -233,6 +234,12 @@ with_a_reset =
     act.Register A (codes "alpha") A 7 (0 ∷ []) ∷ start A ∷ signal A (codes "p") (codes "x") ∷ ask A command.Decide ∷ ask A (command.Respond (action.Timer (codes "t") ∷ []))
     ∷ signal A (codes "q") (codes "y") ∷ act.Reset A (codes "alpha") (codes "w1") 4 ∷ act.Reset A (codes "alpha") (codes "w1") 5 ∷ act.History A (codes "alpha") (codes "w1") ∷ act.StateOf A (codes "alpha") (codes "w1")
     ∷ act.Current A (codes "alpha") (codes "w1") ∷ []
+
+-- a closed run that is reset: the new one has the next task
+abbrev pub with_a_reset_of_a_closed_run : List Act
+with_a_reset_of_a_closed_run =
+    act.Register A (codes "alpha") A 7 (0 ∷ []) ∷ start A ∷ signal A (codes "p") (codes "x") ∷ ask A command.Decide ∷ ask A (command.Respond (action.Timer (codes "t") ∷ []))
+    ∷ signal A (codes "q") (codes "y") ∷ ask A (command.Terminate (codes "stop")) ∷ act.Reset A (codes "alpha") (codes "w1") 5 ∷ act.Current A (codes "alpha") (codes "w1") ∷ []
 
 -- an activity whose progress is told, and told on
 abbrev pub beat : ClusterNo → List ℕ → Act
@@ -271,11 +278,17 @@ with_a_closed_run =
 abbrev pub with_a_letter : List Act
 with_a_letter =
     register A (0 ∷ 1 ∷ []) ∷ start A ∷ signal A (codes "ping") (codes "x") ∷ act.Pull B A ∷ act.Damage B A 0 0 30 ∷ act.Work B ∷ act.LettersOf B ∷ act.LevelsOf B A 0 ∷ act.MergeLetters B
-    ∷ act.LevelsOf B A 0 ∷ act.LettersOf B ∷ act.Damage B A 0 0 1 ∷ act.Purge B ∷ []
+    ∷ act.LevelsOf B A 0 ∷ act.LettersOf B ∷ []
+
+-- a letter that is dropped: its message is read again
+abbrev pub with_a_purge : List Act
+with_a_purge =
+    register A (0 ∷ 1 ∷ []) ∷ start A ∷ signal A (codes "ping") (codes "x") ∷ act.Pull B A ∷ act.Damage B A 0 0 30 ∷ act.Work B ∷ act.Purge B ∷ act.Rewind B A ∷ act.Pull B A ∷ act.Work B
+    ∷ act.Damage B A 0 0 1 ∷ []
 
 -- one workflow at one cluster
-abbrev pub alone : List Act
-alone = act.Register A (codes "alpha") A 7 (0 ∷ []) ∷ start A ∷ signal A (codes "ping") (codes "x") ∷ act.History A (codes "alpha") (codes "w1") ∷ act.Dump A (codes "alpha") (codes "w1") ∷ []
+abbrev pub single_workflow : List Act
+single_workflow = act.Register A (codes "alpha") A 7 (0 ∷ []) ∷ start A ∷ signal A (codes "ping") (codes "x") ∷ act.History A (codes "alpha") (codes "w1") ∷ act.Dump A (codes "alpha") (codes "w1") ∷ []
 
 -- an indexer that is asked for, and whose calls of these numbers fail
 abbrev pub asked_for : List ℕ → List ℕ → Indexer
@@ -283,4 +296,12 @@ asked_for name failing = record { name = name; failing = failing; own = [] }
 
 -- the index lines of a script
 abbrev pub index_lines : Header → List Line → List Indexer → List (List ℕ)
-index_lines header lines indexers = map (index_line (seen_in (runs_of (script_of header lines)))) indexers
+index_lines header lines indexers = map (index_line (seen_in (ran_of (script_of header lines)))) indexers
+
+-- what indexers are told of a script: at which cluster, and the key of the batch
+abbrev pub told_keys : Header → List Line → List (ClusterNo × BatchKey)
+told_keys header lines = map (λ told. (told.cluster, told.batch.key)) (seen_in (ran_of (script_of header lines)))
+
+-- answers behind their numbers, as the report has them
+abbrev pub told_lines : List (ℕ × List ℕ) → List ℕ
+told_lines lines = flat_map (λ line. decimal line.0 ++ codes " " ++ line.1) lines

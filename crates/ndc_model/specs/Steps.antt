@@ -1,5 +1,5 @@
 -- What lines on domains, queues and workflows leave and answer.
-use Rattle.std.specs.Prelude.{ℕ, ◌-◌, Bool, true, false, ◌&&◌, ◌||◌, List, [], ◌∷◌, ◌++◌, map, length, sum, codes, decimal, slice_index_or, Option, Some, None, Result, Ok, Err, if◌then◌else◌}
+use Rattle.std.specs.Prelude.{ℕ, ◌-◌, Bool, true, false, ◌&&◌, ◌||◌, List, [], ◌∷◌, ◌++◌, map, length, sum, codes, decimal, Option, Some, None, Result, Ok, Err, if◌then◌else◌}
 use Rattle.std.specs.List.{filter, flat_map}
 use Rattle.std.specs.Str.{bytes_eq}
 use Rattle.ndc_command.specs.declared.command.Command.{Command}
@@ -32,7 +32,7 @@ use Rattle.ndc_event.specs.Key.{run_text}
 use Rattle.ndc_text.specs.Views.{dump_text, item_text, key_text, run_lines, status_text, with_commas}
 use Rattle.ndc_model.specs.Arrival.{Message, known, learned_now, put_off}
 use Rattle.ndc_model.specs.Cells.{Cell, arrived_of, is_learned_in, is_of, learned_of, missing_of, put_off_in}
-use Rattle.ndc_model.specs.Moves.{Note, Trace, after_settlement, all_written, applied, bootstrapped, came, cell_of, from_world, pulled_all, pulled_shard, resent, shard_of, trimmed_all, trimmed_shard, worked}
+use Rattle.ndc_model.specs.Moves.{Note, Trace, after_settlement, all_written, applied, bootstrapped, came, cell_of, from_world, pulled_all, pulled_shard, resent, shard_of, trimmed_all, trimmed_level, worked}
 use Rattle.ndc_model.specs.Queues.{after_loss, after_move, after_repeat, put_in_flight}
 use Rattle.ndc_model.specs.Texts.{event_line, ok, refusal_words, refused}
 use Rattle.ndc_model.specs.World.{World, cell_at, cluster_at, home_at, lane_at, link_at, queue_at, shards_of, trimmed_at, with_cell, with_lane, with_table}
@@ -96,7 +96,7 @@ abbrev pub applied_by : Note → ℕ
 applied_by (came cluster count arrival) = 0
 applied_by (applied cluster b) = 1
 
--- how much moves count up to
+-- how much moves count up to, in print
 abbrev pub total : (Note → ℕ) → List Note → List ℕ
 total count notes = decimal (sum (map count notes))
 
@@ -104,20 +104,19 @@ total count notes = decimal (sum (map count notes))
 abbrev pub moved : Trace → List (List ℕ) → Stepped
 moved t words = record { world = t.world; answer = ok words; seen = seen_of t.notes }
 
--- the answer to what was to be written: the keys of the batches, or the refusal
-abbrev pub written_answer : Result (List Batch) CommandError → List ℕ
-written_answer (Ok batches) = ok (map (λ b. key_text b.key) batches)
-written_answer (Err (Refused refusal)) = refused (refusal_words refusal)
-written_answer (Err Memory) = []
+-- the answer of a line that is refused
+abbrev pub error_answer : CommandError → List ℕ
+error_answer (Refused refusal) = refused (refusal_words refusal)
+error_answer Memory = []
 
--- what was to be written is written in a cell; a refusal leaves all as it was
+-- what was to be written is written in a cell and answered by the keys of the batches; a refusal leaves all as it was
 abbrev pub written_step : ClusterNo → ℕ → World → Result (List Batch) CommandError → Stepped
 written_step cluster shard w (Ok batches) = record {
   world = with_cell cluster shard (with_all_written batches (cell_at cluster shard w)) w;
-  answer = written_answer (Ok batches);
+  answer = ok (map (λ b. key_text b.key) batches);
   seen = seen_at cluster batches;
 }
-written_step cluster shard w (Err error) = answered w (written_answer (Err error))
+written_step cluster shard w (Err error) = answered w (error_answer error)
 
 -- a command line
 abbrev pub command_step : Header → ClusterNo → Name → Name → Command → World → Stepped
@@ -229,7 +228,7 @@ work_step header cluster w = moved (worked header cluster w) (work_words (worked
 -- `trim`: how many entries are dropped now
 abbrev pub trim_step : Header → ClusterNo → World → Stepped
 trim_step header source w =
-    answered (trimmed_all header source w) (ok (decimal (sum (map (λ shard. trimmed_shard header source w shard - trimmed_at source w shard) (shards_of header))) ∷ []))
+    answered (trimmed_all header source w) (ok (decimal (sum (map (λ shard. trimmed_level header source w shard - trimmed_at source w shard) (shards_of header))) ∷ []))
 
 -- `levels`
 abbrev pub levels_answer : Header → ClusterNo → ClusterNo → ℕ → World → List ℕ

@@ -1,6 +1,7 @@
 -- The world: all clusters, and what each has of the queues of each other.
-use Rattle.std.specs.Prelude.{ℕ, Bool, ◌&&◌, not, ◌==◌, List, [], ◌∷◌, ◌++◌, map, find, slice_index_or, slice_set, Option, Some, None, if◌then◌else◌, replicate}
-use Rattle.std.specs.List.{filter, flat_map, range_with_len}
+use Rattle.std.specs.Str.{bytes_eq}
+use Rattle.std.specs.Prelude.{ℕ, Bool, ◌&&◌, not, List, [], ◌∷◌, ◌++◌, map, find, slice_index_or, slice_set, Option, Some, None, if◌then◌else◌, replicate}
+use Rattle.std.specs.List.{filter, flat_map, range_with_len, list_any}
 use Rattle.ndc_domain.specs.Clusters.{count_of}
 use Rattle.ndc_domain.specs.declared.clusters.ClusterNo.{ClusterNo}
 use Rattle.ndc_domain.specs.declared.record.DomainRecord.{DomainRecord}
@@ -70,8 +71,8 @@ pub record World : Type 0 where
   pub handovers : List Handover
 
 -- the clusters of a header
-abbrev pub clusters_of : Header → List ClusterNo
-clusters_of header = clusters_below (count_of header.clusters)
+abbrev pub all_clusters : Header → List ClusterNo
+all_clusters header = clusters_below (count_of header.clusters)
 
 -- the shards of a header
 abbrev pub shards_of : Header → List ℕ
@@ -79,7 +80,7 @@ shards_of header = range_with_len 0 header.shards
 
 -- the clusters other than this one
 abbrev pub others_of : Header → ClusterNo → List ClusterNo
-others_of header cluster = filter (λ other. not (same_cluster cluster other)) (clusters_of header)
+others_of header cluster = filter (λ other. not (same_cluster cluster other)) (all_clusters header)
 
 -- what a reader has of a source in the beginning
 abbrev pub new_link : Header → ClusterNo → ClusterNo → Link
@@ -92,9 +93,9 @@ new_cluster shards = record { table = []; cells = replicate shards empty_cell; l
 -- the opening world: nothing is registered, written or sent
 abbrev pub opening_world : Header → World
 opening_world header = record {
-  clusters = map (λ _. new_cluster header.shards) (clusters_of header);
-  links = flat_map (λ reader. map (new_link header reader) (others_of header reader)) (clusters_of header);
-  trimmed = map (λ _. replicate header.shards 0) (clusters_of header);
+  clusters = map (λ _. new_cluster header.shards) (all_clusters header);
+  links = flat_map (λ reader. map (new_link header reader) (others_of header reader)) (all_clusters header);
+  trimmed = map (λ _. replicate header.shards 0) (all_clusters header);
   handovers = [];
 }
 
@@ -160,6 +161,10 @@ with_table cluster table w = record w {
   clusters = slice_set w.clusters cluster.number (record (cluster_at cluster w) { table = table });
   links = map (with_late cluster (cluster_at cluster w).table table) w.links;
 }
+
+-- whether a domain is one of those that a reader still lacks from a source
+abbrev pub is_late : Header → ClusterNo → ClusterNo → Name → World → Bool
+is_late header reader source domain w = list_any (λ late. bytes_eq late domain) (link_at header reader source w).late
 
 -- how far the queue of a source is trimmed for a shard
 abbrev pub trimmed_at : ClusterNo → World → ℕ → ℕ

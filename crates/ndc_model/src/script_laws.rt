@@ -6,9 +6,9 @@ ghost use Rattle.ndc_script.specs.declared.script.Act.{Act as Asked};
 ghost use Rattle.ndc_script.specs.declared.script.Act.TheVariants as act;
 ghost use Rattle.ndc_script.specs.declared.script.Header.{Header as Head};
 ghost use Rattle.ndc_script.specs.declared.script.Line.{Line as ScriptLine};
-ghost use Rattle.ndc_model.specs.Handovers.{complete_step, without_handover};
+ghost use Rattle.ndc_model.specs.Handovers.{without_handover};
 ghost use Rattle.ndc_model.specs.Laws.{ChangesNothing, is_overtaken, is_reading, is_refusal, script_of};
-ghost use Rattle.ndc_model.specs.Lines.{act_step, answers_of, plain_lines, runs_from, runs_of, seen_in, world_behind};
+ghost use Rattle.ndc_model.specs.Lines.{act_step, answers_of, plain_lines, ran_from, ran_of, seen_in, world_behind};
 ghost use Rattle.ndc_model.specs.Report.{report_of};
 ghost use Rattle.ndc_model.specs.Steps.{learned_at};
 ghost use Rattle.ndc_model.specs.Texts.{ok};
@@ -19,8 +19,8 @@ ghost use Rattle.ndc_model.specs.World.{World, opening_world};
 pub fn a_refused_line_changes_nothing()
     ensures refused { (header : Head) (asked : Asked) (w : World) → is_refusal (act_step header asked w).answer ≡ true → is_overtaken (act_step header asked w).answer ≡ false
         → ChangesNothing w (act_step header asked w) }
-    ensures overtaken { (header : Head) (at : Number) (domain : Text) (w : World) → is_overtaken (complete_step header at domain w).answer ≡ true
-        → (complete_step header at domain w).world ≡ without_handover domain w }
+    ensures overtaken { (header : Head) (at : Number) (domain : Text) (w : World) → is_overtaken (act_step header (act.Complete at domain) w).answer ≡ true
+        → ChangesNothing (without_handover domain w) (act_step header (act.Complete at domain) w) }
 {}
 
 /// A line that only reads changes nothing.
@@ -34,14 +34,14 @@ pub fn a_reading_line_changes_nothing()
 /// indexer is asked for, is a front of that of the whole.
 #[tactic(auto, using(crate::proofs::ScriptLemmas::script_in_parts, crate::proofs::ScriptLemmas::answers_in_parts, crate::proofs::ScriptLemmas::report_in_parts, crate::proofs::ScriptLemmas::seen_in_parts))]
 pub fn a_script_runs_in_parts()
-    ensures lines { (header : Head) (lines more : List ScriptLine) → runs_of (script_of header (lines ++ more))
-        ≡ runs_of (script_of header lines) ++ runs_from header (world_behind (opening_world header) (runs_of (script_of header lines))) (plain_lines more) }
-    ensures answers { (header : Head) (lines more : List ScriptLine) → answers_of (runs_of (script_of header (lines ++ more)))
-        ≡ answers_of (runs_of (script_of header lines)) ++ answers_of (runs_from header (world_behind (opening_world header) (runs_of (script_of header lines))) (plain_lines more)) }
+    ensures lines { (header : Head) (lines more : List ScriptLine) → ran_of (script_of header (lines ++ more))
+        ≡ ran_of (script_of header lines) ++ ran_from header (world_behind (opening_world header) (ran_of (script_of header lines))) (plain_lines more) }
+    ensures answers { (header : Head) (lines more : List ScriptLine) → answers_of (ran_of (script_of header (lines ++ more)))
+        ≡ answers_of (ran_of (script_of header lines)) ++ answers_of (ran_from header (world_behind (opening_world header) (ran_of (script_of header lines))) (plain_lines more)) }
     ensures report { (header : Head) (lines more : List ScriptLine) → report_of (script_of header (lines ++ more)) [] []
-        ≡ report_of (script_of header lines) [] [] ++ answers_of (runs_from header (world_behind (opening_world header) (runs_of (script_of header lines))) (plain_lines more)) }
-    ensures seen { (header : Head) (lines more : List ScriptLine) → seen_in (runs_of (script_of header (lines ++ more)))
-        ≡ seen_in (runs_of (script_of header lines)) ++ seen_in (runs_from header (world_behind (opening_world header) (runs_of (script_of header lines))) (plain_lines more)) }
+        ≡ report_of (script_of header lines) [] [] ++ answers_of (ran_from header (world_behind (opening_world header) (ran_of (script_of header lines))) (plain_lines more)) }
+    ensures seen { (header : Head) (lines more : List ScriptLine) → seen_in (ran_of (script_of header (lines ++ more)))
+        ≡ seen_in (ran_of (script_of header lines)) ++ seen_in (ran_from header (world_behind (opening_world header) (ran_of (script_of header lines))) (plain_lines more)) }
 {}
 
 /// Clusters that have learned the same batches of a workflow answer alike, and `compare` answers that they show the same.

@@ -16,6 +16,10 @@ use Rattle.ndc_text.specs.Text.{batch_text, with_attributes}
 use Rattle.ndc_model.proofs.worked_scripts.a_damaged_message_is_set_aside.Goals as goal
 
 -- the first thirty bytes of the message hold no number, and are no JSON
-pub returns : goal.returns
+pub returns-clause-again : goal.returns-clause-again
 unfolding row plan_of start_of plan_below written judged_at within refuse numbers numbers_where kind_name refusal_words read_of batch_text with_attributes escape_byte content lex punctuate value chars is_utf8 encode_utf8
-returns c = refl
+returns-clause-again c = refl
+
+pub returns-clause-purged : goal.returns-clause-purged
+unfolding row plan_of start_of plan_below written judged_at within refuse numbers numbers_where kind_name refusal_words read_of batch_text with_attributes escape_byte content lex punctuate value chars is_utf8 encode_utf8
+returns-clause-purged c = refl
