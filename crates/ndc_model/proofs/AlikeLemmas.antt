@@ -9,7 +9,7 @@ use Rattle.ndc_script.specs.declared.script.Header.{Header}
 use Rattle.ndc_sets.specs.View.{view_of}
 use Rattle.ndc_text.specs.Views.{dump_text}
 use Rattle.ndc_model.specs.Lines.{act_step}
-use Rattle.ndc_model.specs.Steps.{branches_answer, compare_answer, current_answer, dump_answer, history_answer, is_nothing, learned_at, read_answer, shows_same, state_answer}
+use Rattle.ndc_model.specs.Reading.{branches_answer, compare_answer, current_answer, dump_answer, history_answer, is_nothing, learned_at, read_answer, shows_same, state_answer}
 use Rattle.ndc_model.specs.Texts.{ok}
 use Rattle.ndc_model.specs.World.{World}
 

@@ -23,7 +23,9 @@ use Rattle.ndc_model.specs.Laws.{ChangesNothing, is_overtaken, is_reading, is_re
 use Rattle.ndc_model.specs.Letters.{damage_at, is_read_as, letter_of, place_of_letter, with_letters}
 use Rattle.ndc_model.specs.Lines.{act_step}
 use Rattle.ndc_model.specs.Progress.{beat_by, beat_unless}
-use Rattle.ndc_model.specs.Steps.{Stepped, answered, flight_at, flight_step, join_step, table_step, written_step}
+use Rattle.ndc_model.specs.Sending.{flight_at, flight_step}
+use Rattle.ndc_model.specs.Steps.{Stepped, answered, written_step}
+use Rattle.ndc_model.specs.Tables.{join_step, table_step}
 use Rattle.ndc_model.specs.Texts.{ok, refusal_words, refused}
 use Rattle.ndc_model.specs.World.{ActivityRef, Handover, Letter, World, cluster_at, is_late, lane_at, with_lane}
 use Rattle.ndc_model.specs.Writing.{is_writer, same_cluster}

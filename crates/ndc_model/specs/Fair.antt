@@ -20,7 +20,7 @@ use Rattle.ndc_model.specs.Cells.{AreInOrder, Cell, Place, batch_there, is_of, l
 use Rattle.ndc_model.specs.Moves.{all_written, shard_of}
 use Rattle.ndc_model.specs.Queues.{AreLevels, Lane, carries, names_cluster, needs_nothing}
 use Rattle.ndc_model.specs.Report.{count_kinds, is_original}
-use Rattle.ndc_model.specs.World.{World, all_clusters, cell_at, cluster_at, is_late, lane_at, link_at, opening_world, queue_at, trimmed_at, Link}
+use Rattle.ndc_model.specs.World.{Link, World, all_clusters, cell_at, cluster_at, is_late, lane_at, link_at, opening_world, queue_at, trimmed_at}
 use Rattle.ndc_model.specs.Writing.{goes_on_as}
 
 -- the places of all that the clusters have written in a shard

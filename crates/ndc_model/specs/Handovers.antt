@@ -11,7 +11,8 @@ use Rattle.ndc_domain.specs.declared.record.DomainRecord.{DomainRecord}
 use Rattle.ndc_domain.specs.declared.record.FailoverError.{FailoverError}
 use Rattle.ndc_event.specs.declared.name.Name.{Name}
 use Rattle.ndc_script.specs.declared.script.Header.{Header}
-use Rattle.ndc_model.specs.Steps.{Stepped, answered, failover_words}
+use Rattle.ndc_model.specs.Steps.{Stepped, answered}
+use Rattle.ndc_model.specs.Tables.{failover_words}
 use Rattle.ndc_model.specs.Texts.{ok, refusal_words, refused}
 use Rattle.ndc_model.specs.World.{Handover, World, cluster_at, is_late, lane_at, queue_at, shards_of, with_table}
 use Rattle.ndc_model.specs.Writing.{is_writer, same_cluster}

@@ -14,7 +14,8 @@ use Rattle.ndc_model.specs.Arrival.{Message}
 use Rattle.ndc_model.specs.Cells.{Cell, Place, batch_there, learned_of, place_of, same_place}
 use Rattle.ndc_model.specs.Moves.{Trace, cell_of, from_world, message_arrived, quietly, renewed, shard_of}
 use Rattle.ndc_model.specs.Queues.{entry_of}
-use Rattle.ndc_model.specs.Steps.{Stepped, answered, arrived_words, flight_at, moved}
+use Rattle.ndc_model.specs.Sending.{arrived_words, flight_at}
+use Rattle.ndc_model.specs.Steps.{Stepped, answered, moved}
 use Rattle.ndc_model.specs.Texts.{ok, refused}
 use Rattle.ndc_model.specs.World.{Letter, World, cluster_at, lane_at, with_cluster, with_lane}
 

@@ -6,6 +6,9 @@ pub mod World
 pub mod Moves
 pub mod Texts
 pub mod Steps
+pub mod Tables
+pub mod Sending
+pub mod Reading
 pub mod Handovers
 pub mod Letters
 pub mod Progress

@@ -13,7 +13,10 @@ use Rattle.ndc_model.specs.Handovers.{complete_step, handover_step}
 use Rattle.ndc_model.specs.Letters.{damage_step, letters_answer, mergeletters_step, purge_step}
 use Rattle.ndc_model.specs.Moves.{rewound}
 use Rattle.ndc_model.specs.Progress.{beat_step, progress_answer, sync_step}
-use Rattle.ndc_model.specs.Steps.{Seen, Stepped, answered, bootstrap_step, branches_answer, command_step, compare_answer, current_answer, domain_answer, domains_step, dump_answer, failover_words, gaps_answer, history_answer, join_step, learned_at, levels_answer, lose_step, members_answer, move_step, pull_some_step, pull_step, read_answer, register_words, repeat_step, resend_step, reset_step, retain_words, settle_step, state_answer, table_step, trim_step, work_step}
+use Rattle.ndc_model.specs.Reading.{branches_answer, compare_answer, current_answer, dump_answer, history_answer, learned_at, read_answer, state_answer}
+use Rattle.ndc_model.specs.Sending.{bootstrap_step, gaps_answer, levels_answer, lose_step, move_step, pull_some_step, pull_step, repeat_step, resend_step, settle_step, trim_step, work_step}
+use Rattle.ndc_model.specs.Steps.{Seen, Stepped, answered, command_step, reset_step}
+use Rattle.ndc_model.specs.Tables.{domain_answer, domains_step, failover_words, join_step, members_answer, register_words, retain_words, table_step}
 use Rattle.ndc_model.specs.Texts.{ok}
 use Rattle.ndc_model.specs.World.{World, cluster_at, opening_world}
 

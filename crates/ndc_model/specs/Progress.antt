@@ -20,7 +20,8 @@ use Rattle.ndc_state.specs.Value.{StateValue}
 use Rattle.ndc_state.specs.declared.pendings.Pending.{Pending}
 use Rattle.ndc_model.specs.Cells.{Cell, learned_of}
 use Rattle.ndc_model.specs.Moves.{cell_of}
-use Rattle.ndc_model.specs.Steps.{Stepped, answered, error_answer, learned_at, read_answer, tip_answer}
+use Rattle.ndc_model.specs.Reading.{learned_at, read_answer, tip_answer}
+use Rattle.ndc_model.specs.Steps.{Stepped, answered, error_answer}
 use Rattle.ndc_model.specs.Texts.{ok, refused}
 use Rattle.ndc_model.specs.World.{ActivityRef, Report, World, cluster_at, home_at, with_cluster}
 use Rattle.ndc_model.specs.Writing.{Home, as_command_error, may_write}

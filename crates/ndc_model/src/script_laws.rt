@@ -10,7 +10,7 @@ ghost use Rattle.ndc_model.specs.Handovers.{without_handover};
 ghost use Rattle.ndc_model.specs.Laws.{ChangesNothing, is_overtaken, is_reading, is_refusal, script_of};
 ghost use Rattle.ndc_model.specs.Lines.{act_step, answers_of, plain_lines, ran_from, ran_of, seen_in, world_behind};
 ghost use Rattle.ndc_model.specs.Report.{report_of};
-ghost use Rattle.ndc_model.specs.Steps.{learned_at};
+ghost use Rattle.ndc_model.specs.Reading.{learned_at};
 ghost use Rattle.ndc_model.specs.Texts.{ok};
 ghost use Rattle.ndc_model.specs.World.{World, opening_world};
 

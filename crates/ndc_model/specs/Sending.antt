@@ -1,0 +1,120 @@
+-- Lines on queues, and on what is put off.
+use Rattle.std.specs.Prelude.{ℕ, ◌-◌, List, [], ◌∷◌, ◌++◌, map, length, sum, codes, decimal, Option, Some, None}
+use Rattle.std.specs.List.{filter, flat_map}
+use Rattle.ndc_domain.specs.declared.clusters.ClusterNo.{ClusterNo}
+use Rattle.ndc_event.specs.declared.batch.Batch.{Batch}
+use Rattle.ndc_event.specs.declared.key.BatchKey.{BatchKey}
+use Rattle.ndc_history.specs.declared.item.Item.{Item}
+use Rattle.ndc_script.specs.declared.script.Header.{Header}
+use Rattle.ndc_sets.specs.Paths.{first_id, last_item_of, path_to}
+use Rattle.ndc_state.specs.Replay.{history_of}
+use Rattle.ndc_text.specs.Views.{item_text, key_text}
+use Rattle.ndc_model.specs.Arrival.{Message}
+use Rattle.ndc_model.specs.Cells.{Cell, arrived_of, is_learned_in, is_of, missing_of, put_off_in}
+use Rattle.ndc_model.specs.Moves.{Note, after_settlement, all_written, bootstrapped, from_world, pulled_all, pulled_shard, resent, trimmed_all, trimmed_level, worked}
+use Rattle.ndc_model.specs.Queues.{after_loss, after_move, after_repeat, put_in_flight}
+use Rattle.ndc_model.specs.Steps.{Stepped, applied_by, arrived_by, known_by, learned_by, put_off_by, answered, moved, total}
+use Rattle.ndc_model.specs.Texts.{ok, refused}
+use Rattle.ndc_model.specs.World.{World, cell_at, cluster_at, lane_at, link_at, queue_at, shards_of, trimmed_at, with_lane}
+
+-- how many entries a pull puts in flight
+abbrev pub pull_count : Header → ClusterNo → ClusterNo → Option ℕ → World → ℕ → ℕ
+pull_count header reader source count w shard =
+    length (put_in_flight reader (cluster_at source w).table count (queue_at source shard w) (lane_at header reader source shard w))
+
+-- `pull` for every shard, and for one
+abbrev pub pull_step : Header → ClusterNo → ClusterNo → World → Stepped
+pull_step header reader source w =
+    answered (pulled_all header reader source w) (ok (decimal (sum (map (pull_count header reader source None w) (shards_of header))) ∷ []))
+
+abbrev pub pull_some_step : Header → ClusterNo → ClusterNo → ℕ → ℕ → World → Stepped
+pull_some_step header reader source shard count w =
+    answered (pulled_shard header reader source (Some count) w shard) (ok (decimal (pull_count header reader source (Some count) w shard) ∷ []))
+
+-- a change of a list in flight, where its places are there
+abbrev pub flight_step : Header → ClusterNo → ClusterNo → ℕ → World → Option (List Message) → Stepped
+flight_step header reader source shard w None = answered w (refused (codes "NoSuchPlace" ∷ []))
+flight_step header reader source shard w (Some flight) =
+    answered (with_lane reader source shard (record (lane_at header reader source shard w) { flight = flight }) w) (ok [])
+
+-- what is in flight from a source to a reader for a shard
+abbrev pub flight_at : Header → ClusterNo → ClusterNo → ℕ → World → List Message
+flight_at header reader source shard w = (lane_at header reader source shard w).flight
+
+-- `lose`, `repeat`, `move`
+abbrev pub lose_step : Header → ClusterNo → ClusterNo → ℕ → ℕ → World → Stepped
+lose_step header reader source shard place w = flight_step header reader source shard w (after_loss place (flight_at header reader source shard w))
+
+abbrev pub repeat_step : Header → ClusterNo → ClusterNo → ℕ → ℕ → World → Stepped
+repeat_step header reader source shard place w = flight_step header reader source shard w (after_repeat place (flight_at header reader source shard w))
+
+abbrev pub move_step : Header → ClusterNo → ClusterNo → ℕ → ℕ → ℕ → World → Stepped
+move_step header reader source shard place to w = flight_step header reader source shard w (after_move place to (flight_at header reader source shard w))
+
+-- `work`
+abbrev pub work_words : List Note → List (List ℕ)
+work_words notes =
+    codes "learned" ∷ total learned_by notes ∷ codes "known" ∷ total known_by notes ∷ codes "putoff" ∷ total put_off_by notes ∷ codes "reapplied" ∷ total applied_by notes ∷ []
+
+abbrev pub work_step : Header → ClusterNo → World → Stepped
+work_step header cluster w = moved (worked header cluster w) (work_words (worked header cluster w).notes)
+
+-- `trim`: how many entries are dropped now
+abbrev pub trim_step : Header → ClusterNo → World → Stepped
+trim_step header source w =
+    answered (trimmed_all header source w) (ok (decimal (sum (map (λ shard. trimmed_level header source w shard - trimmed_at source w shard) (shards_of header))) ∷ []))
+
+-- `levels`
+abbrev pub levels_answer : Header → ClusterNo → ClusterNo → ℕ → World → List ℕ
+levels_answer header reader source shard w =
+    ok (codes "queue" ∷ decimal (length (queue_at source shard w)) ∷ codes "trimmed" ∷ decimal (trimmed_at source w shard)
+    ∷ codes "read" ∷ decimal (lane_at header reader source shard w).read ∷ codes "done" ∷ decimal (lane_at header reader source shard w).done
+    ∷ codes "flight" ∷ decimal (length (flight_at header reader source shard w)) ∷ [])
+
+-- an item, or the one before all
+abbrev pub item_or_none : Option Item → Item
+item_or_none None = record { id = 0; version = 0 }
+item_or_none (Some item) = item
+
+-- where the gap of a batch that is put off begins: the last event of its last learned ancestor in its own run
+abbrev pub gap_after : Header → ℕ → World → Cell → Batch → Item
+gap_after header shard w cell b =
+    item_or_none (last_item_of (history_of (filter (is_learned_in cell) (path_to b.key (filter (is_of b.domain b.workflow) (all_written header shard w))))))
+
+-- the key of what is missing
+abbrev pub missing_text : Option BatchKey → List ℕ
+missing_text None = []
+missing_text (Some key) = key_text key
+
+-- `gap DOMAIN WORKFLOW KEY after ID@VERSION before ID@VERSION missing KEY`
+abbrev pub gap_line : Header → ℕ → World → Cell → Batch → List ℕ
+gap_line header shard w cell b =
+    codes "gap " ++ b.domain ++ codes " " ++ b.workflow ++ codes " " ++ key_text b.key ++ codes " after " ++ item_text (gap_after header shard w cell b)
+    ++ codes " before " ++ item_text (record { id = first_id b.events; version = b.key.version })
+    ++ codes " missing " ++ missing_text (missing_of b (arrived_of b.domain b.workflow cell)) ++ codes "\n"
+
+-- `gaps`: a line for each batch that is put off, by shard and place
+abbrev pub gap_lines : Header → ClusterNo → World → ℕ → List ℕ
+gap_lines header cluster w shard = flat_map (gap_line header shard w (cell_at cluster shard w)) (put_off_in (cell_at cluster shard w))
+
+abbrev pub gaps_answer : Header → ClusterNo → World → List ℕ
+gaps_answer header cluster w =
+    ok (decimal (sum (map (λ shard. length (put_off_in (cell_at cluster shard w))) (shards_of header))) ∷ []) ++ flat_map (gap_lines header cluster w) (shards_of header)
+
+-- `resend`
+abbrev pub arrived_words : List Note → List (List ℕ)
+arrived_words notes = codes "arrived" ∷ total arrived_by notes ∷ codes "learned" ∷ total learned_by notes ∷ []
+
+abbrev pub resend_step : Header → ClusterNo → World → Stepped
+resend_step header cluster w = moved (resent header cluster w) (arrived_words (resent header cluster w).notes)
+
+-- `bootstrap`
+abbrev pub bootstrap_step : Header → ClusterNo → ClusterNo → World → Stepped
+bootstrap_step header reader source w =
+    moved (bootstrapped header reader (from_world w) source)
+    (codes "domains" ∷ decimal (length (link_at header reader source w).late) ∷ arrived_words (bootstrapped header reader (from_world w) source).notes)
+
+-- `settle`
+abbrev pub settle_step : Header → World → Stepped
+settle_step header w =
+    moved (after_settlement header w) (codes "learned" ∷ total learned_by (after_settlement header w).notes ∷ codes "reapplied" ∷ total applied_by (after_settlement header w).notes ∷ [])
