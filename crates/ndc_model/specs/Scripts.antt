@@ -7,6 +7,7 @@ use Rattle.ndc_command.specs.declared.command.Command.TheVariants as command
 use Rattle.ndc_domain.specs.Clusters.{cluster_no}
 use Rattle.ndc_domain.specs.declared.clusters.ClusterNo.{ClusterNo}
 use Rattle.ndc_event.specs.Key.{run_of, run_text}
+use Rattle.ndc_event.specs.declared.batch.Batch.{Batch}
 use Rattle.ndc_event.specs.declared.key.BatchKey.{BatchKey}
 use Rattle.ndc_history.specs.declared.item.Item.{Item}
 use Rattle.ndc_script.specs.declared.script.Act.{Act}
@@ -146,12 +147,28 @@ letter_as size = codes "letter A alpha w1 " ++ key_text (key 1 1) ++ codes " " +
 abbrev pub letters_as : List (List ℕ) → List ℕ
 letters_as letters = ok (decimal (length letters) ∷ []) ++ flat_map (λ letter. letter) letters
 
--- the dump of the workflow that A began and signalled
+-- the workflow that A began and signalled
+abbrev pub begun_and_signalled : List Batch
+begun_and_signalled = begun ∷ signaled (key 1 2) (key 1 1) 3 (signal_kind (codes "ping") (codes "x")) ∷ []
+
+-- its dump
 abbrev pub dumped : List ℕ
 dumped =
-    codes "dump 2 alpha w1\n" ++ flat_map (λ b. batch_text b ++ codes "\n") (begun ∷ signaled (key 1 2) (key 1 1) 3 (signal_kind (codes "ping") (codes "x")) ∷ [])
+    codes "dump 2 alpha w1\n" ++ flat_map (λ b. batch_text b ++ codes "\n") begun_and_signalled
     ++ flat_map (λ line. line) ((run_as 1 1 (codes "open") (codes " current")
     ++ flat_map (λ line. line) ((branch_as 1 2 (item 3 1 ∷ []) (codes " current") ++ codes "state " ++ state_as 4 2 1 ++ codes "\n") ∷ [])) ∷ []) ++ codes "end\n"
+
+-- a line of a batch in a tree: what it comes after, and its first and last event
+abbrev pub batch_as : ℕ → List ℕ → ℕ → ℕ → List ℕ
+batch_as task after from to =
+    codes "batch " ++ key_text (key 1 task) ++ codes " after " ++ after ++ codes " events " ++ decimal from ++ codes ".." ++ decimal to ++ codes " current" ++ codes "\n"
+
+-- the tree of the same workflow
+abbrev pub tree_as : List ℕ
+tree_as =
+    codes "workflow alpha w1\n"
+    ++ flat_map (λ line. line) ((run_as 1 1 (codes "open") (codes " current") ++ flat_map (λ line. line) (batch_as 1 (codes "-") 1 2 ∷ batch_as 2 (key_text (key 1 1)) 3 3 ∷ [])
+    ++ flat_map (λ line. line) (branch_as 1 2 (item 3 1 ∷ []) (codes " current") ∷ [])) ∷ [])
 
 -- domains: registered, failed over and retained
 abbrev pub on_domains : List Act

@@ -3,11 +3,12 @@ ghost use Rattle.std.specs.Prelude.{◌≡◌, [], ◌∷◌, ◌++◌, take, co
 ghost use Rattle.std.specs.List.{flat_map};
 ghost use Rattle.ndc_model.specs.Laws.{script_of};
 ghost use Rattle.ndc_model.specs.Report.{report_of};
-ghost use Rattle.ndc_model.specs.Scripts.{answers, numbered, one_cluster, three_clusters, on_domains, without_conflict, with_conflict, with_losses, with_repeats, with_two_runs, with_copies, with_a_closed_run, with_a_burst, with_a_late_member, with_a_carried_batch, with_a_handover, with_an_overtaken_handover, with_a_reset, with_a_reset_of_a_closed_run, with_progress, with_a_letter, with_a_purge, single_workflow, number, wrote, plain_ok, refusal, refusal_with, work, settlement, levels, state, run_word, run_as, branch_as, runs_as, event_as, history_as, gap_as, gaps_as, letter_as, letters_as, dumped, asked_for, index_lines, told_keys, told_lines, A, B, C};
+ghost use Rattle.ndc_model.specs.Scripts.{answers, numbered, one_cluster, three_clusters, on_domains, without_conflict, with_conflict, with_losses, with_repeats, with_two_runs, with_copies, with_a_closed_run, with_a_burst, with_a_late_member, with_a_carried_batch, with_a_handover, with_an_overtaken_handover, with_a_reset, with_a_reset_of_a_closed_run, with_progress, with_a_letter, with_a_purge, single_workflow, number, wrote, plain_ok, refusal, refusal_with, work, settlement, levels, state, run_word, run_as, branch_as, runs_as, event_as, history_as, gap_as, gaps_as, letter_as, letters_as, dumped, asked_for, begun_and_signalled, tree_as, index_lines, told_keys, told_lines, A, B, C};
 ghost use Rattle.ndc_model.specs.Texts.{ok, refused, spaced};
 ghost use Rattle.ndc_model.specs.Worked.{two_clusters};
 ghost use Rattle.ndc_sets.specs.Worked.{item, key};
-ghost use Rattle.ndc_text.specs.Views.{key_text};
+ghost use Rattle.ndc_sets.specs.View.{view_of};
+ghost use Rattle.ndc_text.specs.Views.{key_text, tree_text};
 
 /// Records of domains: versions rise at failovers, and only the primary registers and retains.
 #[tactic(auto, unfolding(ndc_state::specs::Table::row, ndc_reapply::specs::Reapplied::reapplied, ndc_command::specs::Plan::plan_of, ndc_command::specs::Plan::start_of, ndc_command::specs::Plan::plan_below, ndc_command::specs::Plan::written, ndc_command::specs::Plan::judged_at, ndc_command::specs::Plan::within, ndc_command::specs::Stage::refuse, ndc_command::specs::Stage::needs_pending, ndc_command::specs::Stage::needs_waiting, ndc_command::specs::Stage::needs_started, ndc_command::specs::Actions::action_refusal, ndc_command::specs::Actions::action_kind, ndc_domain::specs::Members::numbers, ndc_domain::specs::Members::numbers_where, ndc_event::specs::Kind::kind_name, crate::specs::Texts::refusal_words))]
@@ -111,10 +112,11 @@ pub fn a_damaged_message_is_set_aside()
     ensures purged { answers two_clusters (numbered 7 with_a_purge) ≡ (7, number 1) ∷ (8, wrote 1 1) ∷ (9, wrote 1 2) ∷ (10, number 2) ∷ (11, ok (codes "aside" ∷ [])) ∷ (12, work 0 0 1 0) ∷ (13, number 1) ∷ (14, plain_ok) ∷ (15, number 2) ∷ (16, work 2 1 0 0) ∷ (17, refusal (codes "NoSuchPlace")) ∷ [] }
 {}
 
-/// One workflow: its history, its dump, what indexers show of it, and the report.
+/// One workflow: its history, its dump, its tree, what indexers show of it, and the report.
 #[tactic(auto, unfolding(ndc_state::specs::Table::row, ndc_reapply::specs::Reapplied::reapplied, ndc_command::specs::Plan::plan_of, ndc_command::specs::Plan::start_of, ndc_command::specs::Plan::plan_below, ndc_command::specs::Plan::written, ndc_command::specs::Plan::judged_at, ndc_command::specs::Plan::within, ndc_command::specs::Stage::refuse, ndc_command::specs::Stage::needs_pending, ndc_command::specs::Stage::needs_waiting, ndc_command::specs::Stage::needs_started, ndc_command::specs::Actions::action_refusal, ndc_command::specs::Actions::action_kind, ndc_domain::specs::Members::numbers, ndc_domain::specs::Members::numbers_where, ndc_event::specs::Kind::kind_name, crate::specs::Texts::refusal_words))]
 pub fn one_workflow_is_shown()
     ensures history { answers (one_cluster 1) (numbered 6 single_workflow) ≡ (6, number 1) ∷ (7, wrote 1 1) ∷ (8, wrote 1 2) ∷ (9, history_as (event_as 1 1 (codes "WorkflowExecutionStarted") ∷ event_as 2 1 (codes "DecisionTaskScheduled") ∷ event_as 3 1 (codes "WorkflowExecutionSignaled") ∷ [])) ∷ (10, ok (decimal 2 ∷ []) ++ dumped) ∷ [] }
+    ensures tree { tree_text (codes "alpha") (codes "w1") (view_of begun_and_signalled) ≡ tree_as }
     ensures indexed { index_lines (one_cluster 1) (numbered 6 single_workflow) (asked_for (codes "signals") [] ∷ asked_for (codes "kinds") [] ∷ asked_for (codes "open") (2 ∷ []) ∷ [])
         ≡ (codes "index signals originals " ++ decimal 1 ++ codes " copies " ++ decimal 0 ++ codes "\n") ∷ (codes "index kinds " ++ (codes "DecisionTaskScheduled " ++ decimal 1 ++ spaced ((codes "WorkflowExecutionSignaled " ++ decimal 1) ∷ (codes "WorkflowExecutionStarted " ++ decimal 1) ∷ [])) ++ codes "\n") ∷ (codes "index open failed after " ++ decimal 1 ++ codes "\n") ∷ [] }
     ensures report { report_of (script_of (one_cluster 1) (numbered 6 (take 3 single_workflow))) (asked_for (codes "kinds") [] ∷ []) (asked_for (codes "signals") [] ∷ [])
