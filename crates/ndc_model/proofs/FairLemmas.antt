@@ -17,10 +17,10 @@ use Rattle.ndc_sets.specs.Sound.{IsSound}
 use Rattle.ndc_text.specs.Ranges.{InRange}
 use Rattle.ndc_model.specs.Cells.{Cell, Place, batch_there, empty_cell, is_of}
 use Rattle.ndc_model.specs.Facts.{IsLetterFit, IsReached, ReportsAgree}
-use Rattle.ndc_model.specs.Fair.{AreNumbersSmall, ArrivalsWereWritten, CopiesNameOriginals, EachRecord, IsArrivedFit, IsFair, IsLaneTrue, IsOwn, IsShaped, LanesAreTrue, MembersAlone, NumbersAreSmall, RecordsAgree, WritersOwnVersions, WritingIsSound, is_named, places_written, written_of}
+use Rattle.ndc_model.specs.Fair.{AreNumbersSmall, ArrivalsWereWritten, CopiesNameOriginals, EachRecord, IsArrivedFit, IsFair, IsLaneTrue, IsOwn, IsShaped, LanesAreTrue, MembersAlone, NumbersAreSmall, RecordsAgree, WritersUseOwnVersions, WritingIsSound, is_named, places_written, written_of}
 use Rattle.ndc_model.specs.Moves.{all_written, in_order, shard_of}
 use Rattle.ndc_model.specs.Queues.{Lane, names_cluster, new_lane, queue_of}
-use Rattle.ndc_model.specs.World.{Cluster, Link, Report, cell_at, cluster_at, all_clusters, is_link, lane_at, link_at, link_found, new_cluster, new_link, opening_world, others_of, queue_at, trimmed_at}
+use Rattle.ndc_model.specs.World.{Cluster, Link, ProgressReport, cell_at, cluster_at, all_clusters, is_link, lane_at, link_at, link_found, new_cluster, new_link, opening_world, others_of, queue_at, trimmed_at}
 
 -- lists of the same
 index-same : {X : Type 0} (x : X) (n i : ℕ) → slice_index_or (replicate n x) i x ≡ x
@@ -143,7 +143,7 @@ module _ (header : Header) where
   copies-fair : CopiesNameOriginals header (opening_world header)
   copies-fair domain workflow b has = let none : Has [] b = subst (λ (bs : List Batch). Has bs b) (none-written domain workflow) has in absurd (cc)
 
-  writers-fair : WritersOwnVersions header (opening_world header)
+  writers-fair : WritersUseOwnVersions header (opening_world header)
   writers-fair cluster shard known below =
       subst (λ (cell : Cell). AllByRecursion (IsOwn header cluster shard (cluster_at cluster (opening_world header)).table cell) cell.written) (sym (each-cell cluster shard)) tt
 
@@ -230,7 +230,7 @@ module _ (header : Header) where
 
   reports : ReportsAgree header (opening_world header)
   reports = record {
-    one = λ first second report other known known' among. let none : IsAmong [] report = subst (λ (rs : List Report). IsAmong rs report) (no-reports first) among in absurd (none-among report none);
+    one = λ first second report other known known' among. let none : IsAmong [] report = subst (λ (rs : List ProgressReport). IsAmong rs report) (no-reports first) among in absurd (none-among report none);
     told = λ cluster known. subst (AllByRecursion (λ report. IsSomeAnd (writer_of header.clusters report.version) (λ writer. IsAmong (cluster_at writer (opening_world header)).reports report))) (sym (no-reports cluster)) tt;
   }
 

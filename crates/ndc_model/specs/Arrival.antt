@@ -25,7 +25,7 @@ abbrev pub placed_second : Option Batch → List Batch → List Batch
 placed_second None batches = batches
 placed_second (Some second) batches = placed second batches
 
--- whether the place of the batch has arrived
+-- whether a batch has arrived at the place of this one
 abbrev pub has_arrived : Batch → Cell → Bool
 has_arrived b cell = is_some (batch_there cell.arrived (place_of b))
 

@@ -19,6 +19,7 @@ pub record Place : Type 0 where
   pub workflow : Name
   pub key : BatchKey
 
+-- the place of a batch
 abbrev pub place_of : Batch → Place
 place_of b = record { domain = b.domain; workflow = b.workflow; key = b.key }
 
@@ -81,7 +82,7 @@ put_off_in cell = filter (λ b. not (is_learned_in cell b)) cell.arrived
 abbrev pub ancestors_over : Batch → Walk → Walk
 ancestors_over b walk = if is_wanted walk.wanted b then record { wanted = earlier b; path = b ∷ walk.path } else walk
 
--- following earlier keys down through batches, from the last one to the first
+-- following earlier keys through batches, from the last one to the first
 abbrev pub ancestors_down : List Batch → Walk → Walk
 ancestors_down [] walk = walk
 ancestors_down (b ∷ batches) walk = ancestors_over b (ancestors_down batches walk)

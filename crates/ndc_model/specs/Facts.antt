@@ -1,4 +1,4 @@
--- What holds further of every world that a script comes to: of handovers, letters and reports.
+-- What is to hold further of every world that a script comes to: of handovers, letters and progress reports.
 use Rattle.ndc_text.specs.Ranges.{InRange}
 use Rattle.ndc_event.specs.declared.name.Name.{Name}
 use Rattle.std.specs.Prelude.{◌≡◌, ◌≢◌, ℕ, ◌<◌, ◌≤◌, Bool, true, ◌&&◌, ◌==◌, not, AllPairs, drop, length, Some, IsSomeAnd}
@@ -16,7 +16,7 @@ use Rattle.ndc_model.specs.Handovers.{place_in}
 use Rattle.ndc_model.specs.Letters.{place_of_letter}
 use Rattle.ndc_model.specs.Moves.{shard_of}
 use Rattle.ndc_model.specs.Queues.{names_cluster}
-use Rattle.ndc_model.specs.World.{Handover, Letter, Report, World, cluster_at, queue_at}
+use Rattle.ndc_model.specs.World.{Handover, Letter, ProgressReport, World, cluster_at, queue_at}
 
 -- whether a message is of the domain of a handover and of its old version
 abbrev pub is_old : Handover → Message → Bool
@@ -46,16 +46,17 @@ pub record IsLetterFit (header : Header) (w : World) (cluster : ClusterNo) (lett
   pub sent : list_any (λ sent. same_place (place_of_letter letter) (place_of sent.batch)) (queue_at letter.source (shard_of letter.domain letter.workflow header.shards) w) ≡ true
   pub named : is_named header cluster w letter.domain ≡ true
 
+-- the letters of each cluster
 abbrev pub LettersFit : Header → World → Type 0
 LettersFit header w = (cluster : ClusterNo) → IsCluster header cluster → AllByRecursion (IsLetterFit header w cluster) (cluster_at cluster w).letters
 
--- no report's number is above the number of lines run
+-- no beat is above the number of lines run
 abbrev pub BeatsAreSmall : Header → ℕ → World → Type 0
 BeatsAreSmall header lines w = (cluster : ClusterNo) → IsCluster header cluster → AllByRecursion (λ report. report.beat ≤ lines) (cluster_at cluster w).reports
 
--- reports of one activity, version and number are one, and each stands in the list of the version's writer
+-- reports of one activity, version and beat are one, and each stands in the list of the version's writer
 pub record ReportsAgree (header : Header) (w : World) : Type 0 where
-  pub one : (first second : ClusterNo) (report other : Report) → IsCluster header first → IsCluster header second → IsAmong (cluster_at first w).reports report
+  pub one : (first second : ClusterNo) (report other : ProgressReport) → IsCluster header first → IsCluster header second → IsAmong (cluster_at first w).reports report
       → IsAmong (cluster_at second w).reports other → report.activity ≡ other.activity → report.version ≡ other.version → report.beat ≡ other.beat → report ≡ other
   pub told : (cluster : ClusterNo) → IsCluster header cluster
       → AllByRecursion (λ report. IsSomeAnd (writer_of header.clusters report.version) (λ writer. IsAmong (cluster_at writer w).reports report)) (cluster_at cluster w).reports

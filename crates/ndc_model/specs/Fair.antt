@@ -1,4 +1,4 @@
--- Fair worlds: what holds of every world that a script comes to, in eight parts.
+-- Fair worlds: what is to hold of every world that a script comes to, in eight parts.
 use Rattle.std.specs.Prelude.{◌≡◌, ◌≢◌, ℕ, ◌*◌, ◌<◌, ◌≤◌, Bool, true, ◌||◌, is_some, AllPairs, List, map, length, take, Some, None, if◌then◌else◌}
 use Rattle.std.specs.List.{AllByRecursion, IsAmong, filter, flat_map, list_any}
 use Rattle.ndc_domain.specs.Clusters.{cluster_no, count_of, writer_of}
@@ -81,8 +81,8 @@ pub record IsOwn (header : Header) (cluster : ClusterNo) (shard : ℕ) (table : 
   pub recorded : HasRecordFrom place.key.version place.domain table
 
 -- each cluster has written with versions of its own
-abbrev pub WritersOwnVersions : Header → World → Type 0
-WritersOwnVersions header w = EachCell header w (λ cluster shard cell. AllByRecursion (IsOwn header cluster shard (cluster_at cluster w).table cell) cell.written)
+abbrev pub WritersUseOwnVersions : Header → World → Type 0
+WritersUseOwnVersions header w = EachCell header w (λ cluster shard cell. AllByRecursion (IsOwn header cluster shard (cluster_at cluster w).table cell) cell.written)
 
 -- what has arrived was written, each batch once, and a batch has arrived exactly where the one that it carries has
 pub record IsArrivedFit (header : Header) (w : World) (shard : ℕ) (cell : Cell) : Type 0 where
@@ -91,6 +91,7 @@ pub record IsArrivedFit (header : Header) (w : World) (shard : ℕ) (cell : Cell
   pub carried : (b second : Batch) → IsAmong (all_written header shard w) b → IsAmong (all_written header shard w) second → carries b second ≡ true
       → has_arrived b cell ≡ has_arrived second cell
 
+-- the same of the cell of each cluster for each shard
 abbrev pub ArrivalsWereWritten : Header → World → Type 0
 ArrivalsWereWritten header w = EachCell header w (λ cluster shard cell. IsArrivedFit header w shard cell)
 
@@ -104,6 +105,7 @@ pub record IsLaneTrue (header : Header) (reader source : ClusterNo) (shard : ℕ
       (take lane.done (queue_at source shard w))
   pub flight : AllByRecursion (IsAmong (queue_at source shard w)) lane.flight
 
+-- the same of each lane
 abbrev pub LanesAreTrue : Header → World → Type 0
 LanesAreTrue header w = (reader source : ClusterNo) (shard : ℕ) → AreTwoClusters header reader source → shard < header.shards
     → IsLaneTrue header reader source shard w (lane_at header reader source shard w)
@@ -134,13 +136,14 @@ pub record RecordsAgree (header : Header) (lines : ℕ) (w : World) : Type 0 whe
 abbrev pub originals_in : List Batch → ℕ
 originals_in batches = count_kinds is_original (flat_map (λ b. b.events) batches)
 
--- what was written of a workflow is bounded by the lines run: tasks by batches, batches and original signals by lines; no batch is too long
+-- what was written of a workflow is bounded by the lines run: tasks by batches, batches and original signals by lines; no batch is longer than a history may be with what goes before and behind a command
 pub record AreNumbersSmall (lines : ℕ) (batches : List Batch) : Type 0 where
   pub tasks : AllByRecursion (λ b. b.key.task ≤ length batches) batches
   pub batches_most : length batches ≤ 2 * lines
   pub originals_most : originals_in batches ≤ lines
   pub events_most : AllByRecursion (λ b. length b.events ≤ 204803) batches
 
+-- the same of each workflow, and no more lines were run than a script has
 pub record NumbersAreSmall (header : Header) (lines : ℕ) (w : World) : Type 0 where
   pub written : (domain workflow : Name) → AreNumbersSmall lines (written_of header domain workflow w)
   pub lines_most : lines ≤ 100000
@@ -180,7 +183,7 @@ pub record IsShaped (header : Header) (w : World) : Type 0 where
 pub record IsFair (header : Header) (lines : ℕ) (w : World) : Type 0 where
   pub writing : WritingIsSound header w
   pub copies : CopiesNameOriginals header w
-  pub writers : WritersOwnVersions header w
+  pub writers : WritersUseOwnVersions header w
   pub arrivals : ArrivalsWereWritten header w
   pub lanes : LanesAreTrue header w
   pub records : RecordsAgree header lines w

@@ -1,4 +1,4 @@
--- Handing a domain over: begun at its active cluster, completed at the target once it has all that was written before.
+-- Handing a domain over: begun at its active cluster, the giver, and completed at the taker once this has all that was written before.
 use Rattle.std.specs.Prelude.{ℕ, Bool, not, is_some, nat_lt, List, [], ◌∷◌, ◌++◌, map, length, codes, decimal, find, slice_index_or, Option, Some, None, Result, Ok, Err, if◌then◌else◌, ◌&&◌}
 use Rattle.std.specs.List.{filter}
 use Rattle.std.specs.Str.{bytes_eq}
@@ -33,7 +33,7 @@ with_handover handover w = record w { handovers = w.handovers ++ handover ∷ []
 abbrev pub without_handover : Name → World → World
 without_handover domain w = record w { handovers = filter (λ handover. not (is_handover_of domain handover)) w.handovers }
 
--- the handover of a domain from its active cluster, by its record, to a version of the target: in each shard it is done where the queue ends now
+-- the handover of a domain between two clusters and two versions: each shard has to be done up to where the giver's queue ends now
 abbrev pub handover_of : Header → Name → ClusterNo → ClusterNo → ℕ → ℕ → World → Handover
 handover_of header domain giver taker old new w = record {
   domain = domain;
@@ -44,13 +44,13 @@ handover_of header domain giver taker old new w = record {
   places = map (λ shard. length (queue_at giver shard w)) (shards_of header);
 }
 
--- a handover begins where the domain fails over to the target
+-- a handover begins where the domain fails over to the taker
 abbrev pub handover_begun : Header → ClusterNo → Name → ClusterNo → DomainRecord → World → Result (ℕ × List DomainRecord) FailoverError → Stepped
 handover_begun header at domain target one w (Err error) = answered w (refused (failover_words error))
 handover_begun header at domain target one w (Ok answer) =
     answered (with_handover (handover_of header domain at target one.version answer.0 w) (with_table at answer.1 w)) (ok (decimal answer.0 ∷ []))
 
--- and where the version of the cluster's record is its own
+-- a handover begins only where the version of the giver's record is its own
 abbrev pub handover_by : Header → ClusterNo → Name → ClusterNo → World → Option DomainRecord → Stepped
 handover_by header at domain target w None = answered w (refused (refusal_words UnknownDomain))
 handover_by header at domain target w (Some one) =
@@ -73,24 +73,25 @@ abbrev pub version_or_zero : Option DomainRecord → ℕ
 version_or_zero None = 0
 version_or_zero (Some one) = one.version
 
--- how far the target has to be done in a shard, and how far it is
+-- how far the taker has to be done in a shard
 abbrev pub place_in : Handover → ℕ → ℕ
 place_in handover shard = slice_index_or handover.places shard 0
 
+-- how far it is done
 abbrev pub done_in : Header → Handover → World → ℕ → ℕ
 done_in header handover w shard = (lane_at header handover.taker handover.giver shard w).done
 
--- the first shard in which the target is not done with what was written before the handover
+-- the first shard in which the taker is not done with what was written before the handover
 abbrev pub lagging_shard : Header → Handover → World → Option ℕ
 lagging_shard header handover w = find (λ shard. nat_lt (done_in header handover w shard) (place_in handover shard)) (shards_of header)
 
--- the target merges the one record, and the handover ends
+-- the taker merges the one record, and the handover ends
 abbrev pub handed_over : Handover → World → World
 handed_over handover w =
     without_handover handover.domain
     (with_table handover.taker (merged (cluster_at handover.taker w).table (only_of (cluster_at handover.giver w).table handover.domain)) w)
 
--- the version of the target's record of the domain
+-- the version of the taker's record of the domain
 abbrev pub taken_version : Handover → World → ℕ
 taken_version handover w = version_or_zero (record_of (cluster_at handover.taker w).table handover.domain)
 
@@ -100,18 +101,18 @@ complete_lagging header handover w None = answered (handed_over handover w) (ok 
 complete_lagging header handover w (Some shard) =
     answered w (refused (codes "NotYet" ∷ decimal shard ∷ decimal (done_in header handover w shard) ∷ decimal (place_in handover shard) ∷ []))
 
--- the target's record may have come to a version not below the new one: this ends the handover
+-- the taker's record may have come to a version not below the new one: this ends the handover
 abbrev pub complete_overtaken : Header → Handover → World → Option ℕ → Stepped
 complete_overtaken header handover w (Some version) = answered (without_handover handover.domain w) (refused (codes "Overtaken" ∷ decimal version ∷ []))
 complete_overtaken header handover w None =
     if is_late header handover.taker handover.giver handover.domain w then answered w (refused (codes "BootstrapDue" ∷ []))
     else complete_lagging header handover w (lagging_shard header handover w)
 
--- the open handover of a domain to a target, where there is one
+-- the open handover of a domain to a taker, where there is one
 abbrev pub handover_to : ClusterNo → Name → World → Option Handover
 handover_to taker domain w = find (λ handover. is_handover_of domain handover && same_cluster handover.taker taker) w.handovers
 
--- the target completes a handover to it
+-- the taker completes a handover to it
 abbrev pub complete_open : Header → World → Option Handover → Stepped
 complete_open header w None = answered w (refused (codes "NoHandover" ∷ []))
 complete_open header w (Some handover) =

@@ -13,10 +13,11 @@ use Rattle.ndc_model.specs.World.{World}
 abbrev pub begins_with : List ℕ → List ℕ → Bool
 begins_with front text = bytes_eq (take (length front) text) front
 
--- whether an answer is a refusal, and whether it is the one that ends a handover
+-- whether an answer is a refusal
 abbrev pub is_refusal : List ℕ → Bool
 is_refusal answer = begins_with (codes "refused") answer
 
+-- whether an answer is the refusal that ends a handover
 abbrev pub is_overtaken : List ℕ → Bool
 is_overtaken answer = begins_with (codes "refused Overtaken") answer
 

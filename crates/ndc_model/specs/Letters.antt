@@ -1,4 +1,4 @@
--- Dead letters: messages that came damaged and were set aside.
+-- Letters: messages that came damaged and were set aside.
 use Rattle.std.specs.Prelude.{ℕ, Bool, false, List, [], ◌∷◌, ◌++◌, length, take, codes, decimal, slice_get, Option, Some, None, Result, Ok, Err, if◌then◌else◌, remove}
 use Rattle.std.specs.List.{flat_map, fold}
 use Rattle.ndc_domain.specs.Clusters.{name_of}
@@ -51,11 +51,12 @@ damaged header reader source shard place w letter =
     (with_lane reader source shard (record (lane_at header reader source shard w) { flight = remove (flight_at header reader source shard w) place }) w))
     (ok (codes "aside" ∷ []))
 
--- `damage`: so many bytes of the message at a place arrive
+-- so many bytes of the message at a place arrive, where there is one
 abbrev pub damage_at : Header → ClusterNo → ClusterNo → ℕ → ℕ → ℕ → World → Option Message → Stepped
 damage_at header reader source shard place cut w None = answered w (refused (codes "NoSuchPlace" ∷ []))
 damage_at header reader source shard place cut w (Some sent) = damaged header reader source shard place w (letter_of source cut sent)
 
+-- `damage`
 abbrev pub damage_step : Header → ClusterNo → ClusterNo → ℕ → ℕ → ℕ → World → Stepped
 damage_step header reader source shard place cut w =
     damage_at header reader source shard place cut w (slice_get (flight_at header reader source shard w) place)

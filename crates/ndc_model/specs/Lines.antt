@@ -90,7 +90,7 @@ abbrev pub ran_from : Header → World → List Line → List Ran
 ran_from header w [] = []
 ran_from header w (line ∷ lines) = ran_behind line.number (act_step header line.act w) (λ v. ran_from header v lines)
 
--- the world that lines left, where some were run
+-- the world that lines left, or the one before them where none was run
 abbrev pub world_behind : World → List Ran → World
 world_behind w [] = w
 world_behind w (run ∷ runs) = world_behind run.step.world runs

@@ -14,10 +14,11 @@ use Rattle.ndc_model.specs.Queues.{Lane, after_pull, after_renewal, after_rewind
 use Rattle.ndc_model.specs.World.{Link, World, all_clusters, cell_at, cluster_at, home_at, lane_at, link_at, others_of, queue_at, shards_of, trimmed_at, with_cell, with_lane, with_link, with_table}
 use Rattle.ndc_model.specs.Writing.{reapplication_of, with_all_written}
 
--- the hash of a workflow's place: over the domain's bytes, a zero byte and the workflow's bytes
+-- one more byte in a hash
 abbrev pub hashed : ℕ → ℕ → ℕ
 hashed hash byte = bit_xor hash byte * 16777619 % 2 ^ 32
 
+-- the hash of a workflow: over the domain's bytes, a zero byte and the workflow's bytes
 abbrev pub hash_of : Name → Name → ℕ
 hash_of domain workflow = fold hashed 2166136261 (domain ++ 0 ∷ workflow)
 
@@ -58,10 +59,11 @@ abbrev pub trim_to : Header → ClusterNo → World → ℕ → ℕ
 trim_to header source w shard =
     trim_level (queue_at source shard w) (map (λ reader. (lane_at header reader source shard w).done) (others_of header source))
 
--- the queues of a source are trimmed: what is trimmed only rises
+-- how far the queue of a source comes to be trimmed for a shard: never less than before
 abbrev pub trimmed_level : Header → ClusterNo → World → ℕ → ℕ
 trimmed_level header source w shard = max (trimmed_at source w shard) (trim_to header source w shard)
 
+-- the queues of a source are trimmed
 abbrev pub trimmed_all : Header → ClusterNo → World → World
 trimmed_all header source w = record w { trimmed = slice_set w.trimmed source.number (map (trimmed_level header source w) (shards_of header)) }
 
@@ -195,13 +197,15 @@ settled_once header t =
     (fold (λ v reader. fold (bootstrapped header reader) v (others_of header reader))
     (quietly (λ w. fold (merged_all header) w (all_clusters header)) t) (all_clusters header)) (all_clusters header)) (all_clusters header)
 
--- nothing is in flight
+-- nothing is in flight in a lane
 abbrev pub without_flight : Lane → Lane
 without_flight lane = record lane { flight = [] }
 
+-- nothing is in flight from a source to a reader
 abbrev pub link_without_flights : Link → Link
 link_without_flights link = record link { lanes = map without_flight link.lanes }
 
+-- nothing is in flight
 abbrev pub without_flights : World → World
 without_flights w = record w { links = map link_without_flights w.links }
 

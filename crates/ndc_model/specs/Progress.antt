@@ -23,7 +23,7 @@ use Rattle.ndc_model.specs.Moves.{cell_of}
 use Rattle.ndc_model.specs.Reading.{learned_at, read_answer, tip_answer}
 use Rattle.ndc_model.specs.Steps.{Stepped, answered, error_answer}
 use Rattle.ndc_model.specs.Texts.{ok, refused}
-use Rattle.ndc_model.specs.World.{ActivityRef, Report, World, cluster_at, home_at, with_cluster}
+use Rattle.ndc_model.specs.World.{ActivityRef, ProgressReport, World, cluster_at, home_at, with_cluster}
 use Rattle.ndc_model.specs.Writing.{Home, as_command_error, may_write}
 
 -- whether two activities are one
@@ -32,22 +32,22 @@ same_activity one two =
     bytes_eq one.domain two.domain && (bytes_eq one.workflow two.workflow && (same_run one.run two.run && ((one.scheduled == two.scheduled) && (one.version == two.version))))
 
 -- the first report comes before the second: by version, then beat
-abbrev pub report_lt : Report → Report → Bool
+abbrev pub report_lt : ProgressReport → ProgressReport → Bool
 report_lt one two = nat_lt one.version two.version || ((one.version == two.version) && nat_lt one.beat two.beat)
 
 -- the greater of a report and another one, where there is another
-abbrev pub greater_report : Report → Option Report → Report
+abbrev pub greater_report : ProgressReport → Option ProgressReport → ProgressReport
 greater_report one None = one
 greater_report one (Some two) = if report_lt one two then two else one
 
 -- the report that is held of an activity: the greatest of it
-abbrev pub held : ActivityRef → List Report → Option Report
+abbrev pub held : ActivityRef → List ProgressReport → Option ProgressReport
 held activity [] = None
 held activity (report ∷ reports) =
     if same_activity activity report.activity then Some (greater_report report (held activity reports)) else held activity reports
 
 -- the reports of a cluster become others
-abbrev pub with_reports : ClusterNo → List Report → World → World
+abbrev pub with_reports : ClusterNo → List ProgressReport → World → World
 with_reports cluster reports w = with_cluster cluster (record (cluster_at cluster w) { reports = reports }) w
 
 -- the version of the event with this id, 0 where there is none
@@ -81,13 +81,13 @@ told_of home domain workflow id cell =
     >>= λ version. started_activity domain workflow id (learned_of domain workflow cell) (workflow_tip (learned_of domain workflow cell))
     >>= λ activity. Ok (version, activity)
 
--- the number of the next report of an activity: one more than that of the held one, where this has the same version
-abbrev pub next_beat : ℕ → Option Report → ℕ
+-- the beat of the next report of an activity: one more than that of the held one, where this has the same version
+abbrev pub next_beat : ℕ → Option ProgressReport → ℕ
 next_beat version None = 1
 next_beat version (Some report) = if report.version == version then report.beat + 1 else 1
 
 -- the version of a held report that is above another one, where it is so
-abbrev pub stale_by : ℕ → Option Report → Option ℕ
+abbrev pub stale_by : ℕ → Option ProgressReport → Option ℕ
 stale_by version None = None
 stale_by version (Some report) = if nat_lt version report.version then Some report.version else None
 
@@ -101,6 +101,7 @@ beat_unless cluster version activity details w None =
     ++ record { activity = activity; version = version; beat = next_beat version (held activity (cluster_at cluster w).reports); details = details } ∷ []) w)
     (ok (decimal version ∷ decimal (next_beat version (held activity (cluster_at cluster w).reports)) ∷ []))
 
+-- a report is told, or the line is refused
 abbrev pub beat_by : ClusterNo → Name → World → Result (ℕ × ActivityRef) CommandError → Stepped
 beat_by cluster details w (Err error) = answered w (error_answer error)
 beat_by cluster details w (Ok told) = beat_unless cluster told.0 told.1 details w (stale_by told.0 (held told.1 (cluster_at cluster w).reports))
@@ -111,12 +112,12 @@ beat_step header cluster domain workflow id details w =
     beat_by cluster details w (told_of (home_at header cluster w) domain workflow id (cell_of header cluster domain workflow w))
 
 -- the activities of reports, each once
-abbrev pub activities_of : List Report → List ActivityRef
+abbrev pub activities_of : List ProgressReport → List ActivityRef
 activities_of [] = []
 activities_of (report ∷ reports) = report.activity ∷ filter (λ other. not (same_activity report.activity other)) (activities_of reports)
 
 -- whether the second report takes the place of the first
-abbrev pub replaces : Option Report → Option Report → Bool
+abbrev pub replaces : Option ProgressReport → Option ProgressReport → Bool
 replaces one None = false
 replaces None (Some two) = true
 replaces (Some one) (Some two) = report_lt one two
@@ -127,12 +128,13 @@ sync_step to from w =
     answered (with_reports to ((cluster_at to w).reports ++ (cluster_at from w).reports) w)
     (ok (decimal (count_by (λ activity. replaces (held activity (cluster_at to w).reports) (held activity (cluster_at from w).reports)) (activities_of (cluster_at from w).reports)) ∷ []))
 
--- what is held of an activity: version, number and details
-abbrev pub report_answer : Option Report → List ℕ
+-- what is held of an activity: version, beat and details
+abbrev pub report_answer : Option ProgressReport → List ℕ
 report_answer None = refused (codes "NoProgress" ∷ [])
 report_answer (Some report) = ok (decimal report.version ∷ decimal report.beat ∷ report.details ∷ [])
 
-abbrev pub activity_answer : List Report → Result ActivityRef CommandError → List ℕ
+-- what is held of an activity, or why there is none
+abbrev pub activity_answer : List ProgressReport → Result ActivityRef CommandError → List ℕ
 activity_answer reports (Err error) = error_answer error
 activity_answer reports (Ok activity) = report_answer (held activity reports)
 

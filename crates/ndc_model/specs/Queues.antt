@@ -36,6 +36,7 @@ names_cluster reader (Some one) = has_member one.members reader.number
 abbrev pub is_addressed : ClusterNo → List DomainRecord → Message → Bool
 is_addressed reader table sent = names_cluster reader (record_of table sent.batch.domain)
 
+-- whether the batch that is carried is learned, where there is one
 abbrev pub is_second_learned : Cell → Option Batch → Bool
 is_second_learned cell None = true
 is_second_learned cell (Some second) = is_learned_in cell second
@@ -87,7 +88,7 @@ after_rewind lane = record lane { read = lane.done }
 
 -- up to where a queue can be trimmed: the least `done` of the other clusters, or its length where there is none
 abbrev pub trim_level : List Message → List ℕ → ℕ
-trim_level queue dones = unwrap_or (reduce min dones) (length queue)
+trim_level queue levels = unwrap_or (reduce min levels) (length queue)
 
 -- losing the message at a place, where there is one
 abbrev pub after_loss : ℕ → List Message → Option (List Message)

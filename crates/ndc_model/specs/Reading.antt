@@ -22,7 +22,7 @@ use Rattle.ndc_model.specs.World.{World}
 abbrev pub learned_at : Header → ClusterNo → Name → Name → World → List Batch
 learned_at header cluster domain workflow w = learned_of domain workflow (cell_of header cluster domain workflow w)
 
--- the answer of a line that reads a workflow: nothing of it may be learned
+-- the answer of a line that reads a workflow: refused where nothing of it is learned
 abbrev pub read_answer : (List Batch → List ℕ) → List Batch → List ℕ
 read_answer answer [] = refused (codes "NoWorkflow" ∷ [])
 read_answer answer (b ∷ batches) = answer (b ∷ batches)

@@ -15,7 +15,7 @@ use Rattle.ndc_model.specs.Lines.{answers_of, ran_of, seen_in}
 use Rattle.ndc_model.specs.Steps.{Seen}
 use Rattle.ndc_model.specs.Texts.{spaced}
 
--- an indexer that is asked for: its name, the numbers of its calls that fail, with_one_more from 1, and the text that it appends of its own
+-- an indexer that is asked for: its name, the numbers of its calls that fail, counted from 1, and the text that it appends of its own
 pub record Indexer : Type 0 where
   pub name : Name
   pub failing : List ℕ
@@ -61,11 +61,12 @@ is_close _ = false
 abbrev pub open_text : List Event → List ℕ
 open_text events = codes "started " ++ decimal (count_kinds is_start events) ++ codes " closed " ++ decimal (count_kinds is_close events)
 
--- whether the kind is a signal without an origin, and whether it is one with an origin
+-- whether the kind is a signal without an origin
 abbrev pub is_original : EventKind → Bool
 is_original (WorkflowExecutionSignaled name input origin) = is_none origin
 is_original _ = false
 
+-- whether the kind is a signal with an origin
 abbrev pub is_copy : EventKind → Bool
 is_copy (WorkflowExecutionSignaled name input origin) = is_some origin
 is_copy _ = false

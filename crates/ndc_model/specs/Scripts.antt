@@ -25,27 +25,31 @@ use Rattle.ndc_model.specs.Lines.{ran_of, seen_in}
 use Rattle.ndc_model.specs.Report.{Indexer, index_line}
 use Rattle.ndc_model.specs.Texts.{ok, refused}
 
--- clusters A, B and C
+-- the cluster A
 abbrev pub A : ClusterNo
 A = cluster_no 0
 
+-- the cluster B
 abbrev pub B : ClusterNo
 B = cluster_no 1
 
+-- the cluster C
 abbrev pub C : ClusterNo
 C = cluster_no 2
 
--- headers of one cluster and of three
+-- the header of clusters with so many shards
 abbrev pub of_clusters : ℕ → List (List ℕ × ℕ) → Header
 of_clusters shards members = record { clusters = record { increment = 10; members = members }; shards = shards; limit = 100 }
 
+-- the header of A alone
 abbrev pub one_cluster : ℕ → Header
 one_cluster shards = of_clusters shards ((codes "A", 1) ∷ [])
 
+-- the header of A, B and C
 abbrev pub three_clusters : Header
 three_clusters = of_clusters 1 ((codes "A", 1) ∷ (codes "B", 2) ∷ (codes "C", 3) ∷ [])
 
--- lines numbered from one on
+-- lines numbered from this number on
 abbrev pub numbered : ℕ → List Act → List Line
 numbered number [] = []
 numbered number (asked ∷ acts) = record { number = number; act = asked } ∷ numbered (number + 1) acts
@@ -54,43 +58,52 @@ numbered number (asked ∷ acts) = record { number = number; act = asked } ∷ n
 abbrev pub answers : Header → List Line → List (ℕ × List ℕ)
 answers header lines = map (λ run. (run.number, run.step.answer)) (ran_of (script_of header lines))
 
--- lines on the domain alpha, and commands to its workflow w1
+-- A registers the domain alpha
 abbrev pub register : ClusterNo → List ℕ → Act
 register target members = act.Register A (codes "alpha") target 7 members
 
+-- alpha fails over at a cluster
 abbrev pub failover : ClusterNo → ClusterNo → Act
 failover at target = act.Failover at (codes "alpha") target
 
+-- a command to alpha's workflow w1
 abbrev pub ask : ClusterNo → Command → Act
 ask cluster asked = act.Command cluster (codes "alpha") (codes "w1") asked
 
+-- a cluster begins it
 abbrev pub start : ClusterNo → Act
 start cluster = ask cluster (command.Start (codes "order"))
 
+-- a cluster signals it
 abbrev pub signal : ClusterNo → List ℕ → List ℕ → Act
 signal cluster name input = ask cluster (command.Signal name input)
 
--- a number, a key or a word as an answer, and a refusal
+-- a number as an answer
 abbrev pub number : ℕ → List ℕ
 number n = ok (decimal n ∷ [])
 
+-- the key of what was written
 abbrev pub wrote : ℕ → ℕ → List ℕ
 wrote version task = ok (key_text (key version task) ∷ [])
 
+-- an answer of no word
 abbrev pub plain_ok : List ℕ
 plain_ok = ok []
 
+-- a refusal
 abbrev pub refusal : List ℕ → List ℕ
 refusal word = refused (word ∷ [])
 
+-- a refusal with a number
 abbrev pub refusal_with : List ℕ → ℕ → List ℕ
 refusal_with word n = refused (word ∷ decimal n ∷ [])
 
--- the answer of `work`, and of a settlement
+-- the answer of `work`
 abbrev pub work : ℕ → ℕ → ℕ → ℕ → List ℕ
 work learned known putoff reapplied =
     ok (codes "learned" ∷ decimal learned ∷ codes "known" ∷ decimal known ∷ codes "putoff" ∷ decimal putoff ∷ codes "reapplied" ∷ decimal reapplied ∷ [])
 
+-- the answer of a settlement
 abbrev pub settlement : ℕ → ℕ → List ℕ
 settlement learned reapplied = ok (codes "learned" ∷ decimal learned ∷ codes "reapplied" ∷ decimal reapplied ∷ [])
 
@@ -113,10 +126,11 @@ state next decision signals = ok (state_as next decision signals ∷ [])
 abbrev pub run_word : ℕ → ℕ → List ℕ
 run_word version task = run_text (run_of (key version task))
 
--- a line of a run, with its status and mark, and a line of a branch, with its history and mark
+-- a line of a run, with its status and mark
 abbrev pub run_as : ℕ → ℕ → List ℕ → List ℕ → List ℕ
 run_as version task status mark = codes "run " ++ run_word version task ++ codes " " ++ status ++ mark ++ codes "\n"
 
+-- a line of a branch, with its history and mark
 abbrev pub branch_as : ℕ → ℕ → List Item → List ℕ → List ℕ
 branch_as version task history mark =
     codes "branch " ++ key_text (key version task) ++ codes " " ++ with_commas (map item_text history) ++ mark ++ codes "\n"
@@ -125,10 +139,11 @@ branch_as version task history mark =
 abbrev pub runs_as : List (List ℕ × List (List ℕ)) → List ℕ
 runs_as runs = ok (decimal (length runs) ∷ []) ++ flat_map (λ run. run.0 ++ flat_map (λ branch. branch) run.1) runs
 
--- the answer of `history`
+-- a line of `history`
 abbrev pub event_as : ℕ → ℕ → List ℕ → List ℕ
 event_as id version kind = decimal id ++ codes "@" ++ decimal version ++ codes " " ++ kind ++ codes "\n"
 
+-- the answer of `history`
 abbrev pub history_as : List (List ℕ) → List ℕ
 history_as events = ok (decimal (length events) ∷ []) ++ flat_map (λ event. event) events
 
@@ -137,6 +152,7 @@ abbrev pub gap_as : BatchKey → Item → Item → BatchKey → List ℕ
 gap_as key after before missing =
     codes "gap alpha w1 " ++ key_text key ++ codes " after " ++ item_text after ++ codes " before " ++ item_text before ++ codes " missing " ++ key_text missing ++ codes "\n"
 
+-- the answer of `gaps`
 abbrev pub gaps_as : List (List ℕ) → List ℕ
 gaps_as gaps = ok (decimal (length gaps) ∷ []) ++ (flat_map (λ gap. gap) gaps ++ [])
 
@@ -144,17 +160,18 @@ gaps_as gaps = ok (decimal (length gaps) ∷ []) ++ (flat_map (λ gap. gap) gaps
 abbrev pub letter_as : ℕ → List ℕ
 letter_as size = codes "letter A alpha w1 " ++ key_text (key 1 1) ++ codes " " ++ decimal size ++ codes "\n"
 
+-- the answer of `letters`
 abbrev pub letters_as : List (List ℕ) → List ℕ
 letters_as letters = ok (decimal (length letters) ∷ []) ++ flat_map (λ letter. letter) letters
 
--- the workflow that A began and signalled
-abbrev pub begun_and_signalled : List Batch
-begun_and_signalled = begun ∷ signaled (key 1 2) (key 1 1) 3 (signal_kind (codes "ping") (codes "x")) ∷ []
+-- the workflow that A began and signaled
+abbrev pub begun_with_a_signal : List Batch
+begun_with_a_signal = begun ∷ signaled (key 1 2) (key 1 1) 3 (signal_kind (codes "ping") (codes "x")) ∷ []
 
 -- its dump
 abbrev pub dumped : List ℕ
 dumped =
-    codes "dump 2 alpha w1\n" ++ flat_map (λ b. batch_text b ++ codes "\n") begun_and_signalled
+    codes "dump 2 alpha w1\n" ++ flat_map (λ b. batch_text b ++ codes "\n") begun_with_a_signal
     ++ flat_map (λ line. line) ((run_as 1 1 (codes "open") (codes " current")
     ++ flat_map (λ line. line) ((branch_as 1 2 (item 3 1 ∷ []) (codes " current") ++ codes "state " ++ state_as 4 2 1 ++ codes "\n") ∷ [])) ∷ []) ++ codes "end\n"
 
@@ -205,10 +222,11 @@ with_repeats =
     register A (0 ∷ 1 ∷ 2 ∷ []) ∷ act.Domains B A ∷ start A ∷ act.Pull B A ∷ act.Work B ∷ failover B B ∷ signal B (codes "b1") (codes "y") ∷ signal A (codes "a1") (codes "x")
     ∷ act.Pull C B ∷ act.Work C ∷ act.Gaps C ∷ act.LevelsOf C B 0 ∷ act.Pull C A ∷ act.Repeat C A 0 1 ∷ act.Move C A 0 1 0 ∷ act.Work C ∷ []
 
--- a burst with a run that goes on as a new one
+-- a command in a burst
 abbrev pub job : ℕ → List ℕ → Command → BurstJob
 job number workflow asked = record { number = number; domain = codes "alpha"; workflow = workflow; command = asked }
 
+-- a burst with a run that goes on as a new one
 abbrev pub with_a_burst : List Line
 with_a_burst =
     record { number = 6; act = act.Register A (codes "alpha") A 7 (0 ∷ []) }
@@ -258,13 +276,15 @@ with_a_reset_of_a_closed_run =
     act.Register A (codes "alpha") A 7 (0 ∷ []) ∷ start A ∷ signal A (codes "p") (codes "x") ∷ ask A command.Decide ∷ ask A (command.Respond (action.Timer (codes "t") ∷ []))
     ∷ signal A (codes "q") (codes "y") ∷ ask A (command.Terminate (codes "stop")) ∷ act.Reset A (codes "alpha") (codes "w1") 5 ∷ act.Current A (codes "alpha") (codes "w1") ∷ []
 
--- an activity whose progress is told, and told on
+-- a cluster tells of the activity
 abbrev pub beat : ClusterNo → List ℕ → Act
 beat cluster details = act.Beat cluster (codes "alpha") (codes "w1") (codes "pay") details
 
+-- a cluster shows what it holds of it
 abbrev pub progress : ClusterNo → Act
 progress cluster = act.ProgressOf cluster (codes "alpha") (codes "w1") (codes "pay")
 
+-- an activity whose progress is told, and told on
 abbrev pub with_progress : List Act
 with_progress =
     register A (0 ∷ 1 ∷ []) ∷ act.Domains B A ∷ start A ∷ ask A command.Decide ∷ ask A (command.Respond (action.Activity (codes "pay") (codes "charge") ∷ []))

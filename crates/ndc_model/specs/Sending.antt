@@ -22,11 +22,12 @@ abbrev pub pull_count : Header → ClusterNo → ClusterNo → Option ℕ → Wo
 pull_count header reader source count w shard =
     length (put_in_flight reader (cluster_at source w).table count (queue_at source shard w) (lane_at header reader source shard w))
 
--- `pull` for every shard, and for one
+-- `pull` for every shard
 abbrev pub pull_step : Header → ClusterNo → ClusterNo → World → Stepped
 pull_step header reader source w =
     answered (pulled_all header reader source w) (ok (decimal (sum (map (pull_count header reader source None w) (shards_of header))) ∷ []))
 
+-- `pull` for one shard, at most so many
 abbrev pub pull_some_step : Header → ClusterNo → ClusterNo → ℕ → ℕ → World → Stepped
 pull_some_step header reader source shard count w =
     answered (pulled_shard header reader source (Some count) w shard) (ok (decimal (pull_count header reader source (Some count) w shard) ∷ []))
@@ -41,21 +42,24 @@ flight_step header reader source shard w (Some flight) =
 abbrev pub flight_at : Header → ClusterNo → ClusterNo → ℕ → World → List Message
 flight_at header reader source shard w = (lane_at header reader source shard w).flight
 
--- `lose`, `repeat`, `move`
+-- `lose`
 abbrev pub lose_step : Header → ClusterNo → ClusterNo → ℕ → ℕ → World → Stepped
 lose_step header reader source shard place w = flight_step header reader source shard w (after_loss place (flight_at header reader source shard w))
 
+-- `repeat`
 abbrev pub repeat_step : Header → ClusterNo → ClusterNo → ℕ → ℕ → World → Stepped
 repeat_step header reader source shard place w = flight_step header reader source shard w (after_repeat place (flight_at header reader source shard w))
 
+-- `move`
 abbrev pub move_step : Header → ClusterNo → ClusterNo → ℕ → ℕ → ℕ → World → Stepped
 move_step header reader source shard place to w = flight_step header reader source shard w (after_move place to (flight_at header reader source shard w))
 
--- `work`
+-- how many batches became learned, how many messages were known and put off, and how many batches were applied again
 abbrev pub work_words : List Note → List (List ℕ)
 work_words notes =
     codes "learned" ∷ total learned_by notes ∷ codes "known" ∷ total known_by notes ∷ codes "putoff" ∷ total put_off_by notes ∷ codes "reapplied" ∷ total applied_by notes ∷ []
 
+-- `work`
 abbrev pub work_step : Header → ClusterNo → World → Stepped
 work_step header cluster w = moved (worked header cluster w) (work_words (worked header cluster w).notes)
 
@@ -72,14 +76,14 @@ levels_answer header reader source shard w =
     ∷ codes "flight" ∷ decimal (length (flight_at header reader source shard w)) ∷ [])
 
 -- an item, or the one before all
-abbrev pub item_or_none : Option Item → Item
-item_or_none None = record { id = 0; version = 0 }
-item_or_none (Some item) = item
+abbrev pub item_or_zero : Option Item → Item
+item_or_zero None = record { id = 0; version = 0 }
+item_or_zero (Some item) = item
 
 -- where the gap of a batch that is put off begins: the last event of its last learned ancestor in its own run
 abbrev pub gap_after : Header → ℕ → World → Cell → Batch → Item
 gap_after header shard w cell b =
-    item_or_none (last_item_of (history_of (filter (is_learned_in cell) (path_to b.key (filter (is_of b.domain b.workflow) (all_written header shard w))))))
+    item_or_zero (last_item_of (history_of (filter (is_learned_in cell) (path_to b.key (filter (is_of b.domain b.workflow) (all_written header shard w))))))
 
 -- the key of what is missing
 abbrev pub missing_text : Option BatchKey → List ℕ
@@ -93,18 +97,20 @@ gap_line header shard w cell b =
     ++ codes " before " ++ item_text (record { id = first_id b.events; version = b.key.version })
     ++ codes " missing " ++ missing_text (missing_of b (arrived_of b.domain b.workflow cell)) ++ codes "\n"
 
--- `gaps`: a line for each batch that is put off, by shard and place
+-- a line for each batch that is put off in a shard, by place
 abbrev pub gap_lines : Header → ClusterNo → World → ℕ → List ℕ
 gap_lines header cluster w shard = flat_map (gap_line header shard w (cell_at cluster shard w)) (put_off_in (cell_at cluster shard w))
 
+-- `gaps`: how many batches are put off, and their lines by shard
 abbrev pub gaps_answer : Header → ClusterNo → World → List ℕ
 gaps_answer header cluster w =
     ok (decimal (sum (map (λ shard. length (put_off_in (cell_at cluster shard w))) (shards_of header))) ∷ []) ++ flat_map (gap_lines header cluster w) (shards_of header)
 
--- `resend`
+-- how many batches arrived and how many became learned
 abbrev pub arrived_words : List Note → List (List ℕ)
 arrived_words notes = codes "arrived" ∷ total arrived_by notes ∷ codes "learned" ∷ total learned_by notes ∷ []
 
+-- `resend`
 abbrev pub resend_step : Header → ClusterNo → World → Stepped
 resend_step header cluster w = moved (resent header cluster w) (arrived_words (resent header cluster w).notes)
 

@@ -41,6 +41,7 @@ seen_by (came cluster count known) = []
 seen_by (came cluster count (put_off missing)) = []
 seen_by (applied cluster b) = seen_at cluster (b ∷ [])
 
+-- what moves made learned, in order
 abbrev pub seen_of : List Note → List Seen
 seen_of notes = flat_map seen_by notes
 
@@ -51,29 +52,31 @@ learned_by (came cluster count known) = 0
 learned_by (came cluster count (put_off missing)) = 0
 learned_by (applied cluster b) = 0
 
--- whether a message was known, and whether it was put off
+-- whether a message was known
 abbrev pub known_by : Note → ℕ
 known_by (came cluster count known) = 1
 known_by (came cluster count (learned_now batches)) = 0
 known_by (came cluster count (put_off missing)) = 0
 known_by (applied cluster b) = 0
 
+-- whether a message was put off
 abbrev pub put_off_by : Note → ℕ
 put_off_by (came cluster count (put_off missing)) = 1
 put_off_by (came cluster count known) = 0
 put_off_by (came cluster count (learned_now batches)) = 0
 put_off_by (applied cluster b) = 0
 
--- how many batches arrived, and how many were applied again
+-- how many batches arrived
 abbrev pub arrived_by : Note → ℕ
 arrived_by (came cluster count arrival) = count
 arrived_by (applied cluster b) = 0
 
+-- how many batches were applied again
 abbrev pub applied_by : Note → ℕ
 applied_by (came cluster count arrival) = 0
 applied_by (applied cluster b) = 1
 
--- how much moves count up to, in print
+-- the sum of a count over notes, in decimal
 abbrev pub total : (Note → ℕ) → List Note → List ℕ
 total count notes = decimal (sum (map count notes))
 

@@ -23,7 +23,7 @@ abbrev pub table_step : {E : Type 0} → (E → List (List ℕ)) → ClusterNo �
 table_step words cluster w (Ok answer) = answered (with_table cluster answer.1 w) (ok (decimal answer.0 ∷ []))
 table_step words cluster w (Err error) = answered w (refused (words error))
 
--- how refusals on domains are printed
+-- how the refusals of `register` are printed
 abbrev pub register_words : DomainError → List (List ℕ)
 register_words register.NotPrimary = codes "NotPrimary" ∷ []
 register_words register.DomainExists = codes "DomainExists" ∷ []
@@ -31,16 +31,19 @@ register_words register.UnknownTarget = codes "UnknownTarget" ∷ []
 register_words register.NotMember = codes "NotMember" ∷ []
 register_words register.Memory = []
 
+-- how the refusals of `retain` are printed
 abbrev pub retain_words : RetainError → List (List ℕ)
 retain_words retain.NotPrimary = codes "NotPrimary" ∷ []
 retain_words retain.UnknownDomain = codes "UnknownDomain" ∷ []
 
+-- how the refusals of `failover` are printed
 abbrev pub failover_words : FailoverError → List (List ℕ)
 failover_words failover.UnknownDomain = codes "UnknownDomain" ∷ []
 failover_words failover.UnknownTarget = codes "UnknownTarget" ∷ []
 failover_words failover.VersionLimit = codes "VersionLimit" ∷ []
 failover_words failover.NotMember = codes "NotMember" ∷ []
 
+-- how the refusals of `join` are printed
 abbrev pub join_words : JoinError → List (List ℕ)
 join_words join.NotPrimary = codes "NotPrimary" ∷ []
 join_words join.UnknownDomain = codes "UnknownDomain" ∷ []

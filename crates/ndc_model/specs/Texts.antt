@@ -10,10 +10,11 @@ use Rattle.ndc_event.specs.declared.batch.Event.{Event}
 abbrev pub spaced : List (List ℕ) → List ℕ
 spaced words = flat_map (λ word. codes " " ++ word) words
 
--- the answer of a line that was done, and of one that was refused
+-- the answer of a line that was done
 abbrev pub ok : List (List ℕ) → List ℕ
 ok words = codes "ok" ++ spaced words ++ codes "\n"
 
+-- the answer of a line that was refused
 abbrev pub refused : List (List ℕ) → List ℕ
 refused words = codes "refused" ++ spaced words ++ codes "\n"
 

@@ -1,4 +1,4 @@
--- Small worked cells: a workflow at cluster A, and at cluster B after a failover.
+-- Small worked cells and worlds: a workflow at cluster A, and at cluster B after a failover.
 use Rattle.std.specs.Prelude.{ℕ, List, [], ◌∷◌, codes, Some, None, remove}
 use Rattle.ndc_domain.specs.Clusters.{cluster_no}
 use Rattle.ndc_domain.specs.declared.record.DomainRecord.{DomainRecord}
@@ -35,10 +35,11 @@ holding batches = record { arrived = batches; written = [] }
 abbrev pub alone : Batch → Message
 alone b = record { batch = b; second = None }
 
--- A's second batch, a signal, and B's, which was written beside it
+-- A's second batch, a signal
 abbrev pub first_signal : Batch
 first_signal = signaled (key 1 2) (key 1 1) 3 (signal (codes "a1") (codes "x"))
 
+-- B's first batch, a signal that was written beside it
 abbrev pub other_signal : Batch
 other_signal = signaled (key 2 2) (key 1 1) 3 (signal (codes "b1") (codes "y"))
 
@@ -74,25 +75,27 @@ reset_to =
 abbrev pub two_clusters : Header
 two_clusters = record { clusters = (home 0 1).clusters; shards = 1; limit = 100 }
 
--- the world in which A has begun the workflow and signalled it, and both clusters have the domain's record
-abbrev pub told : ℕ → World → World
-told version w = with_table (cluster_no 1) (alpha version ∷ []) (with_table (cluster_no 0) (alpha 1 ∷ []) w)
+-- both clusters have the domain's record, B's with this version
+abbrev pub with_records : ℕ → World → World
+with_records version w = with_table (cluster_no 1) (alpha version ∷ []) (with_table (cluster_no 0) (alpha 1 ∷ []) w)
 
+-- the world in which A has begun the workflow
 abbrev pub started : World
-started = (command_step two_clusters (cluster_no 0) (codes "alpha") (codes "w1") (Start (codes "order")) (told 1 (opening_world two_clusters))).world
+started = (command_step two_clusters (cluster_no 0) (codes "alpha") (codes "w1") (Start (codes "order")) (with_records 1 (opening_world two_clusters))).world
 
-abbrev pub signalled : World
-signalled = (command_step two_clusters (cluster_no 0) (codes "alpha") (codes "w1") (Signal (codes "a1") (codes "x")) started).world
+-- the world in which A has begun and signaled it
+abbrev pub with_a_signal : World
+with_a_signal = (command_step two_clusters (cluster_no 0) (codes "alpha") (codes "w1") (Signal (codes "a1") (codes "x")) started).world
 
 -- B has pulled both batches and lost the first, and has worked
 abbrev pub with_a_loss : World
 with_a_loss =
     (worked two_clusters (cluster_no 1)
     (with_lane (cluster_no 1) (cluster_no 0) 0
-    (record (lane_at two_clusters (cluster_no 1) (cluster_no 0) 0 (pulled_all two_clusters (cluster_no 1) (cluster_no 0) signalled)) {
-      flight = remove (lane_at two_clusters (cluster_no 1) (cluster_no 0) 0 (pulled_all two_clusters (cluster_no 1) (cluster_no 0) signalled)).flight 0;
+    (record (lane_at two_clusters (cluster_no 1) (cluster_no 0) 0 (pulled_all two_clusters (cluster_no 1) (cluster_no 0) with_a_signal)) {
+      flight = remove (lane_at two_clusters (cluster_no 1) (cluster_no 0) 0 (pulled_all two_clusters (cluster_no 1) (cluster_no 0) with_a_signal)).flight 0;
     })
-    (pulled_all two_clusters (cluster_no 1) (cluster_no 0) signalled))).world
+    (pulled_all two_clusters (cluster_no 1) (cluster_no 0) with_a_signal))).world
 
 -- B has the run's first batch, has failed the domain over to itself and signalled the run; A has signalled it too
 abbrev pub in_conflict : World

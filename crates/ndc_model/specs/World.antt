@@ -32,8 +32,8 @@ pub record ActivityRef : Type 0 where
   pub scheduled : ℕ
   pub version : ℕ
 
--- what was told of an activity: the version of the teller's record, a number that counts from 1 with each version, and details
-pub record Report : Type 0 where
+-- what was told of an activity: the version of the teller's record, a beat, which counts from 1 with each version, and details
+pub record ProgressReport : Type 0 where
   pub activity : ActivityRef
   pub version : ℕ
   pub beat : ℕ
@@ -48,12 +48,12 @@ pub record Handover : Type 0 where
   pub new : ℕ
   pub places : List ℕ
 
--- a cluster: its domain records, its cells by shard, what it set aside, and all reports that it told or that a merge brought
+-- a cluster: its domain records, its cells by shard, what it set aside, and all progress reports that it told or took over
 pub record Cluster : Type 0 where
   pub table : List DomainRecord
   pub cells : List Cell
   pub letters : List Letter
-  pub reports : List Report
+  pub reports : List ProgressReport
 
 -- what a reader has of a source: a lane for each shard, and the domains of which it came to be a member late
 pub record Link : Type 0 where
@@ -115,11 +115,12 @@ queue_at source shard w = queue_of (cell_at source shard w)
 abbrev pub is_link : ClusterNo → ClusterNo → Link → Bool
 is_link reader source link = same_cluster link.reader reader && same_cluster link.source source
 
--- what a reader has of a source
+-- the link that was found, or a new one
 abbrev pub link_found : Header → ClusterNo → ClusterNo → Option Link → Link
 link_found header reader source None = new_link header reader source
 link_found header reader source (Some link) = link
 
+-- what a reader has of a source in a world
 abbrev pub link_at : Header → ClusterNo → ClusterNo → World → Link
 link_at header reader source w = link_found header reader source (find (is_link reader source) w.links)
 

@@ -1,5 +1,5 @@
 // Cells, as laws.
-ghost use Rattle.std.specs.Prelude.{◌≡◌, true, false, IfSome, List};
+ghost use Rattle.std.specs.Prelude.{◌≡◌, true, false, IfSome};
 ghost use Rattle.ndc_event.specs.declared.batch.Batch.{Batch as Written};
 ghost use Rattle.ndc_event.specs.declared.name.Name.{Name as Text};
 ghost use Rattle.ndc_sets.specs.Learned.{IsPart};
