@@ -216,6 +216,12 @@ with_losses =
     register A (0 ∷ 1 ∷ []) ∷ start A ∷ signal A (codes "ping") (codes "x") ∷ act.Pull B A ∷ act.Lose B A 0 0 ∷ act.Lose B A 0 1 ∷ act.Work B ∷ act.LevelsOf B A 0 ∷ act.Trim A
     ∷ act.Rewind B A ∷ act.Pull B A ∷ act.Work B ∷ act.Trim A ∷ act.LevelsOf B A 0 ∷ []
 
+-- a pull of one entry, and then of what is left
+abbrev pub with_a_short_pull : List Act
+with_a_short_pull =
+    register A (0 ∷ 1 ∷ []) ∷ start A ∷ signal A (codes "ping") (codes "x") ∷ act.PullSome B A 0 1 ∷ act.Work B ∷ act.LevelsOf B A 0 ∷ act.PullSome B A 0 5 ∷ act.LevelsOf B A 0 ∷ act.Work B
+    ∷ act.PullSome B A 0 5 ∷ act.LevelsOf B A 0 ∷ []
+
 -- messages that are repeated and moved
 abbrev pub with_repeats : List Act
 with_repeats =

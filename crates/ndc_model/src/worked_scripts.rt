@@ -3,7 +3,7 @@ ghost use Rattle.std.specs.Prelude.{◌≡◌, [], ◌∷◌, ◌++◌, take, co
 ghost use Rattle.std.specs.List.{flat_map};
 ghost use Rattle.ndc_model.specs.Laws.{script_of};
 ghost use Rattle.ndc_model.specs.Report.{report_of};
-ghost use Rattle.ndc_model.specs.Scripts.{answers, numbered, one_cluster, three_clusters, on_domains, without_conflict, with_conflict, with_losses, with_repeats, with_two_runs, with_copies, with_a_closed_run, with_a_burst, with_a_late_member, with_a_carried_batch, with_a_handover, with_an_overtaken_handover, with_a_reset, with_a_reset_of_a_closed_run, with_progress, with_a_letter, with_a_purge, single_workflow, number, wrote, plain_ok, refusal, refusal_with, work, settlement, levels, state, run_word, run_as, branch_as, runs_as, event_as, history_as, gap_as, gaps_as, letter_as, letters_as, dumped, asked_for, begun_with_a_signal, tree_as, index_lines, told_keys, told_lines, A, B, C};
+ghost use Rattle.ndc_model.specs.Scripts.{answers, numbered, one_cluster, three_clusters, on_domains, without_conflict, with_conflict, with_losses, with_a_short_pull, with_repeats, with_two_runs, with_copies, with_a_closed_run, with_a_burst, with_a_late_member, with_a_carried_batch, with_a_handover, with_an_overtaken_handover, with_a_reset, with_a_reset_of_a_closed_run, with_progress, with_a_letter, with_a_purge, single_workflow, number, wrote, plain_ok, refusal, refusal_with, work, settlement, levels, state, run_word, run_as, branch_as, runs_as, event_as, history_as, gap_as, gaps_as, letter_as, letters_as, dumped, asked_for, begun_with_a_signal, tree_as, index_lines, told_keys, told_lines, A, B, C};
 ghost use Rattle.ndc_model.specs.Texts.{ok, refused, spaced};
 ghost use Rattle.ndc_model.specs.Worked.{two_clusters};
 ghost use Rattle.ndc_sets.specs.Worked.{item, key};
@@ -29,10 +29,11 @@ pub fn a_conflict_is_settled()
     ensures { answers two_clusters (numbered 7 with_conflict) ≡ (7, number 1) ∷ (8, number 1) ∷ (9, wrote 1 1) ∷ (10, number 1) ∷ (11, work 1 0 0 0) ∷ (12, number 2) ∷ (13, wrote 2 2) ∷ (14, wrote 1 2) ∷ (15, number 1) ∷ (16, work 1 0 0 0) ∷ (17, runs_as ((run_as 1 1 (codes "open") (codes " current"), branch_as 1 2 (item 3 1 ∷ []) [] ∷ branch_as 2 2 (item 2 1 ∷ item 3 2 ∷ []) (codes " current") ∷ []) ∷ [])) ∷ (18, refusal_with (codes "Behind") 2) ∷ (19, number 1) ∷ (20, work 1 0 0 1) ∷ (21, state 5 2 2) ∷ (22, settlement 1 0) ∷ (23, refusal_with (codes "NotActive") 2) ∷ [] }
 {}
 
-/// A message that was lost holds the levels back until it is read again.
+/// A message that was lost holds the levels back until it is read again; a pull may take a part of what is left.
 #[tactic(auto, unfolding(ndc_state::specs::Table::row, ndc_reapply::specs::Reapplied::reapplied, ndc_command::specs::Plan::plan_of, ndc_command::specs::Plan::start_of, ndc_command::specs::Plan::plan_below, ndc_command::specs::Plan::written, ndc_command::specs::Plan::judged_at, ndc_command::specs::Plan::within, ndc_command::specs::Stage::refuse, ndc_command::specs::Stage::needs_pending, ndc_command::specs::Stage::needs_waiting, ndc_command::specs::Stage::needs_started, ndc_command::specs::Actions::action_refusal, ndc_command::specs::Actions::action_kind, ndc_domain::specs::Members::numbers, ndc_domain::specs::Members::numbers_where, ndc_event::specs::Kind::kind_name, crate::specs::Texts::refusal_words))]
 pub fn losses_hold_levels_back()
-    ensures { answers two_clusters (numbered 7 with_losses) ≡ (7, number 1) ∷ (8, wrote 1 1) ∷ (9, wrote 1 2) ∷ (10, number 2) ∷ (11, plain_ok) ∷ (12, refusal (codes "NoSuchPlace")) ∷ (13, work 0 0 1 0) ∷ (14, levels 2 0 2 0 0) ∷ (15, number 0) ∷ (16, plain_ok) ∷ (17, number 2) ∷ (18, work 2 1 0 0) ∷ (19, number 2) ∷ (20, levels 2 2 2 2 0) ∷ [] }
+    ensures losses { answers two_clusters (numbered 7 with_losses) ≡ (7, number 1) ∷ (8, wrote 1 1) ∷ (9, wrote 1 2) ∷ (10, number 2) ∷ (11, plain_ok) ∷ (12, refusal (codes "NoSuchPlace")) ∷ (13, work 0 0 1 0) ∷ (14, levels 2 0 2 0 0) ∷ (15, number 0) ∷ (16, plain_ok) ∷ (17, number 2) ∷ (18, work 2 1 0 0) ∷ (19, number 2) ∷ (20, levels 2 2 2 2 0) ∷ [] }
+    ensures short_pull { answers two_clusters (numbered 7 with_a_short_pull) ≡ (7, number 1) ∷ (8, wrote 1 1) ∷ (9, wrote 1 2) ∷ (10, number 1) ∷ (11, work 1 0 0 0) ∷ (12, levels 2 0 1 1 0) ∷ (13, number 1) ∷ (14, levels 2 0 2 1 1) ∷ (15, work 1 0 0 0) ∷ (16, number 0) ∷ (17, levels 2 0 2 2 0) ∷ [] }
 {}
 
 /// Messages may come in another order and more than once; what one makes learned is told in key order.
