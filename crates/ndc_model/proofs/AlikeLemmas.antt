@@ -1,5 +1,6 @@
 -- Clusters that have learned the same answer alike.
-use Rattle.std.proofs.Common.{◌≡◌, Bool, true, false, ◌||◌, ◌&&◌, List, [], ◌∷◌, codes, if◌then◌else◌, refl, ap, ◌∙◌}
+use Rattle.std.proofs.Common.{◌≡◌, Bool, true, ◌&&◌, List, [], ◌∷◌, codes, if◌then◌else◌, refl, ap, ◌∙◌}
+use Rattle.std.proofs.lemmas.Bool.{or_right}
 use Rattle.std.proofs.lemmas.Slice.Eq.{bytes_eq-Decides}
 use Rattle.ndc_domain.specs.declared.clusters.ClusterNo.{ClusterNo}
 use Rattle.ndc_event.specs.declared.batch.Batch.{Batch}
@@ -29,15 +30,10 @@ module _ (header : Header) (one two : ClusterNo) (domain workflow : Name) (w : W
   pub dump_alike : (act_step header (act.Dump one domain workflow) w).answer ≡ (act_step header (act.Dump two domain workflow) w).answer
   dump_alike = ap (read_answer (dump_answer domain workflow)) same
 
-or-true : (a : Bool) → (a || true) ≡ true
-or-true true = refl
-or-true false = refl
-
 -- a cluster shows the same as itself
 shows_same-self : (domain workflow : Name) (batches : List Batch) → shows_same domain workflow batches batches ≡ true
 shows_same-self domain workflow batches =
-    ap (λ b. (is_nothing batches && is_nothing batches) || b) ((bytes_eq-Decides (dump_text domain workflow (view_of batches)) (dump_text domain workflow (view_of batches))).1 refl)
-    ∙ or-true (is_nothing batches && is_nothing batches)
+    or_right (is_nothing batches && is_nothing batches) _ ((bytes_eq-Decides (dump_text domain workflow (view_of batches)) (dump_text domain workflow (view_of batches))).1 refl)
 
 pub compare_same : (header : Header) (one two : ClusterNo) (domain workflow : Name) (w : World) → learned_at header one domain workflow w ≡ learned_at header two domain workflow w
     → (act_step header (act.Compare one two domain workflow) w).answer ≡ ok (codes "same" ∷ [])

@@ -1,8 +1,8 @@
 -- A damaged message is read as what it was exactly where no byte is missing.
-use Rattle.std.proofs.Common.{◌≡◌, ℕ, zero, suc, ◌<◌, ◌≤◌, Bool, true, false, not, nat_lt, List, [], ◌∷◌, ◌++◌, length, take, drop, Result, Ok, Err, None, refl, ap, sym, ◌∙◌, arith, length-drop}
+use Rattle.std.proofs.Common.{◌≡◌, ℕ, ◌<◌, ◌≤◌, Bool, true, false, not, nat_lt, [], ◌++◌, length, take, drop, Result, Ok, Err, None, refl, ap, sym, ◌∙◌, arith, length-drop}
 use Rattle.std.proofs.lemmas.Bool.{and_from}
 use Rattle.std.proofs.lemmas.Bool.Decides.{nat_tests}
-use Rattle.std.proofs.lemmas.List.{take-append-drop}
+use Rattle.std.proofs.lemmas.List.{take-append-drop, take_all}
 use Rattle.std.proofs.lemmas.Slice.Eq.{bytes_eq-Decides}
 use Rattle.ndc_event.specs.Batch.{fault_of}
 use Rattle.ndc_event.specs.declared.batch.Batch.{Batch}
@@ -15,12 +15,6 @@ use Rattle.ndc_text.specs.declared.error.TextError.{TextError}
 use Rattle.ndc_text.specs.declared.form.TextForm.TheVariants.{Two}
 use Rattle.ndc_model.specs.Cells.{Place, place_of, same_place}
 use Rattle.ndc_model.specs.Letters.{is_read_as}
-
-take-beyond : (cut : ℕ) (bytes : List ℕ) → length bytes ≤ cut → take cut bytes ≡ bytes
-take-beyond zero [] h = refl
-take-beyond zero (x ∷ xs) h = absurd (omega (arith, h))
-take-beyond (suc cut) [] h = refl
-take-beyond (suc cut) (x ∷ xs) h = ap (λ l. x ∷ l) (take-beyond cut xs (omega (arith, h)))
 
 -- a place is itself
 same_place-self : (place : Place) → same_place place place ≡ true
@@ -46,5 +40,5 @@ read_where_whole b cut range sound = by (nat_lt cut (length (batch_text b))) ref
     by true e = let less : cut < length (batch_text b) = grind (arith, nat_tests) in cut_off (read_of Two (take cut (batch_text b))) refl less
     by false e =
         let most : length (batch_text b) ≤ cut = grind (arith, nat_tests) in
-        let whole : take cut (batch_text b) ≡ batch_text b = take-beyond cut (batch_text b) most in
+        let whole : take cut (batch_text b) ≡ batch_text b = take_all cut (batch_text b) most in
         ap (λ bytes. is_read_as (place_of b) (read_of Two bytes)) whole ∙ ap (is_read_as (place_of b)) (text_again b range sound) ∙ same_place-self (place_of b)

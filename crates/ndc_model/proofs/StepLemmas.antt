@@ -23,11 +23,11 @@ use Rattle.ndc_model.specs.Laws.{ChangesNothing, is_overtaken, is_reading, is_re
 use Rattle.ndc_model.specs.Letters.{damage_at, is_read_as, letter_of, place_of_letter, with_letters}
 use Rattle.ndc_model.specs.Lines.{act_step}
 use Rattle.ndc_model.specs.Progress.{beat_by, beat_unless}
-use Rattle.ndc_model.specs.Sending.{flight_at, flight_step}
+use Rattle.ndc_model.specs.Sending.{flight_step}
 use Rattle.ndc_model.specs.Steps.{Stepped, answered, written_step}
 use Rattle.ndc_model.specs.Tables.{join_step, table_step}
 use Rattle.ndc_model.specs.Texts.{ok, refusal_words, refused}
-use Rattle.ndc_model.specs.World.{ActivityRef, Handover, Letter, World, cluster_at, is_late, lane_at, with_lane}
+use Rattle.ndc_model.specs.World.{ActivityRef, Handover, Letter, World, cluster_at, flight_at, is_late, with_flight}
 use Rattle.ndc_model.specs.Writing.{is_writer, same_cluster}
 
 -- a step that changes nothing where it refuses; an answer that ends a handover aside
@@ -95,7 +95,7 @@ of-damage header reader source shard place cut w (Some sent) = by (is_read_as (p
     after : World
     after =
         with_letters reader ((cluster_at reader w).letters ++ letter ∷ [])
-        (with_lane reader source shard (record (lane_at header reader source shard w) { flight = remove (flight_at header reader source shard w) place }) w)
+        (with_flight header reader source shard (remove (flight_at header reader source shard w) place) w)
 
     by : (whole : Bool) → IsQuietRefusal w (if whole then answered w (ok (codes "whole" ∷ [])) else answered after (ok (codes "aside" ∷ [])))
     by true r o = absurd (true≢false (sym r))

@@ -14,10 +14,10 @@ use Rattle.ndc_model.specs.Arrival.{Message}
 use Rattle.ndc_model.specs.Cells.{Cell, Place, batch_there, learned_of, place_of, same_place}
 use Rattle.ndc_model.specs.Moves.{Trace, cell_of, from_world, message_arrived, quietly, renewed, shard_of}
 use Rattle.ndc_model.specs.Queues.{entry_of}
-use Rattle.ndc_model.specs.Sending.{arrived_words, flight_at}
+use Rattle.ndc_model.specs.Sending.{arrived_words}
 use Rattle.ndc_model.specs.Steps.{Stepped, answered, moved}
 use Rattle.ndc_model.specs.Texts.{ok, refused}
-use Rattle.ndc_model.specs.World.{Letter, World, cluster_at, lane_at, with_cluster, with_lane}
+use Rattle.ndc_model.specs.World.{Letter, World, cluster_at, flight_at, with_cluster, with_flight}
 
 -- whether bytes are read as the batch of a place
 abbrev pub is_read_as : Place → Result Batch TextError → Bool
@@ -48,7 +48,7 @@ damaged header reader source shard place w letter =
     if is_read_as (place_of_letter letter) (read_of Two letter.bytes) then answered w (ok (codes "whole" ∷ []))
     else answered
     (with_letters reader ((cluster_at reader w).letters ++ letter ∷ [])
-    (with_lane reader source shard (record (lane_at header reader source shard w) { flight = remove (flight_at header reader source shard w) place }) w))
+    (with_flight header reader source shard (remove (flight_at header reader source shard w) place) w))
     (ok (codes "aside" ∷ []))
 
 -- so many bytes of the message at a place arrive, where there is one

@@ -11,7 +11,7 @@ use Rattle.ndc_script.specs.declared.script.Header.{Header}
 use Rattle.ndc_model.specs.Arrival.{Arrival, Message, arrival_of, arrived_at, has_arrived}
 use Rattle.ndc_model.specs.Cells.{Cell, ancestry, batch_there, is_learned_in, is_of, placed, put_off_in}
 use Rattle.ndc_model.specs.Queues.{Lane, after_pull, after_renewal, after_rewind, entry_with, is_addressed, trim_level}
-use Rattle.ndc_model.specs.World.{Link, World, all_clusters, cell_at, cluster_at, home_at, lane_at, link_at, others_of, queue_at, shards_of, trimmed_at, with_cell, with_lane, with_link, with_table}
+use Rattle.ndc_model.specs.World.{Link, World, all_clusters, cell_at, cluster_at, flight_at, home_at, lane_at, link_at, others_of, queue_at, shards_of, trimmed_at, with_cell, with_flight, with_lane, with_link, with_table}
 use Rattle.ndc_model.specs.Writing.{reapplication_of, with_all_written}
 
 -- one more byte in a hash
@@ -108,8 +108,8 @@ all_brought cluster shard t batches = fold (message_brought cluster shard) t (fi
 abbrev pub flight_arrived : Header → ClusterNo → ℕ → Trace → ClusterNo → Trace
 flight_arrived header reader shard t source =
     fold (message_arrived reader shard)
-    (quietly (with_lane reader source shard (record (lane_at header reader source shard t.world) { flight = [] })) t)
-    (lane_at header reader source shard t.world).flight
+    (quietly (with_flight header reader source shard []) t)
+    (flight_at header reader source shard t.world)
 
 -- all that is in flight to a reader arrives, by shard, then source
 abbrev pub flights_arrived : Header → ClusterNo → Trace → Trace

@@ -1,6 +1,6 @@
 -- Worked scripts: their lines, and how answers are told.
 use Rattle.std.specs.Prelude.{ℕ, ◌+◌, List, [], ◌∷◌, ◌++◌, map, length, codes, decimal}
-use Rattle.std.specs.List.{flat_map}
+use Rattle.std.specs.List.{concat, flat_map}
 use Rattle.ndc_command.specs.declared.command.Action.TheVariants as action
 use Rattle.ndc_command.specs.declared.command.Command.{Command}
 use Rattle.ndc_command.specs.declared.command.Command.TheVariants as command
@@ -137,15 +137,15 @@ branch_as version task history mark =
 
 -- the answer of `branches`: runs, each with its branches
 abbrev pub runs_as : List (List ℕ × List (List ℕ)) → List ℕ
-runs_as runs = ok (decimal (length runs) ∷ []) ++ flat_map (λ run. run.0 ++ flat_map (λ branch. branch) run.1) runs
+runs_as runs = ok (decimal (length runs) ∷ []) ++ flat_map (λ run. run.0 ++ concat run.1) runs
 
 -- a line of `history`
 abbrev pub event_as : ℕ → ℕ → List ℕ → List ℕ
-event_as id version kind = decimal id ++ codes "@" ++ decimal version ++ codes " " ++ kind ++ codes "\n"
+event_as id version kind = item_text (item id version) ++ codes " " ++ kind ++ codes "\n"
 
--- the answer of `history`
-abbrev pub history_as : List (List ℕ) → List ℕ
-history_as events = ok (decimal (length events) ∷ []) ++ flat_map (λ event. event) events
+-- how many lines there are, and the lines
+abbrev pub listed : List (List ℕ) → List ℕ
+listed lines = ok (decimal (length lines) ∷ []) ++ concat lines
 
 -- a line of `gaps`: a batch of alpha's w1, what it comes after, what it begins with, and what is missing
 abbrev pub gap_as : BatchKey → Item → Item → BatchKey → List ℕ
@@ -154,15 +154,11 @@ gap_as key after before missing =
 
 -- the answer of `gaps`
 abbrev pub gaps_as : List (List ℕ) → List ℕ
-gaps_as gaps = ok (decimal (length gaps) ∷ []) ++ (flat_map (λ gap. gap) gaps ++ [])
+gaps_as gaps = ok (decimal (length gaps) ∷ []) ++ (concat gaps ++ [])
 
 -- a line of `letters`: so many bytes of A's first batch of alpha's w1
 abbrev pub letter_as : ℕ → List ℕ
 letter_as size = codes "letter A alpha w1 " ++ key_text (key 1 1) ++ codes " " ++ decimal size ++ codes "\n"
-
--- the answer of `letters`
-abbrev pub letters_as : List (List ℕ) → List ℕ
-letters_as letters = ok (decimal (length letters) ∷ []) ++ flat_map (λ letter. letter) letters
 
 -- the workflow that A began and signaled
 abbrev pub begun_with_a_signal : List Batch
@@ -172,8 +168,8 @@ begun_with_a_signal = begun ∷ signaled (key 1 2) (key 1 1) 3 (signal_kind (cod
 abbrev pub dumped : List ℕ
 dumped =
     codes "dump 2 alpha w1\n" ++ flat_map (λ b. batch_text b ++ codes "\n") begun_with_a_signal
-    ++ flat_map (λ line. line) ((run_as 1 1 (codes "open") (codes " current")
-    ++ flat_map (λ line. line) ((branch_as 1 2 (item 3 1 ∷ []) (codes " current") ++ codes "state " ++ state_as 4 2 1 ++ codes "\n") ∷ [])) ∷ []) ++ codes "end\n"
+    ++ concat ((run_as 1 1 (codes "open") (codes " current")
+    ++ concat ((branch_as 1 2 (item 3 1 ∷ []) (codes " current") ++ codes "state " ++ state_as 4 2 1 ++ codes "\n") ∷ [])) ∷ []) ++ codes "end\n"
 
 -- a line of a batch in a tree: what it comes after, and its first and last event
 abbrev pub batch_as : ℕ → List ℕ → ℕ → ℕ → List ℕ
@@ -184,8 +180,8 @@ batch_as task after from to =
 abbrev pub tree_as : List ℕ
 tree_as =
     codes "workflow alpha w1\n"
-    ++ flat_map (λ line. line) ((run_as 1 1 (codes "open") (codes " current") ++ flat_map (λ line. line) (batch_as 1 (codes "-") 1 2 ∷ batch_as 2 (key_text (key 1 1)) 3 3 ∷ [])
-    ++ flat_map (λ line. line) (branch_as 1 2 (item 3 1 ∷ []) (codes " current") ∷ [])) ∷ [])
+    ++ concat ((run_as 1 1 (codes "open") (codes " current") ++ concat (batch_as 1 (codes "-") 1 2 ∷ batch_as 2 (key_text (key 1 1)) 3 3 ∷ [])
+    ++ concat (branch_as 1 2 (item 3 1 ∷ []) (codes " current") ∷ [])) ∷ [])
 
 -- domains: registered, failed over and retained
 abbrev pub on_domains : List Act

@@ -13,9 +13,9 @@ use Rattle.ndc_model.specs.Arrival.{Message}
 use Rattle.ndc_model.specs.Cells.{Cell, arrived_of, is_learned_in, is_of, missing_of, put_off_in}
 use Rattle.ndc_model.specs.Moves.{Note, after_settlement, all_written, bootstrapped, from_world, pulled_all, pulled_shard, resent, trimmed_all, trimmed_level, worked}
 use Rattle.ndc_model.specs.Queues.{after_loss, after_move, after_repeat, put_in_flight}
-use Rattle.ndc_model.specs.Steps.{Stepped, applied_by, arrived_by, known_by, learned_by, put_off_by, answered, moved, total}
+use Rattle.ndc_model.specs.Steps.{Stepped, answered, applied_by, arrived_by, known_by, learned_by, moved, put_off_by, total}
 use Rattle.ndc_model.specs.Texts.{ok, refused}
-use Rattle.ndc_model.specs.World.{World, cell_at, cluster_at, lane_at, link_at, queue_at, shards_of, trimmed_at, with_lane}
+use Rattle.ndc_model.specs.World.{World, cell_at, cluster_at, flight_at, lane_at, link_at, queue_at, shards_of, trimmed_at, with_flight}
 
 -- how many entries a pull puts in flight
 abbrev pub pull_count : Header → ClusterNo → ClusterNo → Option ℕ → World → ℕ → ℕ
@@ -36,11 +36,7 @@ pull_some_step header reader source shard count w =
 abbrev pub flight_step : Header → ClusterNo → ClusterNo → ℕ → World → Option (List Message) → Stepped
 flight_step header reader source shard w None = answered w (refused (codes "NoSuchPlace" ∷ []))
 flight_step header reader source shard w (Some flight) =
-    answered (with_lane reader source shard (record (lane_at header reader source shard w) { flight = flight }) w) (ok [])
-
--- what is in flight from a source to a reader for a shard
-abbrev pub flight_at : Header → ClusterNo → ClusterNo → ℕ → World → List Message
-flight_at header reader source shard w = (lane_at header reader source shard w).flight
+    answered (with_flight header reader source shard flight w) (ok [])
 
 -- `lose`
 abbrev pub lose_step : Header → ClusterNo → ClusterNo → ℕ → ℕ → World → Stepped

@@ -5,6 +5,8 @@ use Rattle.ndc_command.specs.declared.refusal.Refusal.{Refusal}
 use Rattle.ndc_command.specs.declared.refusal.Refusal.TheVariants.{UnknownDomain, NotActive, Behind, NoWorkflow, AlreadyRunning, Closed, NoDecision, DecisionNotStarted, DecisionStarted, NoSuchActivity, ActivityNotStarted, ActivityStarted, DuplicateActivity, NoSuchTimer, DuplicateTimer, NoSuchChild, ChildNotStarted, ChildStarted, DuplicateChild, HistoryFull, NoSuchPoint}
 use Rattle.ndc_event.specs.Kind.{kind_name}
 use Rattle.ndc_event.specs.declared.batch.Event.{Event}
+use Rattle.ndc_sets.specs.Paths.{item_of}
+use Rattle.ndc_text.specs.Views.{item_text}
 
 -- words behind a space each
 abbrev pub spaced : List (List ℕ) → List ℕ
@@ -44,4 +46,4 @@ refusal_words NoSuchPoint = codes "NoSuchPoint" ∷ []
 
 -- `ID@VERSION KIND`
 abbrev pub event_line : Event → List ℕ
-event_line event = decimal event.id ++ codes "@" ++ decimal event.version ++ codes " " ++ kind_name event.kind ++ codes "\n"
+event_line event = item_text (item_of event) ++ codes " " ++ kind_name event.kind ++ codes "\n"

@@ -11,7 +11,7 @@ use Rattle.ndc_model.specs.Arrival.{Message}
 use Rattle.ndc_model.specs.Cells.{Cell}
 use Rattle.ndc_model.specs.Moves.{pulled_all, worked}
 use Rattle.ndc_model.specs.Steps.{command_step}
-use Rattle.ndc_model.specs.World.{World, lane_at, opening_world, with_lane, with_table}
+use Rattle.ndc_model.specs.World.{World, flight_at, opening_world, with_flight, with_table}
 use Rattle.ndc_model.specs.Writing.{Home}
 
 -- the record of the domain, with this version and both clusters as members
@@ -91,10 +91,7 @@ with_a_signal = (command_step two_clusters (cluster_no 0) (codes "alpha") (codes
 abbrev pub with_a_loss : World
 with_a_loss =
     (worked two_clusters (cluster_no 1)
-    (with_lane (cluster_no 1) (cluster_no 0) 0
-    (record (lane_at two_clusters (cluster_no 1) (cluster_no 0) 0 (pulled_all two_clusters (cluster_no 1) (cluster_no 0) with_a_signal)) {
-      flight = remove (lane_at two_clusters (cluster_no 1) (cluster_no 0) 0 (pulled_all two_clusters (cluster_no 1) (cluster_no 0) with_a_signal)).flight 0;
-    })
+    (with_flight two_clusters (cluster_no 1) (cluster_no 0) 0 (remove (flight_at two_clusters (cluster_no 1) (cluster_no 0) 0 (pulled_all two_clusters (cluster_no 1) (cluster_no 0) with_a_signal)) 0)
     (pulled_all two_clusters (cluster_no 1) (cluster_no 0) with_a_signal))).world
 
 -- B has the run's first batch, has failed the domain over to itself and signalled the run; A has signalled it too

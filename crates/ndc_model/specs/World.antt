@@ -144,6 +144,14 @@ with_link reader source change w = record w { links = map (λ link. if is_link r
 abbrev pub with_lane : ClusterNo → ClusterNo → ℕ → Lane → World → World
 with_lane reader source shard lane w = with_link reader source (λ link. record link { lanes = slice_set link.lanes shard lane }) w
 
+-- what is in flight from a source to a reader for a shard
+abbrev pub flight_at : Header → ClusterNo → ClusterNo → ℕ → World → List Message
+flight_at header reader source shard w = (lane_at header reader source shard w).flight
+
+-- what is in flight becomes another list
+abbrev pub with_flight : Header → ClusterNo → ClusterNo → ℕ → List Message → World → World
+with_flight header reader source shard flight w = with_lane reader source shard (record (lane_at header reader source shard w) { flight = flight }) w
+
 -- the domains whose record did not name a cluster and comes to name it, in order of name
 abbrev pub newly_naming : ClusterNo → List DomainRecord → List DomainRecord → List Name
 newly_naming reader [] after = []
