@@ -1,0 +1,41 @@
+ghost use Rattle.std.specs.Prelude.{◌≡◌, IfOk};
+
+use ndc_event::Batch;
+use ndc_history::VersionHistory;
+use std::alloc::AllocError;
+
+/// What is sent from a cell to another: a batch with the version history of its path, and the batch that it
+/// carries, where it carries one. Both are learned together.
+#[derive(Debug, Drop)]
+pub struct Message {
+    pub batch: Batch,
+    /// For each version on the path to the batch the last event id written with it.
+    pub history: VersionHistory,
+    /// The first batch of the run as which the batch's run goes on.
+    pub second: Option<Batch>,
+}
+
+/// The same batch, where there is one.
+fn copy_second(second: &Option<Batch>) -> Result<Option<Batch>, AllocError>
+    ensures { IfOk result (λ copy. copy ≡ second.now) }
+{
+    match second {
+        Some(batch) => Ok(Some(batch.try_copy()?)),
+        None => Ok(None),
+    }
+}
+
+impl Message {
+    ghost use Rattle.std.specs.Prelude.{◌≡◌, IfOk};
+
+    /// The same message.
+    pub fn try_copy(&self) -> Result<Message, AllocError>
+        ensures { IfOk result (λ copy. copy ≡ self.now) }
+    {
+        Ok(Message {
+            batch: self.batch.try_copy()?,
+            history: self.history.try_copy()?,
+            second: copy_second(&self.second)?,
+        })
+    }
+}

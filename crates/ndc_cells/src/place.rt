@@ -1,0 +1,25 @@
+use ndc_event::{BatchKey, Name};
+use std::alloc::AllocError;
+
+/// The place of a batch: its workflow, and its key there.
+#[derive(Debug, Drop)]
+pub struct Place {
+    pub domain: Name,
+    pub workflow: Name,
+    pub key: BatchKey,
+}
+
+impl Place {
+    ghost use Rattle.std.specs.Prelude.{◌≡◌, IfOk};
+
+    /// The same place.
+    pub fn try_copy(&self) -> Result<Place, AllocError>
+        ensures { IfOk result (λ copy. copy ≡ self.now) }
+    {
+        Ok(Place {
+            domain: self.domain.try_copy()?,
+            workflow: self.workflow.try_copy()?,
+            key: self.key,
+        })
+    }
+}
