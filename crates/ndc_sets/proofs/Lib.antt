@@ -18,4 +18,5 @@ pub mod GapLemmas
 pub mod GapLaws
 pub mod SoundLemmas
 pub mod WriteLaws
+pub mod WritePaths
 pub mod ViewLaws

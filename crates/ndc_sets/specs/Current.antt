@@ -1,5 +1,5 @@
 -- The states of branches, and which runs are open, zombies or closed.
-use Rattle.std.specs.Prelude.{Bool, true, false, ◌++◌, List, [], ◌∷◌, Option, Some, None, Result, Ok, Err, if◌then◌else◌}
+use Rattle.std.specs.Prelude.{◌≡◌, Bool, true, false, ◌++◌, List, [], ◌∷◌, Option, Some, None, Result, Ok, Err, if◌then◌else◌}
 use Rattle.ndc_event.specs.declared.batch.Batch.{Batch}
 use Rattle.ndc_event.specs.declared.key.BatchKey.{BatchKey}
 use Rattle.ndc_event.specs.declared.key.Origin.{Origin}
@@ -11,7 +11,7 @@ use Rattle.ndc_state.specs.Replay.{replay_of}
 use Rattle.ndc_state.specs.Value.{StateValue, new_state}
 use Rattle.ndc_sets.specs.declared.view.RunStatus.{RunStatus}
 use Rattle.ndc_sets.specs.declared.view.RunStatus.TheVariants.{Running, Zombie, Closed}
-use Rattle.ndc_sets.specs.Branches.{current_tip, is_current_run, runs}
+use Rattle.ndc_sets.specs.Branches.{current_tip, is_current_run, runs, workflow_tip}
 use Rattle.ndc_sets.specs.Origins.{origins_in, signals}
 use Rattle.ndc_sets.specs.Paths.{events_to}
 
@@ -68,3 +68,12 @@ settled batches = settled_by_runs (runs batches) batches
 -- the strays of a set: its signals whose origins are not settled, each once, ordered by version, event and run
 abbrev pub strays : List Batch → List Stray
 strays batches = strays_of (signals batches) (settled batches)
+
+-- where there is a tip whose state is open, the list is empty
+abbrev pub NoneWhereOpen : Option Batch → List Batch → List Stray → Type 0
+NoneWhereOpen None batches list = Unit {0}
+NoneWhereOpen (Some tip) batches list = (state_to tip.run tip.key batches).running ≡ true → list ≡ []
+
+-- a set leaves nothing to be applied again: where its current run is open it has no stray
+abbrev pub HasNoStray : List Batch → Type 0
+HasNoStray batches = NoneWhereOpen (workflow_tip batches) batches (strays batches)

@@ -1,11 +1,12 @@
 -- Sound sets: what holds of the batches that clusters write.
 use Rattle.std.specs.Prelude.{◌≡◌, ◌<◌, ◌+◌, List, Some, None, IsOk}
-use Rattle.std.specs.List.{AllByRecursion}
+use Rattle.std.specs.List.{AllByRecursion, IsAmong}
 use Rattle.ndc_event.specs.declared.batch.Batch.{Batch}
 use Rattle.ndc_event.specs.declared.batch.Event.{Event}
 use Rattle.ndc_event.specs.declared.key.BatchKey.{BatchKey}
 use Rattle.ndc_event.specs.declared.key.Origin.{Origin}
 use Rattle.ndc_event.specs.declared.key.RunId.{RunId}
+use Rattle.ndc_event.specs.declared.kind.EventKind.{EventKind}
 use Rattle.ndc_event.specs.declared.kind.EventKind.TheVariants.{WorkflowExecutionSignaled, WorkflowExecutionContinuedAsNew}
 use Rattle.ndc_event.specs.declared.name.Name.{Name}
 use Rattle.ndc_event.specs.Batch.{fault_of}
@@ -52,6 +53,23 @@ IsCopyFit copy run event = (name input : Name) (origin : Origin) → copy.kind �
 -- where a copied signal names an event of the set, this is an original signal of the same name and input
 abbrev pub CopiesFit : List Batch → Type 0
 CopiesFit batches = (b other : Batch) → Has batches b → Has batches other → AllByRecursion (λ copy. AllByRecursion (IsCopyFit copy other.run) other.events) b.events
+
+-- one of the batches has the event that an origin names, and it is an original signal of this name and input
+pub record HasOriginal (batches : List Batch) (origin : Origin) (name input : Name) : Type 0 where
+  pub batch : Batch
+  pub has : Has batches batch
+  pub event : Event
+  pub among : IsAmong batch.events event
+  pub named : Names origin batch.run event
+  pub kind : event.kind ≡ WorkflowExecutionSignaled name input None
+
+-- a copied signal of this kind names an original one among the batches
+abbrev pub NamesOriginal : List Batch → EventKind → Type 0
+NamesOriginal batches kind = (name input : Name) (origin : Origin) → kind ≡ WorkflowExecutionSignaled name input (Some origin) → HasOriginal batches origin name input
+
+-- each copied signal of the set names an original one
+abbrev pub CopiesNamed : List Batch → Type 0
+CopiesNamed batches = (b : Batch) → Has batches b → AllByRecursion (λ copy. NamesOriginal batches copy.kind) b.events
 
 -- every path replays
 abbrev pub PathsReplay : List Batch → Type 0

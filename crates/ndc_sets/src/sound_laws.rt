@@ -1,12 +1,13 @@
 // Sound sets, as laws.
-ghost use Rattle.std.specs.Prelude.{◌≡◌, List, ◌++◌, IsOk};
+ghost use Rattle.std.specs.Prelude.{◌≡◌, true, List, [], ◌∷◌, ◌++◌, Some, None, IsOk};
+ghost use Rattle.ndc_event.specs.Batch.{fault_of};
 ghost use Rattle.ndc_event.specs.declared.batch.Batch.{Batch};
 ghost use Rattle.ndc_state.specs.Laws.{AreApart};
 ghost use Rattle.ndc_state.specs.Replay.{replay_of};
-ghost use Rattle.ndc_sets.specs.Sets.{IsSet, Has, arrived};
-ghost use Rattle.ndc_sets.specs.Learned.{IsClosed, IsPart};
+ghost use Rattle.ndc_sets.specs.Sets.{IsSet, Has, arrived, batch_at, earlier};
+ghost use Rattle.ndc_sets.specs.Learned.{IsClosed, IsPart, has_key};
 ghost use Rattle.ndc_sets.specs.Origins.{origins_in};
-ghost use Rattle.ndc_sets.specs.Paths.{events_to};
+ghost use Rattle.ndc_sets.specs.Paths.{events_to, path_to};
 ghost use Rattle.ndc_sets.specs.Sound.{ParentsFit, VersionsAreChains, OriginsDiffer, CopiesFit, PathsReplay, CarriersFit, IsSound};
 ghost use Rattle.ndc_sets.specs.Writing.{GoesBelow, Begins, CopiesFitWith};
 
@@ -46,4 +47,16 @@ pub fn a_batch_below_the_tip_keeps_sets_sound()
 pub fn the_first_batch_of_a_run_keeps_sets_sound()
     ensures { (batches : List Batch) (new : Batch) → IsSound batches → Begins batches new
         → AreApart (origins_in new.run new.events) → CopiesFitWith batches new → IsOk (replay_of new.run new.events) → IsSound (arrived new batches) }
+{}
+
+/// A batch that is written to a sound set, whose earlier key is one of the set's, leaves the paths to all others
+/// as they were; the path to it goes on behind its parent's, and where it begins a run it is the batch alone.
+#[tactic(auto, using(crate::proofs::WritePaths::paths_stay, crate::proofs::WritePaths::path_behind_parent, crate::proofs::WritePaths::path_of_beginning))]
+pub fn a_batch_that_is_written_leaves_paths()
+    ensures old { (batches : List Batch) (new b : Batch) → IsSound batches → batch_at new.key batches ≡ None → fault_of new ≡ None → has_key (earlier new) batches ≡ true
+        → Has batches b → path_to b.key (arrived new batches) ≡ path_to b.key batches }
+    ensures below { (batches : List Batch) (new parent : Batch) → IsSound batches → batch_at new.key batches ≡ None → fault_of new ≡ None → has_key (earlier new) batches ≡ true
+        → Has batches parent → new.parent ≡ Some parent.key → path_to new.key (arrived new batches) ≡ path_to parent.key batches ++ new ∷ [] }
+    ensures first { (batches : List Batch) (new : Batch) → IsSound batches → batch_at new.key batches ≡ None → fault_of new ≡ None → has_key (earlier new) batches ≡ true
+        → new.parent ≡ None → path_to new.key (arrived new batches) ≡ new ∷ [] }
 {}
