@@ -16,18 +16,23 @@ use Rattle.ndc_model.specs.World.{World}
 
 module _ (header : Header) (one two : ClusterNo) (domain workflow : Name) (w : World) (same : learned_at header one domain workflow w ≡ learned_at header two domain workflow w) where
   pub history_alike : (act_step header (act.History one domain workflow) w).answer ≡ (act_step header (act.History two domain workflow) w).answer
+  unfolding act_step
   history_alike = ap (read_answer history_answer) same
 
   pub branches_alike : (act_step header (act.Branches one domain workflow) w).answer ≡ (act_step header (act.Branches two domain workflow) w).answer
+  unfolding act_step
   branches_alike = ap (read_answer branches_answer) same
 
   pub current_alike : (act_step header (act.Current one domain workflow) w).answer ≡ (act_step header (act.Current two domain workflow) w).answer
+  unfolding act_step
   current_alike = ap (read_answer current_answer) same
 
   pub state_alike : (act_step header (act.StateOf one domain workflow) w).answer ≡ (act_step header (act.StateOf two domain workflow) w).answer
+  unfolding act_step
   state_alike = ap (read_answer state_answer) same
 
   pub dump_alike : (act_step header (act.Dump one domain workflow) w).answer ≡ (act_step header (act.Dump two domain workflow) w).answer
+  unfolding act_step
   dump_alike = ap (read_answer (dump_answer domain workflow)) same
 
 -- a cluster shows the same as itself
@@ -37,6 +42,7 @@ shows_same-self domain workflow batches =
 
 pub compare_same : (header : Header) (one two : ClusterNo) (domain workflow : Name) (w : World) → learned_at header one domain workflow w ≡ learned_at header two domain workflow w
     → (act_step header (act.Compare one two domain workflow) w).answer ≡ ok (codes "same" ∷ [])
+unfolding act_step
 compare_same header one two domain workflow w same =
     ap (λ batches. compare_answer domain workflow batches (learned_at header two domain workflow w)) same
     ∙ ap (λ (b : Bool). ok ((if b then codes "same" else codes "differ") ∷ [])) (shows_same-self domain workflow (learned_at header two domain workflow w))

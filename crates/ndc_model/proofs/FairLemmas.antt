@@ -1,7 +1,8 @@
 -- The opening world is fair.
-use Rattle.std.proofs.Common.{◌≡◌, ◌≢◌, ℕ, zero, suc, ◌≤◌, Bool, true, false, cond, List, [], ◌∷◌, ◌++◌, length, map, replicate, slice_index_or, Some, refl, sym, ◌∙◌, subst, ap, arith}
+use Rattle.std.proofs.Common.{◌≡◌, ◌≢◌, ℕ, zero, suc, ◌<◌, ◌≤◌, Bool, true, false, not, ◌⊎◌, inl, inr, true≢false, List, [], ◌∷◌, ◌++◌, length, map, replicate, slice_index_or, Some, refl, sym, ◌∙◌, subst, ap, arith}
 use Rattle.std.specs.Prelude.{AllPairs, IsSomeAnd, find}
 use Rattle.std.specs.List.{AllByRecursion, IsAmong, filter, filter_map, flat_map}
+use Rattle.std.proofs.lemmas.Bool.Decides.{nat_tests}
 use Rattle.std.proofs.lemmas.List.{length-append, length-map, length-replicate}
 use Rattle.ndc_domain.specs.Clusters.{cluster_no, count_of, writer_of}
 use Rattle.ndc_domain.specs.Laws.{DaysAgree}
@@ -11,16 +12,24 @@ use Rattle.ndc_domain.specs.declared.record.DomainRecord.{DomainRecord}
 use Rattle.ndc_event.specs.declared.batch.Batch.{Batch}
 use Rattle.ndc_event.specs.declared.name.Name.{Name}
 use Rattle.ndc_script.specs.Register.{clusters_below}
+use Rattle.ndc_script.specs.WellFormed.{AreTwoClusters}
 use Rattle.ndc_script.specs.declared.script.Header.{Header}
 use Rattle.ndc_sets.specs.Sets.{Has}
 use Rattle.ndc_sets.specs.Sound.{IsSound}
 use Rattle.ndc_text.specs.Ranges.{InRange}
-use Rattle.ndc_model.specs.Cells.{Cell, Place, batch_there, empty_cell, is_of}
+use Rattle.ndc_sets.proofs.ForkLemmas.{among-cases}
+use Rattle.ndc_sets.proofs.Lists.{Among, all-from, filter-among, map-among}
+use Rattle.ndc_cells.specs.declared.message.Message.{Message}
+use Rattle.ndc_cells.specs.declared.place.Place.{Place}
+use Rattle.ndc_cells.specs.Cells.{Cell, both, empty_cell}
+use Rattle.ndc_cells.specs.Places.{in_order, is_of, place_of}
+use Rattle.ndc_cells.specs.Writing.{same_cluster}
 use Rattle.ndc_model.specs.Facts.{IsLetterFit, IsReached, ReportsAgree}
-use Rattle.ndc_model.specs.Fair.{AreNumbersSmall, ArrivalsWereWritten, CopiesNameOriginals, EachRecord, IsArrivedFit, IsFair, IsLaneTrue, IsOwn, IsShaped, LanesAreTrue, MembersAlone, NumbersAreSmall, RecordsAgree, WritersUseOwnVersions, WritingIsSound, is_named, places_written, written_of}
-use Rattle.ndc_model.specs.Moves.{all_written, in_order, shard_of}
-use Rattle.ndc_model.specs.Queues.{Lane, names_cluster, new_lane, queue_of}
-use Rattle.ndc_model.specs.World.{Cluster, Link, ProgressReport, cell_at, cluster_at, all_clusters, is_link, lane_at, link_at, link_found, new_cluster, new_link, opening_world, others_of, queue_at, trimmed_at}
+use Rattle.ndc_model.specs.Fair.{AreMessagesTrue, AreNumbersSmall, ArrivalsWereWritten, CopiesNameOriginals, EachRecord, IsArrivedFit, IsFair, IsLaneTrue, IsOwn, IsShaped, LanesAreTrue, MembersAlone, MessagesAreTrue, NumbersAreSmall, RecordsAgree, WritersUseOwnVersions, WritingIsSound, is_named, places_written, written_of}
+use Rattle.ndc_cells.specs.Shards.{shard_of}
+use Rattle.ndc_model.specs.Moves.{all_written}
+use Rattle.ndc_model.specs.Queues.{Lane, names_cluster, new_lane}
+use Rattle.ndc_model.specs.World.{Cluster, Link, ProgressReport, cell_at, cluster_at, all_clusters, lane_in, new_cluster, new_link, opening_world, others_of, queue_at, trimmed_at}
 
 -- lists of the same
 index-same : {X : Type 0} (x : X) (n i : ℕ) → slice_index_or (replicate n x) i x ≡ x
@@ -45,9 +54,19 @@ all-map : {X Y : Type 0} (P : Y → Type 0) (f : X → Y) (xs : List X) → ((x 
 all-map P f [] each = tt
 all-map P f (x ∷ xs) each = (each x, all-map P f xs each)
 
-all-flat : {X Y : Type 0} (P : Y → Type 0) (f : X → List Y) (xs : List X) → ((x : X) → AllByRecursion P (f x)) → AllByRecursion P (flat_map f xs)
+all-flat : {X Y : Type 0} (P : Y → Type 0) (f : X → List Y) (xs : List X) → ((x : X) → Among x xs → AllByRecursion P (f x)) → AllByRecursion P (flat_map f xs)
 all-flat P f [] each = tt
-all-flat P f (x ∷ xs) each = all-append P (f x) (flat_map f xs) (each x) (all-flat P f xs each)
+all-flat P f (x ∷ xs) each = all-append P (f x) (flat_map f xs) (each x (inl refl)) (all-flat P f xs (λ y among. each y (inr among)))
+
+-- the clusters of a header
+clusters-among : (count : ℕ) (cluster : ClusterNo) → Among cluster (clusters_below count) → cluster.number < count
+clusters-among zero cluster none = absurd none
+clusters-among (suc count) cluster among = by (clusters-among count cluster) (among-cases cluster (clusters_below count) (cluster_no count ∷ []) among)
+  where
+    by : (Among cluster (clusters_below count) → cluster.number < count) → Among cluster (clusters_below count) ⊎ Among cluster (cluster_no count ∷ []) → cluster.number < suc count
+    by below (inl front) = omega (arith, below front)
+    by below (inr (inl same)) = omega (arith, ap (λ (c : ClusterNo). c.number) same)
+    by below (inr (inr none)) = absurd none
 
 all-weaker : {X : Type 0} (P Q : X → Type 0) → ((x : X) → P x → Q x) → (xs : List X) → AllByRecursion P xs → AllByRecursion Q xs
 all-weaker P Q weaker [] all = tt
@@ -70,49 +89,47 @@ module _ (header : Header) where
   each-cell : (cluster : ClusterNo) (shard : ℕ) → cell_at cluster shard (opening_world header) ≡ empty_cell
   each-cell cluster shard = each-cluster (λ c. slice_index_or c.cells shard empty_cell ≡ empty_cell) cluster (index-same empty_cell header.shards shard) (index-same empty_cell 0 shard)
 
-  -- what readers have of sources
-  IsNew : Link → Type 0
-  IsNew link = (link.lanes ≡ replicate header.shards new_lane) × (link.late ≡ [])
+  -- what a reader has of a source in the beginning
+  record IsNew (link : Link) : Type 0 where
+    lanes : link.lanes ≡ replicate header.shards new_lane
+    late : link.late ≡ []
+    ends : AreTwoClusters header link.reader link.source
+
+  new-is : (reader source : ClusterNo) → Among reader (all_clusters header) → Among source (others_of header reader) → IsNew (new_link header reader source)
+  new-is reader source first second =
+      let p = filter-among (λ other. not (same_cluster reader other)) (all_clusters header) source second in
+      record {
+        lanes = refl;
+        late = refl;
+        ends = record { first = clusters-among (count_of header.clusters) reader first; second = clusters-among (count_of header.clusters) source p.1; differ = apart reader source p.0 };
+      }
+    where
+      apart : (one two : ClusterNo) → not (same_cluster one two) ≡ true → one.number ≢ two.number
+      apart one two n e = let same : same_cluster one two ≡ true = grind (arith, nat_tests) in true≢false (sym n ∙ ap not same)
 
   links-new : AllByRecursion IsNew (opening_world header).links
-  unfolding IsNew
-  links-new = all-flat IsNew (λ reader. map (new_link header reader) (others_of header reader)) (all_clusters header) (λ reader. all-map IsNew (new_link header reader) (others_of header reader) (λ source. (refl, refl)))
-
-  found-new : (reader source : ClusterNo) (links : List Link) → AllByRecursion IsNew links → IsNew (link_found header reader source (find (is_link reader source) links))
-  unfolding IsNew
-  found-new reader source [] all = (refl, refl)
-  found-new reader source (link ∷ links) all = by (is_link reader source link) (found-new reader source links all.1)
+  links-new =
+      all-flat IsNew (λ reader. map (new_link header reader) (others_of header reader)) (all_clusters header)
+      (λ reader known. all-from IsNew (map (new_link header reader) (others_of header reader)) (λ link among. by reader known link (map-among (new_link header reader) (others_of header reader) link among)))
     where
-      by : (t : Bool) → IsNew (link_found header reader source (find (is_link reader source) links)) → IsNew (link_found header reader source (cond t (Some link) (find (is_link reader source) links)))
-      by true rest = all.0
-      by false rest = rest
+      by : (reader : ClusterNo) → Among reader (all_clusters header) → (link : Link) → ((source : ClusterNo) × Among source (others_of header reader) × (link ≡ new_link header reader source)) → IsNew link
+      by reader known link found = subst IsNew (sym found.2) (new-is reader found.0 known found.1)
 
-  link-new : (reader source : ClusterNo) → IsNew (link_at header reader source (opening_world header))
-  link-new reader source = found-new reader source (opening_world header).links links-new
-
-  each-lane : (reader source : ClusterNo) (shard : ℕ) → lane_at header reader source shard (opening_world header) ≡ new_lane
-  unfolding IsNew
-  each-lane reader source shard = ap (λ lanes. slice_index_or lanes shard new_lane) (link-new reader source).0 ∙ index-same new_lane header.shards shard
-
-  no-late : (reader source : ClusterNo) → (link_at header reader source (opening_world header)).late ≡ []
-  unfolding IsNew
-  no-late reader source = (link-new reader source).1
+  each-lane : (link : Link) → IsNew link → (shard : ℕ) → lane_in link shard ≡ new_lane
+  each-lane link new shard = ap (λ lanes. slice_index_or lanes shard new_lane) new.lanes ∙ index-same new_lane header.shards shard
 
   no-trimmed : (source : ClusterNo) (shard : ℕ) → trimmed_at source (opening_world header) shard ≡ 0
   no-trimmed source shard =
       index-either (λ numbers. slice_index_or numbers shard 0 ≡ 0) (replicate header.shards 0) [] (all_clusters header) source.number (index-same 0 header.shards shard) refl
 
   no-queue : (source : ClusterNo) (shard : ℕ) → queue_at source shard (opening_world header) ≡ []
-  no-queue source shard = ap queue_of (each-cell source shard)
+  no-queue source shard = ap (λ (c : Cell). c.written) (each-cell source shard)
 
   no-writing : (shard : ℕ) → all_written header shard (opening_world header) ≡ []
-  no-writing shard = ap in_order (flat-none _ (all_clusters header) (λ cluster. ap written_in (each-cell cluster shard)))
-    where
-      written_in : Cell → List Batch
-      written_in cell = filter_map (batch_there cell.arrived) cell.written
+  no-writing shard = ap in_order (flat-none _ (all_clusters header) (λ cluster. ap (λ (c : Cell). flat_map both c.written) (each-cell cluster shard)))
 
   no-places : (shard : ℕ) → places_written header shard (opening_world header) ≡ []
-  no-places shard = flat-none _ (all_clusters header) (λ cluster. ap (λ (c : Cell). c.written) (each-cell cluster shard))
+  no-places shard = flat-none _ (all_clusters header) (λ cluster. ap (λ (c : Cell). map place_of (flat_map both c.written)) (each-cell cluster shard))
 
   none-written : (domain workflow : Name) → written_of header domain workflow (opening_world header) ≡ []
   none-written domain workflow = ap (filter (is_of domain workflow)) (no-writing (shard_of domain workflow header.shards))
@@ -138,6 +155,7 @@ module _ (header : Header) where
     differ = λ shard below. subst (λ (places : List Place). AllPairs (λ one two. one ≢ two) places) (sym (no-places shard)) (λ i j d lt in_list. absurd (omega (arith, in_list)));
     sound = λ domain workflow. subst IsSound (sym (none-written domain workflow)) sound-none;
     carried = λ domain workflow b has. let none : Has [] b = subst (λ (bs : List Batch). Has bs b) (none-written domain workflow) has in absurd (cc);
+    lone = λ domain workflow b has. let none : Has [] b = subst (λ (bs : List Batch). Has bs b) (none-written domain workflow) has in absurd (cc);
   }
 
   copies-fair : CopiesNameOriginals header (opening_world header)
@@ -145,7 +163,7 @@ module _ (header : Header) where
 
   writers-fair : WritersUseOwnVersions header (opening_world header)
   writers-fair cluster shard known below =
-      subst (λ (cell : Cell). AllByRecursion (IsOwn header cluster shard (cluster_at cluster (opening_world header)).table cell) cell.written) (sym (each-cell cluster shard)) tt
+      subst (λ (cell : Cell). AllByRecursion (IsOwn header cluster shard (cluster_at cluster (opening_world header)).table cell) (flat_map both cell.written)) (sym (each-cell cluster shard)) tt
 
   arrivals-fair : ArrivalsWereWritten header (opening_world header)
   arrivals-fair cluster shard known below = subst (IsArrivedFit header (opening_world header) shard) (sym (each-cell cluster shard)) (record {
@@ -154,13 +172,21 @@ module _ (header : Header) where
     carried = λ b second among. let none : IsAmong [] b = subst (λ (bs : List Batch). IsAmong bs b) (no-writing shard) among in absurd (omega (arith, none.1.0));
   })
 
-  lanes-fair : LanesAreTrue header (opening_world header)
-  lanes-fair reader source shard two below = subst (IsLaneTrue header reader source shard (opening_world header)) (sym (each-lane reader source shard)) (record {
-    trimmed_most = omega (arith, no-trimmed source shard);
+  messages-fair : MessagesAreTrue header (opening_world header)
+  messages-fair cluster shard known below =
+      subst (AreMessagesTrue header (opening_world header) shard) (sym (each-cell cluster shard)) (record { written = tt; waiting = refl })
+
+  lane-true : (link : Link) (shard : ℕ) → IsLaneTrue (opening_world header) link shard new_lane
+  lane-true link shard = record {
+    trimmed_most = omega (arith, no-trimmed link.source shard);
     levels = record { done_most = omega arith; read_most = omega arith };
     done = tt;
     flight = tt;
-  })
+  }
+
+  lanes-fair : LanesAreTrue header (opening_world header)
+  lanes-fair =
+      all-weaker IsNew _ (λ link new shard below. subst (IsLaneTrue (opening_world header) link shard) (sym (each-lane link new shard)) (lane-true link shard)) (opening_world header).links links-new
 
   -- what holds of no record holds of each
   each-record : (holds : DomainRecord → Type 0) → EachRecord header (opening_world header) holds
@@ -181,8 +207,12 @@ module _ (header : Header) where
   members-fair = record {
     members = each-record _;
     arrived = λ cluster shard known below. subst (λ (cell : Cell). AllByRecursion (λ b. is_named header cluster (opening_world header) b.domain ≡ true) cell.arrived) (sym (each-cell cluster shard)) tt;
-    flight = λ reader source shard two below. subst (λ (lane : Lane). AllByRecursion (λ sent. is_named header reader (opening_world header) sent.batch.domain ≡ true) lane.flight) (sym (each-lane reader source shard)) tt;
-    late = λ reader source two. subst (AllByRecursion (λ domain. names_cluster reader (record_of (cluster_at source (opening_world header)).table domain) ≡ true)) (sym (no-late reader source)) tt;
+    flight = all-weaker IsNew _
+        (λ link new shard below. subst (λ (lane : Lane). AllByRecursion (λ sent. is_named header link.reader (opening_world header) sent.batch.domain ≡ true) lane.flight) (sym (each-lane link new shard)) tt)
+        (opening_world header).links links-new;
+    late = all-weaker IsNew _
+        (λ link new. subst (AllByRecursion (λ domain. names_cluster link.reader (record_of (cluster_at link.source (opening_world header)).table domain) ≡ true)) (sym new.late) tt)
+        (opening_world header).links links-new;
   }
 
   numbers-fair : NumbersAreSmall header 0 (opening_world header)
@@ -199,16 +229,13 @@ module _ (header : Header) where
   length-clusters : length (all_clusters header) ≡ count_of header.clusters
   length-clusters = length-below (count_of header.clusters)
 
-  all-new : AllByRecursion IsNew (opening_world header).links → AllByRecursion (λ link. length link.lanes ≡ header.shards) (opening_world header).links
-  unfolding IsNew
-  all-new all = all-weaker _ _ (λ link new. ap length new.0 ∙ length-replicate header.shards new_lane) (opening_world header).links all
-
   shaped : IsShaped header (opening_world header)
   shaped = record {
     clusters = length-map (all_clusters header) _ ∙ length-clusters;
     cells = all-map _ _ (all_clusters header) (λ cluster. length-replicate header.shards empty_cell);
     links = refl;
-    lanes = all-new links-new;
+    ends = all-weaker IsNew _ (λ link new. new.ends) (opening_world header).links links-new;
+    lanes = all-weaker IsNew _ (λ link new. ap length new.lanes ∙ length-replicate header.shards new_lane) (opening_world header).links links-new;
     sources = length-map (all_clusters header) _ ∙ length-clusters;
     trimmed = all-map _ _ (all_clusters header) (λ cluster. length-replicate header.shards 0);
   }
@@ -219,6 +246,7 @@ module _ (header : Header) where
     copies = copies-fair;
     writers = writers-fair;
     arrivals = arrivals-fair;
+    messages = messages-fair;
     lanes = lanes-fair;
     records = records-fair;
     numbers = numbers-fair;

@@ -13,13 +13,13 @@ use Rattle.ndc_text.specs.Read.{read_of}
 use Rattle.ndc_text.specs.Text.{batch_text}
 use Rattle.ndc_text.specs.declared.error.TextError.{TextError}
 use Rattle.ndc_text.specs.declared.form.TextForm.TheVariants.{Two}
-use Rattle.ndc_model.specs.Cells.{Place, place_of, same_place}
+use Rattle.ndc_cells.specs.Places.{is_at, place_of}
 use Rattle.ndc_model.specs.Letters.{is_read_as}
 
--- a place is itself
-same_place-self : (place : Place) → same_place place place ≡ true
-same_place-self place =
-    and_from _ _ ((bytes_eq-Decides place.domain place.domain).1 refl) (and_from _ _ ((bytes_eq-Decides place.workflow place.workflow).1 refl) (key_eq-self place.key))
+-- a batch is at its place
+is_at-own : (b : Batch) → is_at (place_of b) b ≡ true
+is_at-own b =
+    and_from _ _ (and_from _ _ ((bytes_eq-Decides b.domain b.domain).1 refl) ((bytes_eq-Decides b.workflow b.workflow).1 refl)) (key_eq-self b.key)
 
 -- a front of a batch text that is read as a batch is the whole text
 front-whole : (b c : Batch) (cut : ℕ) → InRange b → read_of Two (take cut (batch_text b)) ≡ Ok c → length (batch_text b) ≤ cut
@@ -41,4 +41,4 @@ read_where_whole b cut range sound = by (nat_lt cut (length (batch_text b))) ref
     by false e =
         let most : length (batch_text b) ≤ cut = grind (arith, nat_tests) in
         let whole : take cut (batch_text b) ≡ batch_text b = take_all cut (batch_text b) most in
-        ap (λ bytes. is_read_as (place_of b) (read_of Two bytes)) whole ∙ ap (is_read_as (place_of b)) (text_again b range sound) ∙ same_place-self (place_of b)
+        ap (λ bytes. is_read_as (place_of b) (read_of Two bytes)) whole ∙ ap (is_read_as (place_of b)) (text_again b range sound) ∙ is_at-own b

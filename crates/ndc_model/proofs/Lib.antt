@@ -1,9 +1,7 @@
-pub mod CellLemmas
-pub mod PlaceLemmas
 pub mod LevelLemmas
+pub mod WorldLemmas
 pub mod StepLemmas
 pub mod ScriptLemmas
 pub mod FairLemmas
 pub mod LetterLemmas
-pub mod WorldLemmas
 pub mod AlikeLemmas

@@ -1,13 +1,15 @@
 -- Lines that change nothing.
-use Rattle.std.proofs.Common.{◌≡◌, ℕ, Bool, true, false, List, [], ◌∷◌, ◌++◌, remove, Option, Some, None, Result, Ok, Err, not, is_some, codes, cond, find, if◌then◌else◌, refl, sym, subst, true≢false}
+use Rattle.std.proofs.Common.{◌≡◌, ℕ, Bool, true, false, List, [], ◌∷◌, ◌++◌, remove, slice_set, Option, Some, None, Result, Ok, Err, not, is_some, codes, cond, find, if◌then◌else◌, refl, sym, subst, ap, ◌∙◌, true≢false}
 use Rattle.std.proofs.lemmas.Bool.{and_parts}
 use Rattle.std.proofs.lemmas.Slice.Eq.{bytes_eq-Decides}
 use Rattle.ndc_command.specs.declared.refusal.CommandError.{CommandError}
+use Rattle.ndc_command.specs.declared.refusal.CommandError.TheVariants.{Refused, Memory}
+use Rattle.ndc_event.specs.declared.batch.Batch.{Batch}
+use Rattle.ndc_cells.specs.Cells.{empty_cell}
 use Rattle.ndc_domain.specs.declared.clusters.ClusterNo.{ClusterNo}
 use Rattle.ndc_domain.specs.declared.record.DomainRecord.{DomainRecord}
 use Rattle.ndc_domain.specs.declared.record.FailoverError.{FailoverError}
 use Rattle.ndc_domain.specs.declared.record.JoinError.{JoinError}
-use Rattle.ndc_event.specs.declared.batch.Batch.{Batch}
 use Rattle.ndc_event.specs.declared.name.Name.{Name}
 use Rattle.ndc_script.specs.declared.script.Act.{Act}
 use Rattle.ndc_script.specs.declared.script.Act.TheVariants as act
@@ -17,18 +19,24 @@ use Rattle.ndc_domain.specs.Clusters.{writer_of}
 use Rattle.ndc_domain.specs.Records.{failover_of, record_of}
 use Rattle.ndc_text.specs.Read.{read_of}
 use Rattle.ndc_text.specs.declared.form.TextForm.TheVariants.{Two}
-use Rattle.ndc_model.specs.Arrival.{Message}
+use Rattle.ndc_cells.specs.declared.job.Job.{Job}
+use Rattle.ndc_cells.specs.declared.job.Job.TheVariants as job
+use Rattle.ndc_cells.specs.declared.message.Message.{Message}
+use Rattle.ndc_cells.specs.Jobs.{after_job, cell_for, cells_after, learned_in, outcome_of, replies_to, written_at, written_now, written_outcome}
+use Rattle.ndc_cells.specs.Shards.{shard_of}
+use Rattle.ndc_cells.specs.Writing.{Entry, command_of, is_writer, reset_at, same_cluster}
 use Rattle.ndc_model.specs.Handovers.{complete_lagging, complete_open, complete_overtaken, handover_begun, handover_by, handover_to, is_handover_of, lagging_shard, open_handover, without_handover}
 use Rattle.ndc_model.specs.Laws.{ChangesNothing, is_overtaken, is_reading, is_refusal}
 use Rattle.ndc_model.specs.Letters.{damage_at, is_read_as, letter_of, place_of_letter, with_letters}
 use Rattle.ndc_model.specs.Lines.{act_step}
 use Rattle.ndc_model.specs.Progress.{beat_by, beat_unless}
 use Rattle.ndc_model.specs.Sending.{flight_step}
-use Rattle.ndc_model.specs.Steps.{Stepped, answered, written_step}
+use Rattle.ndc_model.specs.Moves.{Note, jobs_done}
+use Rattle.ndc_model.specs.Steps.{Stepped, answered, command_step, outcome_answer, reset_step, seen_of}
 use Rattle.ndc_model.specs.Tables.{join_step, table_step}
 use Rattle.ndc_model.specs.Texts.{ok, refusal_words, refused}
-use Rattle.ndc_model.specs.World.{ActivityRef, Handover, Letter, World, cluster_at, flight_at, is_late, with_flight}
-use Rattle.ndc_model.specs.Writing.{is_writer, same_cluster}
+use Rattle.ndc_model.specs.World.{ActivityRef, Handover, Letter, World, cell_at, cluster_at, flight_at, home_at, is_late_in, link_at, with_cells, with_flight}
+use Rattle.ndc_model.proofs.WorldLemmas.{same-cells, set-same}
 
 -- a step that changes nothing where it refuses; an answer that ends a handover aside
 abbrev pub IsQuietRefusal : World → Stepped → Type 0
@@ -51,13 +59,32 @@ of-join : (at : ClusterNo) (w : World) (result : Result (List DomainRecord) Join
 of-join at w (Ok table) r o = absurd (true≢false (sym r))
 of-join at w (Err error) r o = record { world = refl; seen = refl }
 
-of-flight : (header : Header) (reader source : ClusterNo) (shard : ℕ) (w : World) (flight : Option (List Message)) → IsQuietRefusal w (flight_step header reader source shard w flight)
-of-flight header reader source shard w None r o = record { world = refl; seen = refl }
-of-flight header reader source shard w (Some flight) r o = absurd (true≢false (sym r))
+of-flight : (reader source : ClusterNo) (shard : ℕ) (w : World) (flight : Option (List Message)) → IsQuietRefusal w (flight_step reader source shard w flight)
+of-flight reader source shard w None r o = record { world = refl; seen = refl }
+of-flight reader source shard w (Some flight) r o = absurd (true≢false (sym r))
 
-of-writing : (cluster : ClusterNo) (shard : ℕ) (w : World) (result : Result (List Batch) CommandError) → IsQuietRefusal w (written_step cluster shard w result)
-of-writing cluster shard w (Ok batches) r o = absurd (true≢false (sym r))
-of-writing cluster shard w (Err error) r o = record { world = refl; seen = refl }
+-- what a cell was to write, as a step
+abbrev pub written_as : ClusterNo → ℕ → Job → World → Result (List Entry) CommandError → Stepped
+written_as cluster shard asked w result = record {
+  world = with_cells cluster (slice_set (cluster_at cluster w).cells shard (written_at result (cell_at cluster shard w))) w;
+  answer = outcome_answer (written_outcome result);
+  seen = seen_of (record { cluster = cluster; job = asked; reply = record { outcome = written_outcome result; learned = written_now result } } ∷ []);
+}
+
+of-writing : (cluster : ClusterNo) (shard : ℕ) (asked : Job) (w : World) (result : Result (List Entry) CommandError) → IsQuietRefusal w (written_as cluster shard asked w result)
+of-writing cluster shard asked w (Ok []) r o = absurd (true≢false (sym r))
+of-writing cluster shard asked w (Ok (entry ∷ entries)) r o = by entry.second entries r
+  where
+    by : (second : Option Batch) (entries : List Entry) → is_refusal (outcome_answer (written_outcome (Ok (record { batch = entry.batch; second = second } ∷ entries)))) ≡ true
+        → ChangesNothing w (written_as cluster shard asked w (Ok (entry ∷ entries)))
+    by (Some second) entries r = absurd (true≢false (sym r))
+    by None [] r = absurd (true≢false (sym r))
+    by None (more ∷ entries) r = absurd (true≢false (sym r))
+of-writing cluster shard asked w (Err (Refused refusal)) r o = record {
+  world = ap (λ cells. with_cells cluster cells w) (set-same (cluster_at cluster w).cells shard empty_cell) ∙ same-cells cluster w;
+  seen = refl;
+}
+of-writing cluster shard asked w (Err Memory) r o = absurd (true≢false (sym r))
 
 of-begun : (header : Header) (at : ClusterNo) (domain : Name) (target : ClusterNo) (one : DomainRecord) (w : World) (result : Result (ℕ × List DomainRecord) FailoverError)
     → IsQuietRefusal w (handover_begun header at domain target one w result)
@@ -78,16 +105,16 @@ of-lagging header handover w (Some shard) r o = record { world = refl; seen = re
 of-overtaken : (header : Header) (handover : Handover) (w : World) (version : Option ℕ) → IsQuietRefusal w (complete_overtaken header handover w version)
 of-overtaken header handover w (Some version) = λ r o. absurd (true≢false o)
 of-overtaken header handover w None =
-    either w (is_late header handover.taker handover.giver handover.domain w) (answered w (refused (codes "BootstrapDue" ∷ []))) (complete_lagging header handover w (lagging_shard header handover w))
+    either w (is_late_in handover.domain (link_at handover.taker handover.giver w)) (answered w (refused (codes "BootstrapDue" ∷ []))) (complete_lagging header handover w (lagging_shard header handover w))
     (quiet w _) (of-lagging header handover w (lagging_shard header handover w))
 
 of-complete : (header : Header) (w : World) (found : Option Handover) → IsQuietRefusal w (complete_open header w found)
 of-complete header w None = quiet w _
 of-complete header w (Some handover) = of-overtaken header handover w _
 
-of-damage : (header : Header) (reader source : ClusterNo) (shard place cut : ℕ) (w : World) (found : Option Message) → IsQuietRefusal w (damage_at header reader source shard place cut w found)
-of-damage header reader source shard place cut w None = quiet w _
-of-damage header reader source shard place cut w (Some sent) = by (is_read_as (place_of_letter letter) (read_of Two letter.bytes))
+of-damage : (reader source : ClusterNo) (shard place cut : ℕ) (w : World) (found : Option Message) → IsQuietRefusal w (damage_at reader source shard place cut w found)
+of-damage reader source shard place cut w None = quiet w _
+of-damage reader source shard place cut w (Some sent) = by (is_read_as (place_of_letter letter) (read_of Two letter.bytes))
   where
     letter : Letter
     letter = letter_of source cut sent
@@ -95,7 +122,7 @@ of-damage header reader source shard place cut w (Some sent) = by (is_read_as (p
     after : World
     after =
         with_letters reader ((cluster_at reader w).letters ++ letter ∷ [])
-        (with_flight header reader source shard (remove (flight_at header reader source shard w) place) w)
+        (with_flight reader source shard (remove (flight_at reader source shard w) place) w)
 
     by : (whole : Bool) → IsQuietRefusal w (if whole then answered w (ok (codes "whole" ∷ [])) else answered after (ok (codes "aside" ∷ [])))
     by true r o = absurd (true≢false (sym r))
@@ -111,7 +138,9 @@ of-beat cluster details w (Ok told) = of-unless cluster told.0 told.1 details w 
 
 -- a refused line changes nothing, but where a handover is overtaken
 pub refused_changes_nothing : (header : Header) (a : Act) (w : World) → IsQuietRefusal w (act_step header a w)
-refused_changes_nothing header (act.Command cluster domain workflow command) w = of-writing cluster _ w _
+unfolding act_step command_step reset_step jobs_done cells_after replies_to after_job outcome_of learned_in
+refused_changes_nothing header (act.Command cluster domain workflow command) w =
+    of-writing cluster (shard_of domain workflow header.shards) (job.Command domain workflow command) w (command_of (home_at header cluster w) domain workflow command (cell_at cluster (shard_of domain workflow header.shards) w))
 refused_changes_nothing header (act.Burst cluster jobs) w = quiet w _
 refused_changes_nothing header (act.Register at domain target days members) w = of-table _ at w _
 refused_changes_nothing header (act.Retain at domain days) w = of-table _ at w _
@@ -122,9 +151,9 @@ refused_changes_nothing header (act.Domain at domain) w = quiet w _
 refused_changes_nothing header (act.MembersOf at domain) w = quiet w _
 refused_changes_nothing header (act.Pull reader source) w = λ r _. absurd (true≢false (sym r))
 refused_changes_nothing header (act.PullSome reader source shard count) w = λ r _. absurd (true≢false (sym r))
-refused_changes_nothing header (act.Lose reader source shard place) w = of-flight header reader source shard w _
-refused_changes_nothing header (act.Repeat reader source shard place) w = of-flight header reader source shard w _
-refused_changes_nothing header (act.Move reader source shard place to) w = of-flight header reader source shard w _
+refused_changes_nothing header (act.Lose reader source shard place) w = of-flight reader source shard w _
+refused_changes_nothing header (act.Repeat reader source shard place) w = of-flight reader source shard w _
+refused_changes_nothing header (act.Move reader source shard place to) w = of-flight reader source shard w _
 refused_changes_nothing header (act.Work cluster) w = λ r _. absurd (true≢false (sym r))
 refused_changes_nothing header (act.Rewind reader source) w = λ r _. absurd (true≢false (sym r))
 refused_changes_nothing header (act.Trim source) w = λ r _. absurd (true≢false (sym r))
@@ -143,8 +172,9 @@ refused_changes_nothing header (act.Handover at domain target) w =
     either w (is_some (open_handover domain w)) (answered w (refused (codes "HandoverOpen" ∷ []))) (handover_by header at domain target w (record_of (cluster_at at w).table domain))
     (quiet w _) (of-handover header at domain target w (record_of (cluster_at at w).table domain))
 refused_changes_nothing header (act.Complete at domain) w = of-complete header w _
-refused_changes_nothing header (act.Reset cluster domain workflow event) w = of-writing cluster _ w _
-refused_changes_nothing header (act.Damage reader source shard place cut) w = of-damage header reader source shard place cut w _
+refused_changes_nothing header (act.Reset cluster domain workflow event) w =
+    of-writing cluster (shard_of domain workflow header.shards) (job.Reset domain workflow event) w (reset_at (home_at header cluster w) domain workflow event (cell_at cluster (shard_of domain workflow header.shards) w))
+refused_changes_nothing header (act.Damage reader source shard place cut) w = of-damage reader source shard place cut w _
 refused_changes_nothing header (act.LettersOf reader) w = quiet w _
 refused_changes_nothing header (act.Purge reader) w = λ r _. absurd (true≢false (sym r))
 refused_changes_nothing header (act.MergeLetters reader) w = λ r _. absurd (true≢false (sym r))
@@ -154,6 +184,7 @@ refused_changes_nothing header (act.ProgressOf cluster domain workflow id) w = q
 
 -- a line that only reads changes nothing
 pub reading_changes_nothing : (header : Header) (a : Act) (w : World) → is_reading a ≡ true → ChangesNothing w (act_step header a w)
+unfolding act_step
 reading_changes_nothing header (act.Domain at domain) w r = record { world = refl; seen = refl }
 reading_changes_nothing header (act.MembersOf at domain) w r = record { world = refl; seen = refl }
 reading_changes_nothing header (act.LevelsOf reader source shard) w r = record { world = refl; seen = refl }
@@ -172,7 +203,7 @@ reading_changes_nothing header _ w r = absurd (true≢false (sym r))
 by-overtaken : (header : Header) (handover : Handover) (w : World) (version : Option ℕ) → is_overtaken (complete_overtaken header handover w version).answer ≡ true
     → ChangesNothing (without_handover handover.domain w) (complete_overtaken header handover w version)
 by-overtaken header handover w (Some version) = λ o. record { world = refl; seen = refl }
-by-overtaken header handover w None = by (is_late header handover.taker handover.giver handover.domain w) (lagging_shard header handover w)
+by-overtaken header handover w None = by (is_late_in handover.domain (link_at handover.taker handover.giver w)) (lagging_shard header handover w)
   where
     by : (due : Bool) (shard : Option ℕ)
         → is_overtaken (if due then answered w (refused (codes "BootstrapDue" ∷ [])) else complete_lagging header handover w shard).answer ≡ true
@@ -193,6 +224,7 @@ found-passes test (y ∷ ys) x e = by (test y) refl e (found-passes test ys x)
 -- an overtaken handover is ended, and nothing else changes
 pub overtaken_ends : (header : Header) (at : ClusterNo) (domain : Name) (w : World) → is_overtaken (act_step header (act.Complete at domain) w).answer ≡ true
     → ChangesNothing (without_handover domain w) (act_step header (act.Complete at domain) w)
+unfolding act_step
 overtaken_ends header at domain w = by (handover_to at domain w) refl
   where
     by : (found : Option Handover) → handover_to at domain w ≡ found → is_overtaken (complete_open header w found).answer ≡ true

@@ -9,12 +9,12 @@ use Rattle.ndc_domain.specs.Records.{record_of}
 use Rattle.ndc_domain.specs.declared.clusters.ClusterNo.{ClusterNo}
 use Rattle.ndc_script.specs.WellFormed.{AreTwoClusters, IsCluster}
 use Rattle.ndc_script.specs.declared.script.Header.{Header}
-use Rattle.ndc_model.specs.Arrival.{Message}
-use Rattle.ndc_model.specs.Cells.{place_of, same_place}
+use Rattle.ndc_cells.specs.declared.message.Message.{Message}
+use Rattle.ndc_cells.specs.Places.{is_at}
+use Rattle.ndc_cells.specs.Shards.{shard_of}
 use Rattle.ndc_model.specs.Fair.{HasRecordFrom, IsFair, IsShaped, is_named, written_of}
 use Rattle.ndc_model.specs.Handovers.{place_in}
 use Rattle.ndc_model.specs.Letters.{place_of_letter}
-use Rattle.ndc_model.specs.Moves.{shard_of}
 use Rattle.ndc_model.specs.Queues.{names_cluster}
 use Rattle.ndc_model.specs.World.{Handover, Letter, ProgressReport, World, cluster_at, queue_at}
 
@@ -43,7 +43,7 @@ pub record HandoversFit (header : Header) (w : World) : Type 0 where
 -- a letter: its source is another cluster, whose queue has the message, and some record of its domain names the cluster
 pub record IsLetterFit (header : Header) (w : World) (cluster : ClusterNo) (letter : Letter) : Type 0 where
   pub clusters : AreTwoClusters header cluster letter.source
-  pub sent : list_any (λ sent. same_place (place_of_letter letter) (place_of sent.batch)) (queue_at letter.source (shard_of letter.domain letter.workflow header.shards) w) ≡ true
+  pub sent : list_any (λ sent. is_at (place_of_letter letter) sent.batch) (queue_at letter.source (shard_of letter.domain letter.workflow header.shards) w) ≡ true
   pub named : is_named header cluster w letter.domain ≡ true
 
 -- the letters of each cluster

@@ -1,5 +1,5 @@
--- Fair worlds: what is to hold of every world that a script comes to, in eight parts.
-use Rattle.std.specs.Prelude.{◌≡◌, ◌≢◌, ℕ, ◌*◌, ◌<◌, ◌≤◌, Bool, true, ◌||◌, is_some, AllPairs, List, map, length, take, Some, None, if◌then◌else◌}
+-- Fair worlds: what is to hold of every world that a script comes to, in nine parts.
+use Rattle.std.specs.Prelude.{◌≡◌, ◌≢◌, ℕ, ◌*◌, ◌<◌, ◌≤◌, Bool, true, false, ◌||◌, is_some, AllPairs, List, map, length, take, Some, None, if◌then◌else◌}
 use Rattle.std.specs.List.{AllByRecursion, IsAmong, filter, flat_map, list_any}
 use Rattle.ndc_domain.specs.Clusters.{cluster_no, count_of, writer_of}
 use Rattle.ndc_domain.specs.Laws.{DaysAgree, NamesActive}
@@ -7,25 +7,26 @@ use Rattle.ndc_domain.specs.Records.{IsTable, record_of}
 use Rattle.ndc_domain.specs.declared.clusters.ClusterNo.{ClusterNo}
 use Rattle.ndc_domain.specs.declared.record.DomainRecord.{DomainRecord}
 use Rattle.ndc_event.specs.declared.batch.Batch.{Batch}
-use Rattle.ndc_event.specs.declared.batch.Event.{Event}
-use Rattle.ndc_event.specs.declared.key.Origin.{Origin}
-use Rattle.ndc_event.specs.declared.kind.EventKind.TheVariants.{WorkflowExecutionSignaled}
 use Rattle.ndc_event.specs.declared.name.Name.{Name}
 use Rattle.ndc_script.specs.WellFormed.{AreTwoClusters, IsCluster}
 use Rattle.ndc_script.specs.declared.script.Header.{Header}
 use Rattle.ndc_sets.specs.Sets.{Has}
-use Rattle.ndc_sets.specs.Sound.{IsSound, Names}
-use Rattle.ndc_model.specs.Arrival.{has_arrived}
-use Rattle.ndc_model.specs.Cells.{AreInOrder, Cell, Place, batch_there, is_of, learned_of, place_of}
-use Rattle.ndc_model.specs.Moves.{all_written, shard_of}
-use Rattle.ndc_model.specs.Queues.{AreLevels, Lane, carries, names_cluster, needs_nothing}
+use Rattle.ndc_sets.specs.Sound.{CopiesNamed, IsSound}
+use Rattle.ndc_cells.specs.declared.message.Message.{Message}
+use Rattle.ndc_cells.specs.declared.place.Place.{Place}
+use Rattle.ndc_cells.specs.Arrival.{has_arrived}
+use Rattle.ndc_cells.specs.Cells.{Cell, both, carries, learned_of, own_message, put_off_in}
+use Rattle.ndc_cells.specs.Places.{AreInOrder, batch_there, is_of, place_of}
+use Rattle.ndc_cells.specs.Shards.{shard_of}
+use Rattle.ndc_cells.specs.Writing.{goes_on_as}
+use Rattle.ndc_model.specs.Moves.{all_written, messages_among}
+use Rattle.ndc_model.specs.Queues.{AreLevels, Lane, names_cluster, needs_nothing}
 use Rattle.ndc_model.specs.Report.{count_kinds, is_original}
-use Rattle.ndc_model.specs.World.{Link, World, all_clusters, cell_at, cluster_at, is_late, lane_at, link_at, opening_world, queue_at, trimmed_at}
-use Rattle.ndc_model.specs.Writing.{goes_on_as}
+use Rattle.ndc_model.specs.World.{Link, World, all_clusters, cell_at, cluster_at, is_late_in, lane_in, opening_world, queue_at, trimmed_at}
 
 -- the places of all that the clusters have written in a shard
 abbrev pub places_written : Header → ℕ → World → List Place
-places_written header shard w = flat_map (λ cluster. (cell_at cluster shard w).written) (all_clusters header)
+places_written header shard w = flat_map (λ cluster. map place_of (flat_map both (cell_at cluster shard w).written)) (all_clusters header)
 
 -- all batches of a workflow that any cluster has written
 abbrev pub written_of : Header → Name → Name → World → List Batch
@@ -43,28 +44,18 @@ EachRecord header w holds = (cluster : ClusterNo) → IsCluster header cluster �
 abbrev pub goes_on : Batch → Bool
 goes_on b = is_some (goes_on_as (map (λ event. event.kind) b.events))
 
--- no two writings are of one place; what the clusters wrote of a workflow is sound, and a batch carries one other exactly where it goes on as another run
+-- no two writings are of one place; what the clusters wrote of a workflow is sound, a batch carries one other exactly where it goes on as another run,
+-- and a carried one does not go on itself
 pub record WritingIsSound (header : Header) (w : World) : Type 0 where
   pub differ : (shard : ℕ) → shard < header.shards → AllPairs (λ one two. one ≢ two) (places_written header shard w)
   pub sound : (domain workflow : Name) → IsSound (written_of header domain workflow w)
   pub carried : (domain workflow : Name) (b : Batch) → Has (written_of header domain workflow w) b
       → length (filter (carries b) (written_of header domain workflow w)) ≡ (if goes_on b then 1 else 0)
-
--- one of the batches has the event that an origin names, and it is an original signal of this name and input
-pub record HasOriginal (batches : List Batch) (origin : Origin) (name input : Name) : Type 0 where
-  pub batch : Batch
-  pub has : Has batches batch
-  pub event : Event
-  pub among : IsAmong batch.events event
-  pub named : Names origin batch.run event
-  pub kind : event.kind ≡ WorkflowExecutionSignaled name input None
+  pub lone : (domain workflow : Name) (b : Batch) → Has (written_of header domain workflow w) b → is_some b.carrier ≡ true → goes_on b ≡ false
 
 -- each copied signal names an original one
 abbrev pub CopiesNameOriginals : Header → World → Type 0
-CopiesNameOriginals header w = (domain workflow : Name) (b : Batch) → Has (written_of header domain workflow w) b
-    → AllByRecursion
-    (λ copy. (name input : Name) (origin : Origin) → copy.kind ≡ WorkflowExecutionSignaled name input (Some origin) → HasOriginal (written_of header domain workflow w) origin name input)
-    b.events
+CopiesNameOriginals header w = (domain workflow : Name) → CopiesNamed (written_of header domain workflow w)
 
 -- a table has a record of the domain, whose version is not below this one
 pub record HasRecordFrom (version : ℕ) (domain : Name) (table : List DomainRecord) : Type 0 where
@@ -72,17 +63,33 @@ pub record HasRecordFrom (version : ℕ) (domain : Name) (table : List DomainRec
   pub has : record_of table domain ≡ Some found
   pub least : version ≤ found.version
 
--- what a cluster wrote in a shard: it is the workflow's shard, the version is the cluster's own, the batch is learned there, and the cluster's
--- record of the domain has come to the version
-pub record IsOwn (header : Header) (cluster : ClusterNo) (shard : ℕ) (table : List DomainRecord) (cell : Cell) (place : Place) : Type 0 where
-  pub lives : shard_of place.domain place.workflow header.shards ≡ shard
-  pub version : writer_of header.clusters place.key.version ≡ Some cluster
-  pub learned : is_some (batch_there (learned_of place.domain place.workflow cell) place) ≡ true
-  pub recorded : HasRecordFrom place.key.version place.domain table
+-- a batch that a cluster wrote in a shard: it is the workflow's shard, the version is the cluster's own, the batch is learned there, and the
+-- cluster's record of the domain has come to the version
+pub record IsOwn (header : Header) (cluster : ClusterNo) (shard : ℕ) (table : List DomainRecord) (cell : Cell) (b : Batch) : Type 0 where
+  pub lives : shard_of b.domain b.workflow header.shards ≡ shard
+  pub version : writer_of header.clusters b.key.version ≡ Some cluster
+  pub learned : Has (learned_of b.domain b.workflow cell) b
+  pub recorded : HasRecordFrom b.key.version b.domain table
 
 -- each cluster has written with versions of its own
 abbrev pub WritersUseOwnVersions : Header → World → Type 0
-WritersUseOwnVersions header w = EachCell header w (λ cluster shard cell. AllByRecursion (IsOwn header cluster shard (cluster_at cluster w).table cell) cell.written)
+WritersUseOwnVersions header w =
+    EachCell header w (λ cluster shard cell. AllByRecursion (IsOwn header cluster shard (cluster_at cluster w).table cell) (flat_map both cell.written))
+
+-- a message is that of a batch of all that was written, with the version history of its path and the one that it carries
+abbrev pub IsMessageTrue : Header → ℕ → World → Message → Type 0
+IsMessageTrue header shard w sent =
+    (batch_there (all_written header shard w) (place_of sent.batch) ≡ Some sent.batch)
+    × (own_message (filter (is_of sent.batch.domain sent.batch.workflow) (all_written header shard w)) (all_written header shard w) sent.batch ≡ Some sent)
+
+-- the messages that cells have written are those of their batches, and what waits in a cell is the messages of what is put off there
+pub record AreMessagesTrue (header : Header) (w : World) (shard : ℕ) (cell : Cell) : Type 0 where
+  pub written : AllByRecursion (IsMessageTrue header shard w) cell.written
+  pub waiting : cell.waiting ≡ messages_among (all_written header shard w) (put_off_in cell)
+
+-- the same of the cell of each cluster for each shard
+abbrev pub MessagesAreTrue : Header → World → Type 0
+MessagesAreTrue header w = EachCell header w (λ cluster shard cell. AreMessagesTrue header w shard cell)
 
 -- what has arrived was written, each batch once, and a batch has arrived exactly where the one that it carries has
 pub record IsArrivedFit (header : Header) (w : World) (shard : ℕ) (cell : Cell) : Type 0 where
@@ -95,20 +102,23 @@ pub record IsArrivedFit (header : Header) (w : World) (shard : ℕ) (cell : Cell
 abbrev pub ArrivalsWereWritten : Header → World → Type 0
 ArrivalsWereWritten header w = EachCell header w (λ cluster shard cell. IsArrivedFit header w shard cell)
 
+-- something holds of each lane of each link
+abbrev pub EachLane : Header → World → (Link → ℕ → Lane → Type 0) → Type 0
+EachLane header w holds = AllByRecursion (λ link. (shard : ℕ) → shard < header.shards → holds link shard (lane_in link shard)) w.links
+
 -- the levels of a lane: nothing is trimmed that is not done, nothing is done that was not read, and nothing was read behind the queue's end;
 -- what is done is learned by the reader, not addressed to it, or late; what is in flight is in the queue
-pub record IsLaneTrue (header : Header) (reader source : ClusterNo) (shard : ℕ) (w : World) (lane : Lane) : Type 0 where
-  pub trimmed_most : trimmed_at source w shard ≤ lane.done
-  pub levels : AreLevels (queue_at source shard w) lane
+pub record IsLaneTrue (w : World) (link : Link) (shard : ℕ) (lane : Lane) : Type 0 where
+  pub trimmed_most : trimmed_at link.source w shard ≤ lane.done
+  pub levels : AreLevels (queue_at link.source shard w) lane
   pub done : AllByRecursion
-      (λ sent. (needs_nothing reader (cluster_at source w).table (cell_at reader shard w) sent || is_late header reader source sent.batch.domain w) ≡ true)
-      (take lane.done (queue_at source shard w))
-  pub flight : AllByRecursion (IsAmong (queue_at source shard w)) lane.flight
+      (λ sent. (needs_nothing link.reader (cluster_at link.source w).table (cell_at link.reader shard w) sent || is_late_in sent.batch.domain link) ≡ true)
+      (take lane.done (queue_at link.source shard w))
+  pub flight : AllByRecursion (IsAmong (queue_at link.source shard w)) lane.flight
 
 -- the same of each lane
 abbrev pub LanesAreTrue : Header → World → Type 0
-LanesAreTrue header w = (reader source : ClusterNo) (shard : ℕ) → AreTwoClusters header reader source → shard < header.shards
-    → IsLaneTrue header reader source shard w (lane_at header reader source shard w)
+LanesAreTrue header w = EachLane header w (IsLaneTrue w)
 
 -- the primary cluster: the first of the header
 abbrev pub primary : ClusterNo
@@ -161,20 +171,19 @@ is_named header cluster w domain = list_any (λ other. names_cluster cluster (re
 pub record MembersAlone (header : Header) (w : World) : Type 0 where
   pub members : EachRecord header w (AreMembersKnown header)
   pub arrived : EachCell header w (λ cluster shard cell. AllByRecursion (λ b. is_named header cluster w b.domain ≡ true) cell.arrived)
-  pub flight : (reader source : ClusterNo) (shard : ℕ) → AreTwoClusters header reader source → shard < header.shards
-      → AllByRecursion (λ sent. is_named header reader w sent.batch.domain ≡ true) (lane_at header reader source shard w).flight
-  pub late : (reader source : ClusterNo) → AreTwoClusters header reader source
-      → AllByRecursion (λ domain. names_cluster reader (record_of (cluster_at source w).table domain) ≡ true) (link_at header reader source w).late
+  pub flight : EachLane header w (λ link shard lane. AllByRecursion (λ sent. is_named header link.reader w sent.batch.domain ≡ true) lane.flight)
+  pub late : AllByRecursion (λ link. AllByRecursion (λ domain. names_cluster link.reader (record_of (cluster_at link.source w).table domain) ≡ true) link.late) w.links
 
 -- the reader and the source of a link
 abbrev pub ends_of : Link → ClusterNo × ClusterNo
 ends_of link = (link.reader, link.source)
 
--- a world has a part for each cluster, reader, source and shard of the header
+-- a world has a part for each cluster, reader, source and shard of the header, and links between clusters of the header
 pub record IsShaped (header : Header) (w : World) : Type 0 where
   pub clusters : length w.clusters ≡ count_of header.clusters
   pub cells : AllByRecursion (λ cluster. length cluster.cells ≡ header.shards) w.clusters
   pub links : map ends_of w.links ≡ map ends_of (opening_world header).links
+  pub ends : AllByRecursion (λ link. AreTwoClusters header link.reader link.source) w.links
   pub lanes : AllByRecursion (λ link. length link.lanes ≡ header.shards) w.links
   pub sources : length w.trimmed ≡ count_of header.clusters
   pub trimmed : AllByRecursion (λ levels. length levels ≡ header.shards) w.trimmed
@@ -185,6 +194,7 @@ pub record IsFair (header : Header) (lines : ℕ) (w : World) : Type 0 where
   pub copies : CopiesNameOriginals header w
   pub writers : WritersUseOwnVersions header w
   pub arrivals : ArrivalsWereWritten header w
+  pub messages : MessagesAreTrue header w
   pub lanes : LanesAreTrue header w
   pub records : RecordsAgree header lines w
   pub numbers : NumbersAreSmall header lines w

@@ -14,8 +14,8 @@ use Rattle.ndc_script.specs.declared.script.Header.{Header}
 use Rattle.ndc_model.specs.Steps.{Stepped, answered}
 use Rattle.ndc_model.specs.Tables.{failover_words}
 use Rattle.ndc_model.specs.Texts.{ok, refusal_words, refused}
-use Rattle.ndc_model.specs.World.{Handover, World, cluster_at, is_late, lane_at, queue_at, shards_of, with_table}
-use Rattle.ndc_model.specs.Writing.{is_writer, same_cluster}
+use Rattle.ndc_model.specs.World.{Handover, World, cluster_at, is_late_in, lane_at, link_at, queue_at, shards_of, with_table}
+use Rattle.ndc_cells.specs.Writing.{is_writer, same_cluster}
 
 -- whether a handover is of this domain
 abbrev pub is_handover_of : Name → Handover → Bool
@@ -78,12 +78,12 @@ abbrev pub place_in : Handover → ℕ → ℕ
 place_in handover shard = slice_index_or handover.places shard 0
 
 -- how far it is done
-abbrev pub done_in : Header → Handover → World → ℕ → ℕ
-done_in header handover w shard = (lane_at header handover.taker handover.giver shard w).done
+abbrev pub done_in : Handover → World → ℕ → ℕ
+done_in handover w shard = (lane_at handover.taker handover.giver shard w).done
 
 -- the first shard in which the taker is not done with what was written before the handover
 abbrev pub lagging_shard : Header → Handover → World → Option ℕ
-lagging_shard header handover w = find (λ shard. nat_lt (done_in header handover w shard) (place_in handover shard)) (shards_of header)
+lagging_shard header handover w = find (λ shard. nat_lt (done_in handover w shard) (place_in handover shard)) (shards_of header)
 
 -- the taker merges the one record, and the handover ends
 abbrev pub handed_over : Handover → World → World
@@ -99,13 +99,13 @@ taken_version handover w = version_or_zero (record_of (cluster_at handover.taker
 abbrev pub complete_lagging : Header → Handover → World → Option ℕ → Stepped
 complete_lagging header handover w None = answered (handed_over handover w) (ok (decimal (taken_version handover (handed_over handover w)) ∷ []))
 complete_lagging header handover w (Some shard) =
-    answered w (refused (codes "NotYet" ∷ decimal shard ∷ decimal (done_in header handover w shard) ∷ decimal (place_in handover shard) ∷ []))
+    answered w (refused (codes "NotYet" ∷ decimal shard ∷ decimal (done_in handover w shard) ∷ decimal (place_in handover shard) ∷ []))
 
 -- the taker's record may have come to a version not below the new one: this ends the handover
 abbrev pub complete_overtaken : Header → Handover → World → Option ℕ → Stepped
 complete_overtaken header handover w (Some version) = answered (without_handover handover.domain w) (refused (codes "Overtaken" ∷ decimal version ∷ []))
 complete_overtaken header handover w None =
-    if is_late header handover.taker handover.giver handover.domain w then answered w (refused (codes "BootstrapDue" ∷ []))
+    if is_late_in handover.domain (link_at handover.taker handover.giver w) then answered w (refused (codes "BootstrapDue" ∷ []))
     else complete_lagging header handover w (lagging_shard header handover w)
 
 -- the open handover of a domain to a taker, where there is one

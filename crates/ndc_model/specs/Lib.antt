@@ -1,6 +1,3 @@
-pub mod Cells
-pub mod Arrival
-pub mod Writing
 pub mod Queues
 pub mod World
 pub mod Moves
@@ -14,8 +11,8 @@ pub mod Letters
 pub mod Progress
 pub mod Lines
 pub mod Report
+pub mod Laws
 pub mod Fair
 pub mod Facts
-pub mod Laws
 pub mod Worked
 pub mod Scripts

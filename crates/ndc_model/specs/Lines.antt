@@ -21,7 +21,7 @@ use Rattle.ndc_model.specs.Texts.{ok}
 use Rattle.ndc_model.specs.World.{World, cluster_at, opening_world}
 
 -- what a line leaves and answers; a burst is not one line but those in it, and does nothing of its own
-abbrev pub act_step : Header → Act → World → Stepped
+unfoldable pub act_step : Header → Act → World → Stepped
 act_step header (act.Command cluster domain workflow command) w = command_step header cluster domain workflow command w
 act_step header (act.Burst cluster jobs) w = answered w []
 act_step header (act.Register at domain target days members) w =
@@ -32,15 +32,15 @@ act_step header (act.Failover at domain target) w = table_step failover_words at
 act_step header (act.Domains to from) w = domains_step to from w
 act_step header (act.Domain at domain) w = answered w (domain_answer header (record_of (cluster_at at w).table domain))
 act_step header (act.MembersOf at domain) w = answered w (members_answer header (record_of (cluster_at at w).table domain))
-act_step header (act.Pull reader source) w = pull_step header reader source w
-act_step header (act.PullSome reader source shard count) w = pull_some_step header reader source shard count w
-act_step header (act.Lose reader source shard place) w = lose_step header reader source shard place w
-act_step header (act.Repeat reader source shard place) w = repeat_step header reader source shard place w
-act_step header (act.Move reader source shard place to) w = move_step header reader source shard place to w
+act_step header (act.Pull reader source) w = pull_step reader source w
+act_step header (act.PullSome reader source shard count) w = pull_some_step reader source shard count w
+act_step header (act.Lose reader source shard place) w = lose_step reader source shard place w
+act_step header (act.Repeat reader source shard place) w = repeat_step reader source shard place w
+act_step header (act.Move reader source shard place to) w = move_step reader source shard place to w
 act_step header (act.Work cluster) w = work_step header cluster w
-act_step header (act.Rewind reader source) w = answered (rewound header reader source w) (ok [])
+act_step header (act.Rewind reader source) w = answered (rewound reader source w) (ok [])
 act_step header (act.Trim source) w = trim_step header source w
-act_step header (act.LevelsOf reader source shard) w = answered w (levels_answer header reader source shard w)
+act_step header (act.LevelsOf reader source shard) w = answered w (levels_answer reader source shard w)
 act_step header (act.Gaps cluster) w = answered w (gaps_answer header cluster w)
 act_step header (act.Resend cluster) w = resend_step header cluster w
 act_step header (act.Bootstrap reader source) w = bootstrap_step header reader source w
@@ -55,7 +55,7 @@ act_step header (act.Compare one two domain workflow) w =
 act_step header (act.Handover at domain target) w = handover_step header at domain target w
 act_step header (act.Complete at domain) w = complete_step header at domain w
 act_step header (act.Reset cluster domain workflow event) w = reset_step header cluster domain workflow event w
-act_step header (act.Damage reader source shard place cut) w = damage_step header reader source shard place cut w
+act_step header (act.Damage reader source shard place cut) w = damage_step reader source shard place cut w
 act_step header (act.LettersOf reader) w = answered w (letters_answer header (cluster_at reader w).letters)
 act_step header (act.Purge reader) w = purge_step reader w
 act_step header (act.MergeLetters reader) w = mergeletters_step header reader w

@@ -18,13 +18,12 @@ use Rattle.ndc_sets.specs.Paths.{events_to}
 use Rattle.ndc_state.specs.Pendings.{pending_of}
 use Rattle.ndc_state.specs.Value.{StateValue}
 use Rattle.ndc_state.specs.declared.pendings.Pending.{Pending}
-use Rattle.ndc_model.specs.Cells.{Cell, learned_of}
-use Rattle.ndc_model.specs.Moves.{cell_of}
+use Rattle.ndc_cells.specs.Cells.{Cell, learned_of}
 use Rattle.ndc_model.specs.Reading.{learned_at, read_answer, tip_answer}
 use Rattle.ndc_model.specs.Steps.{Stepped, answered, error_answer}
 use Rattle.ndc_model.specs.Texts.{ok, refused}
-use Rattle.ndc_model.specs.World.{ActivityRef, ProgressReport, World, cluster_at, home_at, with_cluster}
-use Rattle.ndc_model.specs.Writing.{Home, as_command_error, may_write}
+use Rattle.ndc_model.specs.World.{ActivityRef, ProgressReport, World, cell_of, cluster_at, home_at, with_cluster}
+use Rattle.ndc_cells.specs.Writing.{Home, as_command_error, may_write}
 
 -- whether two activities are one
 abbrev pub same_activity : ActivityRef → ActivityRef → Bool

@@ -13,10 +13,9 @@ use Rattle.ndc_sets.specs.View.{view_of}
 use Rattle.ndc_state.specs.Text.{state_text}
 use Rattle.ndc_event.specs.Key.{run_text}
 use Rattle.ndc_text.specs.Views.{dump_text, key_text, run_lines, status_text}
-use Rattle.ndc_model.specs.Cells.{learned_of}
-use Rattle.ndc_model.specs.Moves.{cell_of}
+use Rattle.ndc_cells.specs.Cells.{learned_of}
 use Rattle.ndc_model.specs.Texts.{event_line, ok, refused}
-use Rattle.ndc_model.specs.World.{World}
+use Rattle.ndc_model.specs.World.{World, cell_of}
 
 -- what is learned of a workflow at a cluster
 abbrev pub learned_at : Header → ClusterNo → Name → Name → World → List Batch

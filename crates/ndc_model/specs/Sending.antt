@@ -9,46 +9,46 @@ use Rattle.ndc_script.specs.declared.script.Header.{Header}
 use Rattle.ndc_sets.specs.Paths.{first_id, last_item_of, path_to}
 use Rattle.ndc_state.specs.Replay.{history_of}
 use Rattle.ndc_text.specs.Views.{item_text, key_text}
-use Rattle.ndc_model.specs.Arrival.{Message}
-use Rattle.ndc_model.specs.Cells.{Cell, arrived_of, is_learned_in, is_of, missing_of, put_off_in}
-use Rattle.ndc_model.specs.Moves.{Note, after_settlement, all_written, bootstrapped, from_world, pulled_all, pulled_shard, resent, trimmed_all, trimmed_level, worked}
-use Rattle.ndc_model.specs.Queues.{after_loss, after_move, after_repeat, put_in_flight}
+use Rattle.ndc_cells.specs.declared.message.Message.{Message}
+use Rattle.ndc_cells.specs.Cells.{Cell, arrived_of, is_learned_in, missing_of, put_off_in}
+use Rattle.ndc_cells.specs.Places.{is_of}
+use Rattle.ndc_model.specs.Moves.{Note, after_settlement, all_written, bootstrapped, from_world, map_from, pulled_all, pulled_shard, resent, trimmed_all, trimmed_level, worked}
+use Rattle.ndc_model.specs.Queues.{Lane, after_loss, after_move, after_repeat, put_in_flight}
 use Rattle.ndc_model.specs.Steps.{Stepped, answered, applied_by, arrived_by, known_by, learned_by, moved, put_off_by, total}
 use Rattle.ndc_model.specs.Texts.{ok, refused}
-use Rattle.ndc_model.specs.World.{World, cell_at, cluster_at, flight_at, lane_at, link_at, queue_at, shards_of, trimmed_at, with_flight}
+use Rattle.ndc_model.specs.World.{Link, World, cell_at, cluster_at, flight_at, lane_at, link_at, queue_at, shards_of, trimmed_at, with_flight}
 
--- how many entries a pull puts in flight
-abbrev pub pull_count : Header → ClusterNo → ClusterNo → Option ℕ → World → ℕ → ℕ
-pull_count header reader source count w shard =
-    length (put_in_flight reader (cluster_at source w).table count (queue_at source shard w) (lane_at header reader source shard w))
+-- how many entries of a lane a pull puts in flight: of all, or of at most so many
+abbrev pub pull_count : World → Option ℕ → Link → ℕ → Lane → ℕ
+pull_count w count link shard lane = length (put_in_flight link.reader (cluster_at link.source w).table count (queue_at link.source shard w) lane)
 
 -- `pull` for every shard
-abbrev pub pull_step : Header → ClusterNo → ClusterNo → World → Stepped
-pull_step header reader source w =
-    answered (pulled_all header reader source w) (ok (decimal (sum (map (pull_count header reader source None w) (shards_of header))) ∷ []))
+abbrev pub pull_step : ClusterNo → ClusterNo → World → Stepped
+pull_step reader source w =
+    answered (pulled_all reader source w) (ok (decimal (sum (map_from (pull_count w None (link_at reader source w)) 0 (link_at reader source w).lanes)) ∷ []))
 
 -- `pull` for one shard, at most so many
-abbrev pub pull_some_step : Header → ClusterNo → ClusterNo → ℕ → ℕ → World → Stepped
-pull_some_step header reader source shard count w =
-    answered (pulled_shard header reader source (Some count) w shard) (ok (decimal (pull_count header reader source (Some count) w shard) ∷ []))
+abbrev pub pull_some_step : ClusterNo → ClusterNo → ℕ → ℕ → World → Stepped
+pull_some_step reader source shard count w =
+    answered (pulled_shard reader source shard count w) (ok (decimal (pull_count w (Some count) (link_at reader source w) shard (lane_at reader source shard w)) ∷ []))
 
 -- a change of a list in flight, where its places are there
-abbrev pub flight_step : Header → ClusterNo → ClusterNo → ℕ → World → Option (List Message) → Stepped
-flight_step header reader source shard w None = answered w (refused (codes "NoSuchPlace" ∷ []))
-flight_step header reader source shard w (Some flight) =
-    answered (with_flight header reader source shard flight w) (ok [])
+abbrev pub flight_step : ClusterNo → ClusterNo → ℕ → World → Option (List Message) → Stepped
+flight_step reader source shard w None = answered w (refused (codes "NoSuchPlace" ∷ []))
+flight_step reader source shard w (Some flight) =
+    answered (with_flight reader source shard flight w) (ok [])
 
 -- `lose`
-abbrev pub lose_step : Header → ClusterNo → ClusterNo → ℕ → ℕ → World → Stepped
-lose_step header reader source shard place w = flight_step header reader source shard w (after_loss place (flight_at header reader source shard w))
+abbrev pub lose_step : ClusterNo → ClusterNo → ℕ → ℕ → World → Stepped
+lose_step reader source shard place w = flight_step reader source shard w (after_loss place (flight_at reader source shard w))
 
 -- `repeat`
-abbrev pub repeat_step : Header → ClusterNo → ClusterNo → ℕ → ℕ → World → Stepped
-repeat_step header reader source shard place w = flight_step header reader source shard w (after_repeat place (flight_at header reader source shard w))
+abbrev pub repeat_step : ClusterNo → ClusterNo → ℕ → ℕ → World → Stepped
+repeat_step reader source shard place w = flight_step reader source shard w (after_repeat place (flight_at reader source shard w))
 
 -- `move`
-abbrev pub move_step : Header → ClusterNo → ClusterNo → ℕ → ℕ → ℕ → World → Stepped
-move_step header reader source shard place to w = flight_step header reader source shard w (after_move place to (flight_at header reader source shard w))
+abbrev pub move_step : ClusterNo → ClusterNo → ℕ → ℕ → ℕ → World → Stepped
+move_step reader source shard place to w = flight_step reader source shard w (after_move place to (flight_at reader source shard w))
 
 -- how many batches became learned, how many messages were known and put off, and how many batches were applied again
 abbrev pub work_words : List Note → List (List ℕ)
@@ -65,11 +65,11 @@ trim_step header source w =
     answered (trimmed_all header source w) (ok (decimal (sum (map (λ shard. trimmed_level header source w shard - trimmed_at source w shard) (shards_of header))) ∷ []))
 
 -- `levels`
-abbrev pub levels_answer : Header → ClusterNo → ClusterNo → ℕ → World → List ℕ
-levels_answer header reader source shard w =
+abbrev pub levels_answer : ClusterNo → ClusterNo → ℕ → World → List ℕ
+levels_answer reader source shard w =
     ok (codes "queue" ∷ decimal (length (queue_at source shard w)) ∷ codes "trimmed" ∷ decimal (trimmed_at source w shard)
-    ∷ codes "read" ∷ decimal (lane_at header reader source shard w).read ∷ codes "done" ∷ decimal (lane_at header reader source shard w).done
-    ∷ codes "flight" ∷ decimal (length (flight_at header reader source shard w)) ∷ [])
+    ∷ codes "read" ∷ decimal (lane_at reader source shard w).read ∷ codes "done" ∷ decimal (lane_at reader source shard w).done
+    ∷ codes "flight" ∷ decimal (length (flight_at reader source shard w)) ∷ [])
 
 -- an item, or the one before all
 abbrev pub item_or_zero : Option Item → Item
@@ -114,7 +114,7 @@ resend_step header cluster w = moved (resent header cluster w) (arrived_words (r
 abbrev pub bootstrap_step : Header → ClusterNo → ClusterNo → World → Stepped
 bootstrap_step header reader source w =
     moved (bootstrapped header reader (from_world w) source)
-    (codes "domains" ∷ decimal (length (link_at header reader source w).late) ∷ arrived_words (bootstrapped header reader (from_world w) source).notes)
+    (codes "domains" ∷ decimal (length (link_at reader source w).late) ∷ arrived_words (bootstrapped header reader (from_world w) source).notes)
 
 -- `settle`
 abbrev pub settle_step : Header → World → Stepped

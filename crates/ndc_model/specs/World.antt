@@ -11,10 +11,12 @@ use Rattle.ndc_event.specs.declared.key.RunId.{RunId}
 use Rattle.ndc_event.specs.declared.name.Name.{Name}
 use Rattle.ndc_script.specs.declared.script.Header.{Header}
 use Rattle.ndc_script.specs.Register.{clusters_below}
-use Rattle.ndc_model.specs.Arrival.{Message}
-use Rattle.ndc_model.specs.Cells.{Cell, empty_cell}
-use Rattle.ndc_model.specs.Queues.{Lane, names_cluster, new_lane, queue_of}
-use Rattle.ndc_model.specs.Writing.{Home, same_cluster}
+use Rattle.ndc_cells.specs.declared.message.Message.{Message}
+use Rattle.ndc_cells.specs.Cells.{Cell, empty_cell}
+use Rattle.ndc_cells.specs.Jobs.{cell_for}
+use Rattle.ndc_cells.specs.Shards.{shard_of}
+use Rattle.ndc_cells.specs.Writing.{Home, same_cluster}
+use Rattle.ndc_model.specs.Queues.{Lane, names_cluster, new_lane}
 
 -- a message that was set aside: where it came from, the batch that it was, and the bytes that came
 pub record Letter : Type 0 where
@@ -105,52 +107,65 @@ cluster_at cluster w = slice_index_or w.clusters cluster.number (new_cluster 0)
 
 -- the cell of a cluster for a shard
 abbrev pub cell_at : ClusterNo → ℕ → World → Cell
-cell_at cluster shard w = slice_index_or (cluster_at cluster w).cells shard empty_cell
+cell_at cluster shard w = cell_for shard (cluster_at cluster w).cells
 
--- the queue of a source for a shard
+-- the cell of a cluster in which a workflow lives
+abbrev pub cell_of : Header → ClusterNo → Name → Name → World → Cell
+cell_of header cluster domain workflow w = cell_at cluster (shard_of domain workflow header.shards) w
+
+-- the queue of a source for a shard: what its cell has written
 abbrev pub queue_at : ClusterNo → ℕ → World → List Message
-queue_at source shard w = queue_of (cell_at source shard w)
+queue_at source shard w = (cell_at source shard w).written
 
 -- whether it is what this reader has of this source
 abbrev pub is_link : ClusterNo → ClusterNo → Link → Bool
 is_link reader source link = same_cluster link.reader reader && same_cluster link.source source
 
--- the link that was found, or a new one
-abbrev pub link_found : Header → ClusterNo → ClusterNo → Option Link → Link
-link_found header reader source None = new_link header reader source
-link_found header reader source (Some link) = link
+-- the link that was found; where there is none, one without lanes
+abbrev pub link_found : ClusterNo → ClusterNo → Option Link → Link
+link_found reader source None = record { reader = reader; source = source; lanes = []; late = [] }
+link_found reader source (Some link) = link
 
 -- what a reader has of a source in a world
-abbrev pub link_at : Header → ClusterNo → ClusterNo → World → Link
-link_at header reader source w = link_found header reader source (find (is_link reader source) w.links)
+abbrev pub link_at : ClusterNo → ClusterNo → World → Link
+link_at reader source w = link_found reader source (find (is_link reader source) w.links)
+
+-- the lane of a link for a shard
+abbrev pub lane_in : Link → ℕ → Lane
+lane_in link shard = slice_index_or link.lanes shard new_lane
 
 -- the lane of a reader, a source and a shard
-abbrev pub lane_at : Header → ClusterNo → ClusterNo → ℕ → World → Lane
-lane_at header reader source shard w = slice_index_or (link_at header reader source w).lanes shard new_lane
+abbrev pub lane_at : ClusterNo → ClusterNo → ℕ → World → Lane
+lane_at reader source shard w = lane_in (link_at reader source w) shard
+
+-- what is in flight from a source to a reader for a shard
+abbrev pub flight_at : ClusterNo → ClusterNo → ℕ → World → List Message
+flight_at reader source shard w = (lane_at reader source shard w).flight
 
 -- a cluster takes the place of another
 abbrev pub with_cluster : ClusterNo → Cluster → World → World
 with_cluster cluster new w = record w { clusters = slice_set w.clusters cluster.number new }
 
--- a cell takes the place of another
-abbrev pub with_cell : ClusterNo → ℕ → Cell → World → World
-with_cell cluster shard cell w = with_cluster cluster (record (cluster_at cluster w) { cells = slice_set (cluster_at cluster w).cells shard cell }) w
+-- the cells of a cluster become others
+abbrev pub with_cells : ClusterNo → List Cell → World → World
+with_cells cluster cells w = with_cluster cluster (record (cluster_at cluster w) { cells = cells }) w
 
--- what a reader has of a source, changed
+-- the first item that passes, changed where there is one
+abbrev pub changed_first : {X : Type 0} → (X → Bool) → (X → X) → List X → List X
+changed_first test change [] = []
+changed_first test change (x ∷ xs) = if test x then change x ∷ xs else x ∷ changed_first test change xs
+
+-- what a reader has of a source, changed where it is found
 abbrev pub with_link : ClusterNo → ClusterNo → (Link → Link) → World → World
-with_link reader source change w = record w { links = map (λ link. if is_link reader source link then change link else link) w.links }
+with_link reader source change w = record w { links = changed_first (is_link reader source) change w.links }
 
 -- a lane takes the place of another
 abbrev pub with_lane : ClusterNo → ClusterNo → ℕ → Lane → World → World
 with_lane reader source shard lane w = with_link reader source (λ link. record link { lanes = slice_set link.lanes shard lane }) w
 
--- what is in flight from a source to a reader for a shard
-abbrev pub flight_at : Header → ClusterNo → ClusterNo → ℕ → World → List Message
-flight_at header reader source shard w = (lane_at header reader source shard w).flight
-
 -- what is in flight becomes another list
-abbrev pub with_flight : Header → ClusterNo → ClusterNo → ℕ → List Message → World → World
-with_flight header reader source shard flight w = with_lane reader source shard (record (lane_at header reader source shard w) { flight = flight }) w
+abbrev pub with_flight : ClusterNo → ClusterNo → ℕ → List Message → World → World
+with_flight reader source shard flight w = with_lane reader source shard (record (lane_at reader source shard w) { flight = flight }) w
 
 -- the domains whose record did not name a cluster and comes to name it, in order of name
 abbrev pub newly_naming : ClusterNo → List DomainRecord → List DomainRecord → List Name
@@ -165,15 +180,15 @@ with_late source before after link =
     if same_cluster link.source source then record link { late = link.late ++ newly_naming link.reader before after } else link
 
 -- a table takes the place of another, and readers may come to be members late
-abbrev pub with_table : ClusterNo → List DomainRecord → World → World
+unfoldable pub with_table : ClusterNo → List DomainRecord → World → World
 with_table cluster table w = record w {
   clusters = slice_set w.clusters cluster.number (record (cluster_at cluster w) { table = table });
   links = map (with_late cluster (cluster_at cluster w).table table) w.links;
 }
 
--- whether a domain is one of those that a reader still lacks from a source
-abbrev pub is_late : Header → ClusterNo → ClusterNo → Name → World → Bool
-is_late header reader source domain w = list_any (λ late. bytes_eq late domain) (link_at header reader source w).late
+-- whether a domain is one of those that the reader of a link still lacks
+abbrev pub is_late_in : Name → Link → Bool
+is_late_in domain link = list_any (λ late. bytes_eq late domain) link.late
 
 -- how far the queue of a source is trimmed for a shard
 abbrev pub trimmed_at : ClusterNo → World → ℕ → ℕ

@@ -2,8 +2,8 @@
 ghost use Rattle.std.specs.Prelude.{ℕ, List, Option};
 ghost use Rattle.ndc_domain.specs.declared.clusters.ClusterNo.{ClusterNo as Number};
 ghost use Rattle.ndc_domain.specs.declared.record.DomainRecord.{DomainRecord as Record};
-ghost use Rattle.ndc_model.specs.Arrival.{Message};
-ghost use Rattle.ndc_model.specs.Cells.{Cell};
+ghost use Rattle.ndc_cells.specs.declared.message.Message.{Message};
+ghost use Rattle.ndc_cells.specs.Cells.{Cell};
 ghost use Rattle.ndc_model.specs.Queues.{Lane, after_pull, after_renewal, after_rewind, AreLevels};
 
 /// What is done was read, and what was read is in the queue: pulling, renewing and rewinding keep it so.
