@@ -16,7 +16,7 @@ use Rattle.ndc_command.specs.Laws.{begins_run}
 use Rattle.ndc_command.specs.Plan.{plan_of}
 use Rattle.ndc_event.specs.Key.{run_of}
 use Rattle.ndc_reset.specs.Reset.{reset_of}
-use Rattle.ndc_script.specs.declared.script.Header.{Header}
+use Rattle.ndc_act.specs.declared.script.Header.{Header}
 use Rattle.ndc_sets.specs.Branches.{workflow_tip}
 use Rattle.ndc_sets.specs.Current.{state_to}
 use Rattle.ndc_sets.specs.Paths.{events_to}

@@ -11,8 +11,8 @@ use Rattle.ndc_event.specs.declared.batch.Event.{Event}
 use Rattle.ndc_event.specs.declared.key.Origin.{Origin}
 use Rattle.ndc_event.specs.declared.kind.EventKind.TheVariants.{WorkflowExecutionSignaled}
 use Rattle.ndc_event.specs.declared.name.Name.{Name}
-use Rattle.ndc_script.specs.WellFormed.{AreTwoClusters, IsCluster}
-use Rattle.ndc_script.specs.declared.script.Header.{Header}
+use Rattle.ndc_act.specs.WellFormed.{AreTwoClusters, IsCluster}
+use Rattle.ndc_act.specs.declared.script.Header.{Header}
 use Rattle.ndc_sets.specs.Sets.{Has}
 use Rattle.ndc_sets.specs.Sound.{IsSound, Names}
 use Rattle.ndc_model.specs.Arrival.{has_arrived}

@@ -7,7 +7,7 @@ use Rattle.ndc_domain.specs.declared.clusters.ClusterNo.{ClusterNo}
 use Rattle.ndc_domain.specs.Merge.{merged}
 use Rattle.ndc_event.specs.declared.batch.Batch.{Batch}
 use Rattle.ndc_event.specs.declared.name.Name.{Name}
-use Rattle.ndc_script.specs.declared.script.Header.{Header}
+use Rattle.ndc_act.specs.declared.script.Header.{Header}
 use Rattle.ndc_model.specs.Arrival.{Arrival, Message, arrival_of, arrived_at, has_arrived}
 use Rattle.ndc_model.specs.Cells.{Cell, ancestry, batch_there, is_learned_in, is_of, placed, put_off_in}
 use Rattle.ndc_model.specs.Queues.{Lane, after_pull, after_renewal, after_rewind, entry_with, is_addressed, trim_level}
