@@ -11,9 +11,9 @@ use Rattle.ndc_domain.specs.declared.clusters.ClusterNo.{ClusterNo}
 use Rattle.ndc_domain.specs.declared.record.DomainRecord.{DomainRecord}
 use Rattle.ndc_event.specs.declared.batch.Batch.{Batch}
 use Rattle.ndc_event.specs.declared.name.Name.{Name}
-use Rattle.ndc_script.specs.Register.{clusters_below}
-use Rattle.ndc_script.specs.WellFormed.{AreTwoClusters}
-use Rattle.ndc_script.specs.declared.script.Header.{Header}
+use Rattle.ndc_act.specs.Below.{clusters_below}
+use Rattle.ndc_act.specs.WellFormed.{AreTwoClusters}
+use Rattle.ndc_act.specs.declared.script.Header.{Header}
 use Rattle.ndc_sets.specs.Sets.{Has}
 use Rattle.ndc_sets.specs.Sound.{IsSound}
 use Rattle.ndc_text.specs.Ranges.{InRange}

@@ -11,9 +11,9 @@ use Rattle.ndc_domain.specs.declared.record.DomainRecord.{DomainRecord}
 use Rattle.ndc_domain.specs.declared.record.FailoverError.{FailoverError}
 use Rattle.ndc_domain.specs.declared.record.JoinError.{JoinError}
 use Rattle.ndc_event.specs.declared.name.Name.{Name}
-use Rattle.ndc_script.specs.declared.script.Act.{Act}
-use Rattle.ndc_script.specs.declared.script.Act.TheVariants as act
-use Rattle.ndc_script.specs.declared.script.Header.{Header}
+use Rattle.ndc_act.specs.declared.script.Act.{Act}
+use Rattle.ndc_act.specs.declared.script.Act.TheVariants as act
+use Rattle.ndc_act.specs.declared.script.Header.{Header}
 use Rattle.ndc_command.specs.declared.refusal.Refusal.TheVariants.{NotActive}
 use Rattle.ndc_domain.specs.Clusters.{writer_of}
 use Rattle.ndc_domain.specs.Records.{failover_of, record_of}

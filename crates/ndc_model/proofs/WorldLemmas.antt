@@ -26,7 +26,7 @@ use Rattle.ndc_event.specs.declared.key.BatchKey.{BatchKey}
 use Rattle.ndc_event.specs.declared.kind.EventKind.{EventKind}
 use Rattle.ndc_event.specs.declared.name.Name.{Name}
 use Rattle.ndc_reset.specs.Reset.{reset_of}
-use Rattle.ndc_script.specs.declared.script.Header.{Header}
+use Rattle.ndc_act.specs.declared.script.Header.{Header}
 use Rattle.ndc_sets.specs.Branches.{workflow_tip}
 use Rattle.ndc_sets.specs.Current.{state_to}
 use Rattle.ndc_sets.specs.Paths.{events_to}

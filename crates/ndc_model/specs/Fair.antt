@@ -8,8 +8,8 @@ use Rattle.ndc_domain.specs.declared.clusters.ClusterNo.{ClusterNo}
 use Rattle.ndc_domain.specs.declared.record.DomainRecord.{DomainRecord}
 use Rattle.ndc_event.specs.declared.batch.Batch.{Batch}
 use Rattle.ndc_event.specs.declared.name.Name.{Name}
-use Rattle.ndc_script.specs.WellFormed.{AreTwoClusters, IsCluster}
-use Rattle.ndc_script.specs.declared.script.Header.{Header}
+use Rattle.ndc_act.specs.WellFormed.{AreTwoClusters, IsCluster}
+use Rattle.ndc_act.specs.declared.script.Header.{Header}
 use Rattle.ndc_sets.specs.Sets.{Has}
 use Rattle.ndc_sets.specs.Sound.{CopiesNamed, IsSound}
 use Rattle.ndc_cells.specs.declared.message.Message.{Message}

@@ -10,7 +10,7 @@ use Rattle.ndc_domain.specs.declared.clusters.ClusterNo.{ClusterNo}
 use Rattle.ndc_domain.specs.declared.record.DomainRecord.{DomainRecord}
 use Rattle.ndc_domain.specs.declared.record.FailoverError.{FailoverError}
 use Rattle.ndc_event.specs.declared.name.Name.{Name}
-use Rattle.ndc_script.specs.declared.script.Header.{Header}
+use Rattle.ndc_act.specs.declared.script.Header.{Header}
 use Rattle.ndc_model.specs.Steps.{Stepped, answered}
 use Rattle.ndc_model.specs.Tables.{failover_words}
 use Rattle.ndc_model.specs.Texts.{ok, refusal_words, refused}

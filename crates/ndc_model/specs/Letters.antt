@@ -4,7 +4,7 @@ use Rattle.std.specs.List.{filter_map, flat_map}
 use Rattle.ndc_domain.specs.Clusters.{name_of}
 use Rattle.ndc_domain.specs.declared.clusters.ClusterNo.{ClusterNo}
 use Rattle.ndc_event.specs.declared.batch.Batch.{Batch}
-use Rattle.ndc_script.specs.declared.script.Header.{Header}
+use Rattle.ndc_act.specs.declared.script.Header.{Header}
 use Rattle.ndc_text.specs.Read.{read_of}
 use Rattle.ndc_text.specs.Text.{batch_text}
 use Rattle.ndc_text.specs.Views.{key_text}

@@ -16,7 +16,7 @@ use Rattle.ndc_domain.specs.declared.clusters.ClusterNo.{ClusterNo}
 use Rattle.ndc_domain.specs.Merge.{merged}
 use Rattle.ndc_event.specs.declared.batch.Batch.{Batch}
 use Rattle.ndc_event.specs.declared.name.Name.{Name}
-use Rattle.ndc_script.specs.declared.script.Header.{Header}
+use Rattle.ndc_act.specs.declared.script.Header.{Header}
 use Rattle.ndc_model.specs.Queues.{Lane, after_pull, after_renewal, after_rewind, is_addressed, trim_level}
 use Rattle.ndc_model.specs.World.{Link, World, all_clusters, cell_at, cluster_at, home_at, lane_at, lane_in, link_at, others_of, queue_at, shards_of, trimmed_at, with_cells, with_lane, with_link, with_table}
 

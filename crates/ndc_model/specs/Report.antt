@@ -9,7 +9,7 @@ use Rattle.ndc_event.specs.declared.batch.Event.{Event}
 use Rattle.ndc_event.specs.declared.kind.EventKind.{EventKind}
 use Rattle.ndc_event.specs.declared.kind.EventKind.TheVariants.{WorkflowExecutionSignaled, WorkflowExecutionCompleted, WorkflowExecutionFailed, WorkflowExecutionCanceled, WorkflowExecutionTerminated, WorkflowExecutionContinuedAsNew}
 use Rattle.ndc_event.specs.declared.name.Name.{Name}
-use Rattle.ndc_script.specs.declared.script.Script.{Script}
+use Rattle.ndc_act.specs.declared.script.Script.{Script}
 use Rattle.ndc_state.specs.Table.{is_start}
 use Rattle.ndc_model.specs.Lines.{answers_of, ran_of, seen_in}
 use Rattle.ndc_model.specs.Steps.{Seen}

@@ -5,7 +5,7 @@ use Rattle.ndc_domain.specs.declared.clusters.ClusterNo.{ClusterNo}
 use Rattle.ndc_event.specs.declared.batch.Batch.{Batch}
 use Rattle.ndc_event.specs.declared.key.BatchKey.{BatchKey}
 use Rattle.ndc_history.specs.declared.item.Item.{Item}
-use Rattle.ndc_script.specs.declared.script.Header.{Header}
+use Rattle.ndc_act.specs.declared.script.Header.{Header}
 use Rattle.ndc_sets.specs.Paths.{first_id, last_item_of, path_to}
 use Rattle.ndc_state.specs.Replay.{history_of}
 use Rattle.ndc_text.specs.Views.{item_text, key_text}

@@ -19,7 +19,7 @@ use Rattle.ndc_command.specs.declared.refusal.CommandError.TheVariants.{Refused,
 use Rattle.ndc_domain.specs.declared.clusters.ClusterNo.{ClusterNo}
 use Rattle.ndc_event.specs.declared.batch.Batch.{Batch}
 use Rattle.ndc_event.specs.declared.name.Name.{Name}
-use Rattle.ndc_script.specs.declared.script.Header.{Header}
+use Rattle.ndc_act.specs.declared.script.Header.{Header}
 use Rattle.ndc_text.specs.Views.{key_text}
 use Rattle.ndc_model.specs.Moves.{Note, Trace, from_world, jobs_done}
 use Rattle.ndc_model.specs.Texts.{ok, refusal_words, refused}

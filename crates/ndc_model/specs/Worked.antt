@@ -3,7 +3,7 @@ use Rattle.std.specs.Prelude.{ℕ, [], ◌∷◌, codes, remove}
 use Rattle.ndc_cells.specs.Worked.{alpha, home}
 use Rattle.ndc_command.specs.declared.command.Command.TheVariants.{Start, Signal}
 use Rattle.ndc_domain.specs.Clusters.{cluster_no}
-use Rattle.ndc_script.specs.declared.script.Header.{Header}
+use Rattle.ndc_act.specs.declared.script.Header.{Header}
 use Rattle.ndc_model.specs.Moves.{pulled_all, worked}
 use Rattle.ndc_model.specs.Steps.{command_step}
 use Rattle.ndc_model.specs.World.{World, flight_at, opening_world, with_flight, with_table}

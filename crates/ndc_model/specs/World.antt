@@ -9,8 +9,8 @@ use Rattle.ndc_domain.specs.Records.{record_of}
 use Rattle.ndc_event.specs.declared.key.BatchKey.{BatchKey}
 use Rattle.ndc_event.specs.declared.key.RunId.{RunId}
 use Rattle.ndc_event.specs.declared.name.Name.{Name}
-use Rattle.ndc_script.specs.declared.script.Header.{Header}
-use Rattle.ndc_script.specs.Register.{clusters_below}
+use Rattle.ndc_act.specs.declared.script.Header.{Header}
+use Rattle.ndc_act.specs.Below.{clusters_below}
 use Rattle.ndc_cells.specs.declared.message.Message.{Message}
 use Rattle.ndc_cells.specs.Cells.{Cell, empty_cell}
 use Rattle.ndc_cells.specs.Jobs.{cell_for}

@@ -4,7 +4,7 @@ ghost use Rattle.std.specs.Str.{bytes_eq};
 ghost use Rattle.ndc_command.specs.declared.command.Command.{Command as Asked};
 ghost use Rattle.ndc_domain.specs.declared.clusters.ClusterNo.{ClusterNo as Number};
 ghost use Rattle.ndc_event.specs.declared.name.Name.{Name as Text};
-ghost use Rattle.ndc_script.specs.declared.script.Header.{Header as Head};
+ghost use Rattle.ndc_act.specs.declared.script.Header.{Header as Head};
 ghost use Rattle.ndc_cells.specs.declared.message.Message.{Message};
 ghost use Rattle.ndc_cells.specs.Cells.{learned_of};
 ghost use Rattle.ndc_cells.specs.Places.{is_of};

@@ -1,15 +1,5 @@
-pub mod ActionFits
-pub mod BelowCount
-pub mod Cuts
-pub mod Differing
-pub mod Digits
-pub mod Fits
 pub mod Generated
 pub mod GeneratedFits
-pub mod HeaderNames
-pub mod LineLists
-pub mod Members
-pub mod Names
 pub mod PrintedActs
 pub mod PrintedAreLines
 pub mod PrintedBody
@@ -21,7 +11,3 @@ pub mod PrintedNumbers
 pub mod PrintedOperands
 pub mod PrintedScript
 pub mod PrintedWords
-pub mod PrintSteps
-pub mod ReadSteps
-pub mod Short
-pub mod Singles

@@ -1,12 +1,1 @@
-pub mod Text
-pub mod Number
-pub mod Header
-pub mod Operands
-pub mod Verbs
-pub mod Commands
-pub mod Register
-pub mod Lines
-pub mod Body
-pub mod Print
 pub mod Generate
-pub mod WellFormed

@@ -1,18 +1,8 @@
 //! `ndc`, the operator's tool: runs scripts of many clusters and prints what each line answers.
 #![tactic(auto)]
 
-mod answer;
-mod built;
-mod fault;
-mod refusal;
-mod run;
-#[cfg(test)]
-mod tests;
-mod top;
-mod world;
-
-use crate::top::ndc_top;
 use ndc_port::{StdSink, StdSource};
+use ndc_top::ndc_top;
 use std::process::ExitCode;
 use std::{env, io};
 

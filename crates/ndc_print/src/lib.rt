@@ -1,0 +1,6 @@
+//! Scripts printed.
+#![tactic(auto)]
+
+mod printing;
+
+pub use printing::print;

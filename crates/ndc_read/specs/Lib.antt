@@ -1,0 +1,4 @@
+pub mod Commands
+pub mod Register
+pub mod Lines
+pub mod Body

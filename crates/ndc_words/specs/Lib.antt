@@ -1,0 +1,5 @@
+pub mod Text
+pub mod Number
+pub mod Header
+pub mod Operands
+pub mod Verbs
