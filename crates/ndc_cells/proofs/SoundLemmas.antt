@@ -1,13 +1,12 @@
 -- What a cell has learned among a sound set is sound.
 use Rattle.std.proofs.Common.{List}
-use Rattle.std.specs.List.{AllByRecursion}
 use Rattle.ndc_cells.specs.Cells.{Cell, arrived_of, learned_of}
 use Rattle.ndc_cells.specs.Laws.{IsFoundAmong}
 use Rattle.ndc_cells.specs.Places.{AreInOrder}
 use Rattle.ndc_cells.proofs.PlaceLemmas.{rise-own}
 use Rattle.ndc_event.specs.declared.batch.Batch.{Batch}
 use Rattle.ndc_event.specs.declared.name.Name.{Name}
-use Rattle.ndc_sets.specs.Learned.{IsPart, learned}
+use Rattle.ndc_sets.specs.Learned.{IsPart}
 use Rattle.ndc_sets.specs.Sets.{IsSet, PointsBack, Rise}
 use Rattle.ndc_sets.specs.Sound.{IsSound}
 use Rattle.ndc_sets.proofs.BranchLemmas.{among-has}

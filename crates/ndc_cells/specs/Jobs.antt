@@ -1,5 +1,5 @@
 -- Jobs: what a cell does where it is asked to, and what it replies; jobs one after the other on the cells of a cluster.
-use Rattle.std.specs.Prelude.{ℕ, List, [], ◌∷◌, ◌++◌, map, length, slice_index_or, slice_set, Option, Some, None, Result, Ok, Err, not}
+use Rattle.std.specs.Prelude.{ℕ, List, [], ◌∷◌, ◌++◌, length, slice_index_or, slice_set, Some, None, Result, Ok, Err, not}
 use Rattle.std.specs.List.{filter, flat_map}
 use Rattle.ndc_cells.specs.declared.job.Job.{Job}
 use Rattle.ndc_cells.specs.declared.job.Job.TheVariants as job
@@ -7,7 +7,6 @@ use Rattle.ndc_cells.specs.declared.job.JobReply.{JobReply}
 use Rattle.ndc_cells.specs.declared.job.Outcome.{Outcome}
 use Rattle.ndc_cells.specs.declared.job.Outcome.TheVariants as outcome
 use Rattle.ndc_cells.specs.declared.job.ShardJob.{ShardJob}
-use Rattle.ndc_cells.specs.declared.message.Message.{Message}
 use Rattle.ndc_cells.specs.Arrival.{arrival_of, arrived_at, learned_by}
 use Rattle.ndc_cells.specs.Cells.{Cell, empty_cell}
 use Rattle.ndc_cells.specs.Places.{is_of}

@@ -1,6 +1,5 @@
 -- Words for the laws on cells.
-use Rattle.std.specs.Prelude.{◌≡◌, List, Option, Some, None}
-use Rattle.std.specs.List.{AllByRecursion}
+use Rattle.std.specs.Prelude.{List, Option, Some, None}
 use Rattle.ndc_cells.specs.Cells.{Cell, arrived_of}
 use Rattle.ndc_event.specs.declared.batch.Batch.{Batch}
 use Rattle.ndc_event.specs.declared.name.Name.{Name}

@@ -8,7 +8,7 @@ use Rattle.ndc_domain.specs.declared.record.DomainRecord.{DomainRecord}
 use Rattle.ndc_event.specs.declared.batch.Batch.{Batch}
 use Rattle.ndc_event.specs.declared.kind.EventKind.TheVariants.{WorkflowExecutionStarted, DecisionTaskScheduled, DecisionTaskStarted, DecisionTaskCompleted, DecisionTaskFailed, TimerStarted}
 use Rattle.ndc_history.specs.declared.item.Item.{Item}
-use Rattle.ndc_sets.specs.Worked.{key, run, from, batch, begun, item, signaled, signal, copy}
+use Rattle.ndc_sets.specs.Worked.{key, run, from, batch, begun, signaled, signal, copy}
 
 -- the record of the domain, with this version and both clusters as members
 abbrev pub alpha : ℕ → DomainRecord
@@ -66,4 +66,3 @@ reset_to =
     batch (run 7) (key 1 7) None None 1
     (WorkflowExecutionStarted (codes "order") ∷ DecisionTaskScheduled ∷ copy (codes "p") (codes "x") (from 3 1) ∷ DecisionTaskStarted
     ∷ DecisionTaskFailed (codes "reset") ∷ DecisionTaskScheduled ∷ copy (codes "q") (codes "y") (from 7 1) ∷ [])
-

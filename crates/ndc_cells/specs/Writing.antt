@@ -1,5 +1,5 @@
 -- What a cell writes: commands, reapplication, resets.
-use Rattle.std.specs.Prelude.{ℕ, ◌+◌, ◌-◌, max, Bool, true, false, not, nat_lt, ◌==◌, List, [], ◌∷◌, ◌++◌, length, codes, option_to_list, Option, Some, None, Result, Ok, Err, if◌then◌else◌}
+use Rattle.std.specs.Prelude.{ℕ, ◌+◌, ◌-◌, max, Bool, false, not, nat_lt, ◌==◌, List, [], ◌∷◌, ◌++◌, length, codes, option_to_list, Option, Some, None, Result, Ok, Err, if◌then◌else◌}
 use Rattle.ndc_command.specs.declared.command.Command.{Command}
 use Rattle.ndc_command.specs.declared.refusal.CommandError.{CommandError}
 use Rattle.ndc_command.specs.declared.refusal.CommandError.TheVariants.{Refused, Memory}

@@ -14,7 +14,9 @@ pub enum Job {
         command: Command,
     },
     /// A message arrives.
-    Arrive { message: Message },
+    Arrive {
+        message: Message,
+    },
     /// Strays are applied again in each workflow, where the cell may write to it and its current run is open.
     Reapply,
     /// A new run repeats the current one up to an event, counted from 1.

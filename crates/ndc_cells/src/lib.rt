@@ -3,7 +3,6 @@
 //! definitions of what each job does, and laws above them: a law is what an empty function ensures.
 #![tactic(auto)]
 
-
 pub mod cell_laws;
 mod job;
 mod message;
@@ -13,3 +12,6 @@ pub mod worked_cells;
 pub use job::{Arrived, Job, JobReply, Keys, Outcome, ShardJob, Written};
 pub use message::Message;
 pub use place::Place;
+
+#[cfg(test)]
+mod tests;

@@ -1,7 +1,7 @@
 -- The opening world is fair.
-use Rattle.std.proofs.Common.{◌≡◌, ◌≢◌, ℕ, zero, suc, ◌<◌, ◌≤◌, Bool, true, false, not, ◌⊎◌, inl, inr, true≢false, List, [], ◌∷◌, ◌++◌, length, map, replicate, slice_index_or, Some, refl, sym, ◌∙◌, subst, ap, arith}
-use Rattle.std.specs.Prelude.{AllPairs, IsSomeAnd, find}
-use Rattle.std.specs.List.{AllByRecursion, IsAmong, filter, filter_map, flat_map}
+use Rattle.std.proofs.Common.{◌≡◌, ◌≢◌, ℕ, zero, suc, ◌<◌, ◌≤◌, true, not, ◌⊎◌, inl, inr, true≢false, List, [], ◌∷◌, ◌++◌, length, map, replicate, slice_index_or, refl, sym, ◌∙◌, subst, ap, arith}
+use Rattle.std.specs.Prelude.{AllPairs, IsSomeAnd}
+use Rattle.std.specs.List.{AllByRecursion, IsAmong, filter, flat_map}
 use Rattle.std.proofs.lemmas.Bool.Decides.{nat_tests}
 use Rattle.std.proofs.lemmas.List.{length-append, length-map, length-replicate}
 use Rattle.ndc_domain.specs.Clusters.{cluster_no, count_of, writer_of}
@@ -19,7 +19,6 @@ use Rattle.ndc_sets.specs.Sound.{IsSound}
 use Rattle.ndc_text.specs.Ranges.{InRange}
 use Rattle.ndc_sets.proofs.ForkLemmas.{among-cases}
 use Rattle.ndc_sets.proofs.Lists.{Among, all-from, filter-among, map-among}
-use Rattle.ndc_cells.specs.declared.message.Message.{Message}
 use Rattle.ndc_cells.specs.declared.place.Place.{Place}
 use Rattle.ndc_cells.specs.Cells.{Cell, both, empty_cell}
 use Rattle.ndc_cells.specs.Places.{in_order, is_of, place_of}

@@ -22,7 +22,7 @@ use Rattle.ndc_text.specs.declared.form.TextForm.TheVariants.{Two}
 use Rattle.ndc_cells.specs.declared.job.Job.{Job}
 use Rattle.ndc_cells.specs.declared.job.Job.TheVariants as job
 use Rattle.ndc_cells.specs.declared.message.Message.{Message}
-use Rattle.ndc_cells.specs.Jobs.{after_job, cell_for, cells_after, learned_in, outcome_of, replies_to, written_at, written_now, written_outcome}
+use Rattle.ndc_cells.specs.Jobs.{after_job, cells_after, learned_in, outcome_of, replies_to, written_at, written_now, written_outcome}
 use Rattle.ndc_cells.specs.Shards.{shard_of}
 use Rattle.ndc_cells.specs.Writing.{Entry, command_of, is_writer, reset_at, same_cluster}
 use Rattle.ndc_model.specs.Handovers.{complete_lagging, complete_open, complete_overtaken, handover_begun, handover_by, handover_to, is_handover_of, lagging_shard, open_handover, without_handover}
@@ -31,7 +31,7 @@ use Rattle.ndc_model.specs.Letters.{damage_at, is_read_as, letter_of, place_of_l
 use Rattle.ndc_model.specs.Lines.{act_step}
 use Rattle.ndc_model.specs.Progress.{beat_by, beat_unless}
 use Rattle.ndc_model.specs.Sending.{flight_step}
-use Rattle.ndc_model.specs.Moves.{Note, jobs_done}
+use Rattle.ndc_model.specs.Moves.{jobs_done}
 use Rattle.ndc_model.specs.Steps.{Stepped, answered, command_step, outcome_answer, reset_step, seen_of}
 use Rattle.ndc_model.specs.Tables.{join_step, table_step}
 use Rattle.ndc_model.specs.Texts.{ok, refusal_words, refused}

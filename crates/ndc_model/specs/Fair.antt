@@ -1,5 +1,5 @@
 -- Fair worlds: what is to hold of every world that a script comes to, in nine parts.
-use Rattle.std.specs.Prelude.{◌≡◌, ◌≢◌, ℕ, ◌*◌, ◌<◌, ◌≤◌, Bool, true, false, ◌||◌, is_some, AllPairs, List, map, length, take, Some, None, if◌then◌else◌}
+use Rattle.std.specs.Prelude.{◌≡◌, ◌≢◌, ℕ, ◌*◌, ◌<◌, ◌≤◌, Bool, true, false, ◌||◌, is_some, AllPairs, List, map, length, take, Some, if◌then◌else◌}
 use Rattle.std.specs.List.{AllByRecursion, IsAmong, filter, flat_map, list_any}
 use Rattle.ndc_domain.specs.Clusters.{cluster_no, count_of, writer_of}
 use Rattle.ndc_domain.specs.Laws.{DaysAgree, NamesActive}

@@ -1,5 +1,5 @@
 -- How messages move: pulls, work, resending, bootstrap, settlement.
-use Rattle.std.specs.Prelude.{ℕ, ◌+◌, suc, ◌&&◌, Bool, not, List, [], ◌∷◌, ◌++◌, map, drop, slice_set, Option, Some, None, if◌then◌else◌, max}
+use Rattle.std.specs.Prelude.{ℕ, suc, ◌&&◌, not, List, [], ◌∷◌, ◌++◌, map, drop, slice_set, Option, Some, None, if◌then◌else◌, max}
 use Rattle.std.specs.List.{filter, filter_map, flat_map, fold, list_any}
 use Rattle.std.specs.Str.{bytes_eq}
 use Rattle.ndc_cells.specs.declared.job.Job.TheVariants.{Arrive, Reapply}
