@@ -23,12 +23,13 @@ use Rattle.ndc_cells.specs.declared.place.Place.{Place}
 use Rattle.ndc_cells.specs.Cells.{Cell, both, empty_cell}
 use Rattle.ndc_cells.specs.Places.{in_order, is_of, place_of}
 use Rattle.ndc_cells.specs.Writing.{same_cluster}
+use Rattle.ndc_progress.specs.declared.report.Report.{Report}
 use Rattle.ndc_model.specs.Facts.{IsLetterFit, IsReached, ReportsAgree}
 use Rattle.ndc_model.specs.Fair.{AreMessagesTrue, AreNumbersSmall, ArrivalsWereWritten, CopiesNameOriginals, EachRecord, IsArrivedFit, IsFair, IsLaneTrue, IsOwn, IsShaped, LanesAreTrue, MembersAlone, MessagesAreTrue, NumbersAreSmall, RecordsAgree, WritersUseOwnVersions, WritingIsSound, is_named, places_written, written_of}
 use Rattle.ndc_cells.specs.Shards.{shard_of}
 use Rattle.ndc_model.specs.Moves.{all_written}
 use Rattle.ndc_model.specs.Queues.{Lane, names_cluster, new_lane}
-use Rattle.ndc_model.specs.World.{Cluster, Link, ProgressReport, cell_at, cluster_at, all_clusters, lane_in, new_cluster, new_link, opening_world, others_of, queue_at, trimmed_at}
+use Rattle.ndc_model.specs.World.{Cluster, Link, cell_at, cluster_at, all_clusters, lane_in, new_cluster, new_link, opening_world, others_of, queue_at, trimmed_at}
 
 -- lists of the same
 index-same : {X : Type 0} (x : X) (n i : ℕ) → slice_index_or (replicate n x) i x ≡ x
@@ -257,7 +258,7 @@ module _ (header : Header) where
 
   reports : ReportsAgree header (opening_world header)
   reports = record {
-    one = λ first second report other known known' among. let none : IsAmong [] report = subst (λ (rs : List ProgressReport). IsAmong rs report) (no-reports first) among in absurd (none-among report none);
+    one = λ first second report other known known' among. let none : IsAmong [] report = subst (λ (rs : List Report). IsAmong rs report) (no-reports first) among in absurd (none-among report none);
     told = λ cluster known. subst (AllByRecursion (λ report. IsSomeAnd (writer_of header.clusters report.version) (λ writer. IsAmong (cluster_at writer (opening_world header)).reports report))) (sym (no-reports cluster)) tt;
   }
 

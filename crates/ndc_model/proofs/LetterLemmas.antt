@@ -14,7 +14,7 @@ use Rattle.ndc_text.specs.Text.{batch_text}
 use Rattle.ndc_text.specs.declared.error.TextError.{TextError}
 use Rattle.ndc_text.specs.declared.form.TextForm.TheVariants.{Two}
 use Rattle.ndc_cells.specs.Places.{is_at, place_of}
-use Rattle.ndc_model.specs.Letters.{is_read_as}
+use Rattle.ndc_letters.specs.Letters.{is_read_as}
 
 -- a batch is at its place
 is_at-own : (b : Batch) → is_at (place_of b) b ≡ true

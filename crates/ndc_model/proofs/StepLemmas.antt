@@ -25,9 +25,17 @@ use Rattle.ndc_cells.specs.declared.message.Message.{Message}
 use Rattle.ndc_cells.specs.Jobs.{after_job, cells_after, learned_in, outcome_of, replies_to, written_at, written_now, written_outcome}
 use Rattle.ndc_cells.specs.Shards.{shard_of}
 use Rattle.ndc_cells.specs.Writing.{Entry, command_of, is_writer, reset_at, same_cluster}
-use Rattle.ndc_model.specs.Handovers.{complete_lagging, complete_open, complete_overtaken, handover_begun, handover_by, handover_to, is_handover_of, lagging_shard, open_handover, without_handover}
+use Rattle.ndc_graceful.specs.Begin.{begin_of}
+use Rattle.ndc_graceful.specs.declared.handover.BeginError.{BeginError}
+use Rattle.ndc_graceful.specs.declared.handover.Handover.{Handover}
+use Rattle.ndc_graceful.specs.declared.handover.ReadyError.{ReadyError}
+use Rattle.ndc_graceful.specs.declared.handover.ReadyError.TheVariants.{BootstrapDue, NotYet, Overtaken}
+use Rattle.ndc_letters.specs.declared.letter.Letter.{Letter}
+use Rattle.ndc_letters.specs.Letters.{is_whole, letter_of}
+use Rattle.ndc_progress.specs.declared.report.ActivityRef.{ActivityRef}
+use Rattle.ndc_model.specs.Handovers.{complete_by, complete_open, complete_step, handover_begun, handover_step, handover_to, is_handover_of, open_handover, queue_ends, ready_in, without_handover}
 use Rattle.ndc_model.specs.Laws.{ChangesNothing, is_overtaken, is_reading, is_refusal}
-use Rattle.ndc_model.specs.Letters.{damage_at, is_read_as, letter_of, place_of_letter, with_letters}
+use Rattle.ndc_model.specs.Letters.{damage_at, with_letters}
 use Rattle.ndc_model.specs.Lines.{act_step}
 use Rattle.ndc_model.specs.Progress.{beat_by, beat_unless}
 use Rattle.ndc_model.specs.Sending.{flight_step}
@@ -35,7 +43,7 @@ use Rattle.ndc_model.specs.Moves.{jobs_done}
 use Rattle.ndc_model.specs.Steps.{Stepped, answered, command_step, outcome_answer, reset_step, seen_of}
 use Rattle.ndc_model.specs.Tables.{join_step, table_step}
 use Rattle.ndc_model.specs.Texts.{ok, refusal_words, refused}
-use Rattle.ndc_model.specs.World.{ActivityRef, Handover, Letter, World, cell_at, cluster_at, flight_at, home_at, is_late_in, link_at, with_cells, with_flight}
+use Rattle.ndc_model.specs.World.{World, cell_at, cluster_at, flight_at, home_at, is_late_in, link_at, with_cells, with_flight}
 use Rattle.ndc_model.proofs.WorldLemmas.{same-cells, set-same}
 
 -- a step that changes nothing where it refuses; an answer that ends a handover aside
@@ -86,38 +94,26 @@ of-writing cluster shard asked w (Err (Refused refusal)) r o = record {
 }
 of-writing cluster shard asked w (Err Memory) r o = absurd (true≢false (sym r))
 
-of-begun : (header : Header) (at : ClusterNo) (domain : Name) (target : ClusterNo) (one : DomainRecord) (w : World) (result : Result (ℕ × List DomainRecord) FailoverError)
-    → IsQuietRefusal w (handover_begun header at domain target one w result)
-of-begun header at domain target one w (Ok answer) r o = absurd (true≢false (sym r))
-of-begun header at domain target one w (Err error) r o = record { world = refl; seen = refl }
+of-begun : (at : ClusterNo) (w : World) (result : Result (Handover × List DomainRecord) BeginError) → IsQuietRefusal w (handover_begun at w result)
+of-begun at w (Ok begun) r o = absurd (true≢false (sym r))
+of-begun at w (Err error) r o = record { world = refl; seen = refl }
 
-of-handover : (header : Header) (at : ClusterNo) (domain : Name) (target : ClusterNo) (w : World) (found : Option DomainRecord) → IsQuietRefusal w (handover_by header at domain target w found)
-of-handover header at domain target w None = quiet w _
-of-handover header at domain target w (Some one) =
-    either w (not (is_writer at (writer_of header.clusters one.version))) (answered w (refused (refusal_words (NotActive one.version))))
-    (handover_begun header at domain target one w (failover_of header.clusters domain target (cluster_at at w).table))
-    (quiet w _) (of-begun header at domain target one w (failover_of header.clusters domain target (cluster_at at w).table))
+of-completed : (handover : Handover) (w : World) (ready : Result (Unit {0}) ReadyError) → IsQuietRefusal w (complete_by handover w ready)
+of-completed handover w (Ok ready) r o = absurd (true≢false (sym r))
+of-completed handover w (Err (Overtaken version)) r o = absurd (true≢false o)
+of-completed handover w (Err BootstrapDue) r o = record { world = refl; seen = refl }
+of-completed handover w (Err (NotYet shard done place)) r o = record { world = refl; seen = refl }
 
-of-lagging : (header : Header) (handover : Handover) (w : World) (shard : Option ℕ) → IsQuietRefusal w (complete_lagging header handover w shard)
-of-lagging header handover w None r o = absurd (true≢false (sym r))
-of-lagging header handover w (Some shard) r o = record { world = refl; seen = refl }
-
-of-overtaken : (header : Header) (handover : Handover) (w : World) (version : Option ℕ) → IsQuietRefusal w (complete_overtaken header handover w version)
-of-overtaken header handover w (Some version) = λ r o. absurd (true≢false o)
-of-overtaken header handover w None =
-    either w (is_late_in handover.domain (link_at handover.taker handover.giver w)) (answered w (refused (codes "BootstrapDue" ∷ []))) (complete_lagging header handover w (lagging_shard header handover w))
-    (quiet w _) (of-lagging header handover w (lagging_shard header handover w))
-
-of-complete : (header : Header) (w : World) (found : Option Handover) → IsQuietRefusal w (complete_open header w found)
-of-complete header w None = quiet w _
-of-complete header w (Some handover) = of-overtaken header handover w _
+of-complete : (w : World) (found : Option Handover) → IsQuietRefusal w (complete_open w found)
+of-complete w None = quiet w _
+of-complete w (Some handover) = of-completed handover w (ready_in handover w)
 
 of-damage : (reader source : ClusterNo) (shard place cut : ℕ) (w : World) (found : Option Message) → IsQuietRefusal w (damage_at reader source shard place cut w found)
 of-damage reader source shard place cut w None = quiet w _
-of-damage reader source shard place cut w (Some sent) = by (is_read_as (place_of_letter letter) (read_of Two letter.bytes))
+of-damage reader source shard place cut w (Some sent) = by (is_whole letter)
   where
     letter : Letter
-    letter = letter_of source cut sent
+    letter = letter_of source cut sent.batch
 
     after : World
     after =
@@ -138,7 +134,7 @@ of-beat cluster details w (Ok told) = of-unless cluster told.0 told.1 details w 
 
 -- a refused line changes nothing, but where a handover is overtaken
 pub refused_changes_nothing : (header : Header) (a : Act) (w : World) → IsQuietRefusal w (act_step header a w)
-unfolding act_step command_step reset_step jobs_done cells_after replies_to after_job outcome_of learned_in
+unfolding act_step handover_step complete_step command_step reset_step jobs_done cells_after replies_to after_job outcome_of learned_in
 refused_changes_nothing header (act.Command cluster domain workflow command) w =
     of-writing cluster (shard_of domain workflow header.shards) (job.Command domain workflow command) w (command_of (home_at header cluster w) domain workflow command (cell_at cluster (shard_of domain workflow header.shards) w))
 refused_changes_nothing header (act.Burst cluster jobs) w = quiet w _
@@ -169,9 +165,10 @@ refused_changes_nothing header (act.StateOf cluster domain workflow) w = quiet w
 refused_changes_nothing header (act.Dump cluster domain workflow) w = quiet w _
 refused_changes_nothing header (act.Compare one two domain workflow) w = quiet w _
 refused_changes_nothing header (act.Handover at domain target) w =
-    either w (is_some (open_handover domain w)) (answered w (refused (codes "HandoverOpen" ∷ []))) (handover_by header at domain target w (record_of (cluster_at at w).table domain))
-    (quiet w _) (of-handover header at domain target w (record_of (cluster_at at w).table domain))
-refused_changes_nothing header (act.Complete at domain) w = of-complete header w _
+    either w (is_some (open_handover domain w)) (answered w (refused (codes "HandoverOpen" ∷ [])))
+    (handover_begun at w (begin_of header.clusters at domain target (queue_ends header at w) (cluster_at at w).table))
+    (quiet w _) (of-begun at w (begin_of header.clusters at domain target (queue_ends header at w) (cluster_at at w).table))
+refused_changes_nothing header (act.Complete at domain) w = of-complete w (handover_to at domain w)
 refused_changes_nothing header (act.Reset cluster domain workflow event) w =
     of-writing cluster (shard_of domain workflow header.shards) (job.Reset domain workflow event) w (reset_at (home_at header cluster w) domain workflow event (cell_at cluster (shard_of domain workflow header.shards) w))
 refused_changes_nothing header (act.Damage reader source shard place cut) w = of-damage reader source shard place cut w _
@@ -200,17 +197,12 @@ reading_changes_nothing header (act.ProgressOf cluster domain workflow id) w r =
 reading_changes_nothing header _ w r = absurd (true≢false (sym r))
 
 -- what an overtaken handover leaves
-by-overtaken : (header : Header) (handover : Handover) (w : World) (version : Option ℕ) → is_overtaken (complete_overtaken header handover w version).answer ≡ true
-    → ChangesNothing (without_handover handover.domain w) (complete_overtaken header handover w version)
-by-overtaken header handover w (Some version) = λ o. record { world = refl; seen = refl }
-by-overtaken header handover w None = by (is_late_in handover.domain (link_at handover.taker handover.giver w)) (lagging_shard header handover w)
-  where
-    by : (due : Bool) (shard : Option ℕ)
-        → is_overtaken (if due then answered w (refused (codes "BootstrapDue" ∷ [])) else complete_lagging header handover w shard).answer ≡ true
-        → ChangesNothing (without_handover handover.domain w) (if due then answered w (refused (codes "BootstrapDue" ∷ [])) else complete_lagging header handover w shard)
-    by true shard o = absurd (true≢false (sym o))
-    by false None o = absurd (true≢false (sym o))
-    by false (Some shard) o = absurd (true≢false (sym o))
+by-overtaken : (handover : Handover) (w : World) (ready : Result (Unit {0}) ReadyError) → is_overtaken (complete_by handover w ready).answer ≡ true
+    → ChangesNothing (without_handover handover.domain w) (complete_by handover w ready)
+by-overtaken handover w (Err (Overtaken version)) o = record { world = refl; seen = refl }
+by-overtaken handover w (Ok ready) o = absurd (true≢false (sym o))
+by-overtaken handover w (Err BootstrapDue) o = absurd (true≢false (sym o))
+by-overtaken handover w (Err (NotYet shard done place)) o = absurd (true≢false (sym o))
 
 -- what is found passes the test
 found-passes : {X : Type 0} (test : X → Bool) (xs : List X) (x : X) → find test xs ≡ Some x → test x ≡ true
@@ -224,13 +216,13 @@ found-passes test (y ∷ ys) x e = by (test y) refl e (found-passes test ys x)
 -- an overtaken handover is ended, and nothing else changes
 pub overtaken_ends : (header : Header) (at : ClusterNo) (domain : Name) (w : World) → is_overtaken (act_step header (act.Complete at domain) w).answer ≡ true
     → ChangesNothing (without_handover domain w) (act_step header (act.Complete at domain) w)
-unfolding act_step
+unfolding act_step complete_step
 overtaken_ends header at domain w = by (handover_to at domain w) refl
   where
-    by : (found : Option Handover) → handover_to at domain w ≡ found → is_overtaken (complete_open header w found).answer ≡ true
-        → ChangesNothing (without_handover domain w) (complete_open header w found)
+    by : (found : Option Handover) → handover_to at domain w ≡ found → is_overtaken (complete_open w found).answer ≡ true
+        → ChangesNothing (without_handover domain w) (complete_open w found)
     by None e o = absurd (true≢false (sym o))
     by (Some handover) e o =
-        let passes = and_parts (is_handover_of domain handover) (same_cluster handover.taker at) (found-passes _ w.handovers handover e) in
+        let passes = and_parts (is_handover_of domain handover) (same_cluster handover.to at) (found-passes _ w.handovers handover e) in
         let of_it : handover.domain ≡ domain = (bytes_eq-Decides handover.domain domain).0 passes.0 in
-        subst (λ (d : Name). ChangesNothing (without_handover d w) (complete_open header w (Some handover))) of_it (by-overtaken header handover w _ o)
+        subst (λ (d : Name). ChangesNothing (without_handover d w) (complete_open w (Some handover))) of_it (by-overtaken handover w (ready_in handover w) o)

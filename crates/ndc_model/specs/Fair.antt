@@ -20,8 +20,9 @@ use Rattle.ndc_cells.specs.Places.{AreInOrder, batch_there, is_of, place_of}
 use Rattle.ndc_cells.specs.Shards.{shard_of}
 use Rattle.ndc_cells.specs.Writing.{goes_on_as}
 use Rattle.ndc_model.specs.Moves.{all_written, messages_among}
-use Rattle.ndc_model.specs.Queues.{AreLevels, Lane, names_cluster, needs_nothing}
-use Rattle.ndc_model.specs.Report.{count_kinds, is_original}
+use Rattle.ndc_model.specs.Queues.{Lane, names_cluster, needs_nothing}
+use Rattle.ndc_index.specs.Texts.{count_kinds, is_original}
+use Rattle.ndc_queue.specs.Levels.{AreLevels}
 use Rattle.ndc_model.specs.World.{Link, World, all_clusters, cell_at, cluster_at, is_late_in, lane_in, opening_world, queue_at, trimmed_at}
 
 -- the places of all that the clusters have written in a shard
@@ -109,11 +110,11 @@ EachLane header w holds = AllByRecursion (λ link. (shard : ℕ) → shard < hea
 -- the levels of a lane: nothing is trimmed that is not done, nothing is done that was not read, and nothing was read behind the queue's end;
 -- what is done is learned by the reader, not addressed to it, or late; what is in flight is in the queue
 pub record IsLaneTrue (w : World) (link : Link) (shard : ℕ) (lane : Lane) : Type 0 where
-  pub trimmed_most : trimmed_at link.source w shard ≤ lane.done
-  pub levels : AreLevels (queue_at link.source shard w) lane
+  pub trimmed_most : trimmed_at link.source w shard ≤ lane.levels.done
+  pub levels : AreLevels (queue_at link.source shard w) lane.levels
   pub done : AllByRecursion
       (λ sent. (needs_nothing link.reader (cluster_at link.source w).table (cell_at link.reader shard w) sent || is_late_in sent.batch.domain link) ≡ true)
-      (take lane.done (queue_at link.source shard w))
+      (take lane.levels.done (queue_at link.source shard w))
   pub flight : AllByRecursion (IsAmong (queue_at link.source shard w)) lane.flight
 
 -- the same of each lane

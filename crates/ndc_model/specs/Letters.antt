@@ -5,50 +5,27 @@ use Rattle.ndc_domain.specs.Clusters.{name_of}
 use Rattle.ndc_domain.specs.declared.clusters.ClusterNo.{ClusterNo}
 use Rattle.ndc_event.specs.declared.batch.Batch.{Batch}
 use Rattle.ndc_act.specs.declared.script.Header.{Header}
-use Rattle.ndc_text.specs.Read.{read_of}
-use Rattle.ndc_text.specs.Text.{batch_text}
 use Rattle.ndc_text.specs.Views.{key_text}
-use Rattle.ndc_text.specs.declared.error.TextError.{TextError}
-use Rattle.ndc_text.specs.declared.form.TextForm.TheVariants.{Two}
 use Rattle.ndc_cells.specs.declared.job.ShardJob.{ShardJob}
 use Rattle.ndc_cells.specs.declared.message.Message.{Message}
-use Rattle.ndc_cells.specs.declared.place.Place.{Place}
 use Rattle.ndc_cells.specs.Cells.{message_at}
-use Rattle.ndc_cells.specs.Places.{is_at}
 use Rattle.ndc_cells.specs.Shards.{shard_of}
+use Rattle.ndc_letters.specs.declared.letter.Letter.{Letter}
+use Rattle.ndc_letters.specs.Letters.{is_whole, letter_of, place_of_letter}
 use Rattle.ndc_model.specs.Moves.{Trace, arrives, from_world, jobs_done, quietly, renewed}
 use Rattle.ndc_model.specs.Sending.{arrived_words}
 use Rattle.ndc_model.specs.Steps.{Stepped, answered, moved}
 use Rattle.ndc_model.specs.Texts.{ok, refused}
-use Rattle.ndc_model.specs.World.{Letter, World, cell_of, cluster_at, flight_at, with_cluster, with_flight}
-
--- whether bytes are read as the batch of a place
-abbrev pub is_read_as : Place → Result Batch TextError → Bool
-is_read_as place (Ok b) = is_at place b
-is_read_as place (Err error) = false
+use Rattle.ndc_model.specs.World.{World, cell_of, cluster_at, flight_at, with_cluster, with_flight}
 
 -- the letters of a cluster become others
 abbrev pub with_letters : ClusterNo → List Letter → World → World
 with_letters cluster letters w = with_cluster cluster (record (cluster_at cluster w) { letters = letters }) w
 
--- what is left of a message of a source
-abbrev pub letter_of : ClusterNo → ℕ → Message → Letter
-letter_of source cut sent = record {
-  source = source;
-  domain = sent.batch.domain;
-  workflow = sent.batch.workflow;
-  key = sent.batch.key;
-  bytes = take cut (batch_text sent.batch);
-}
-
--- the place of the batch that a letter was
-abbrev pub place_of_letter : Letter → Place
-place_of_letter letter = record { domain = letter.domain; workflow = letter.workflow; key = letter.key }
-
 -- a message that comes damaged leaves the flight and is set aside, where its bytes are not read as the batch that it was
 abbrev pub damaged : ClusterNo → ClusterNo → ℕ → ℕ → World → Letter → Stepped
 damaged reader source shard place w letter =
-    if is_read_as (place_of_letter letter) (read_of Two letter.bytes) then answered w (ok (codes "whole" ∷ []))
+    if is_whole letter then answered w (ok (codes "whole" ∷ []))
     else answered
     (with_letters reader ((cluster_at reader w).letters ++ letter ∷ [])
     (with_flight reader source shard (remove (flight_at reader source shard w) place) w))
@@ -57,7 +34,7 @@ damaged reader source shard place w letter =
 -- so many bytes of the message at a place arrive, where there is one
 abbrev pub damage_at : ClusterNo → ClusterNo → ℕ → ℕ → ℕ → World → Option Message → Stepped
 damage_at reader source shard place cut w None = answered w (refused (codes "NoSuchPlace" ∷ []))
-damage_at reader source shard place cut w (Some sent) = damaged reader source shard place w (letter_of source cut sent)
+damage_at reader source shard place cut w (Some sent) = damaged reader source shard place w (letter_of source cut sent.batch)
 
 -- `damage`
 abbrev pub damage_step : ClusterNo → ClusterNo → ℕ → ℕ → ℕ → World → Stepped

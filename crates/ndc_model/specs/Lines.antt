@@ -15,7 +15,8 @@ use Rattle.ndc_model.specs.Moves.{rewound}
 use Rattle.ndc_model.specs.Progress.{beat_step, progress_answer, sync_step}
 use Rattle.ndc_model.specs.Reading.{branches_answer, compare_answer, current_answer, dump_answer, history_answer, learned_at, read_answer, state_answer}
 use Rattle.ndc_model.specs.Sending.{bootstrap_step, gaps_answer, levels_answer, lose_step, move_step, pull_some_step, pull_step, repeat_step, resend_step, settle_step, trim_step, work_step}
-use Rattle.ndc_model.specs.Steps.{Seen, Stepped, answered, command_step, reset_step}
+use Rattle.ndc_index.specs.declared.seen.Seen.{Seen}
+use Rattle.ndc_model.specs.Steps.{Stepped, answered, command_step, reset_step}
 use Rattle.ndc_model.specs.Tables.{domain_answer, domains_step, failover_words, join_step, members_answer, register_words, retain_words, table_step}
 use Rattle.ndc_model.specs.Texts.{ok}
 use Rattle.ndc_model.specs.World.{World, cluster_at, opening_world}
@@ -53,7 +54,7 @@ act_step header (act.Dump cluster domain workflow) w = answered w (read_answer (
 act_step header (act.Compare one two domain workflow) w =
     answered w (compare_answer domain workflow (learned_at header one domain workflow w) (learned_at header two domain workflow w))
 act_step header (act.Handover at domain target) w = handover_step header at domain target w
-act_step header (act.Complete at domain) w = complete_step header at domain w
+act_step header (act.Complete at domain) w = complete_step at domain w
 act_step header (act.Reset cluster domain workflow event) w = reset_step header cluster domain workflow event w
 act_step header (act.Damage reader source shard place cut) w = damage_step reader source shard place cut w
 act_step header (act.LettersOf reader) w = answered w (letters_answer header (cluster_at reader w).letters)

@@ -17,7 +17,8 @@ use Rattle.ndc_domain.specs.Merge.{merged}
 use Rattle.ndc_event.specs.declared.batch.Batch.{Batch}
 use Rattle.ndc_event.specs.declared.name.Name.{Name}
 use Rattle.ndc_act.specs.declared.script.Header.{Header}
-use Rattle.ndc_model.specs.Queues.{Lane, after_pull, after_renewal, after_rewind, is_addressed, trim_level}
+use Rattle.ndc_queue.specs.Levels.{trim_level}
+use Rattle.ndc_model.specs.Queues.{Lane, after_pull, after_renewal, after_rewind, is_addressed}
 use Rattle.ndc_model.specs.World.{Link, World, all_clusters, cell_at, cluster_at, home_at, lane_at, lane_in, link_at, others_of, queue_at, shards_of, trimmed_at, with_cells, with_lane, with_link, with_table}
 
 -- a list changed item by item, each by its place, counted from this one
@@ -60,7 +61,7 @@ rewound reader source w = with_link reader source (λ link. record link { lanes 
 -- the trim level of a source for a shard
 abbrev pub trim_to : Header → ClusterNo → World → ℕ → ℕ
 trim_to header source w shard =
-    trim_level (queue_at source shard w) (map (λ reader. (lane_at reader source shard w).done) (others_of header source))
+    trim_level (queue_at source shard w) (map (λ reader. (lane_at reader source shard w).levels.done) (others_of header source))
 
 -- how far the queue of a source comes to be trimmed for a shard: never less than before
 abbrev pub trimmed_level : Header → ClusterNo → World → ℕ → ℕ
@@ -190,7 +191,7 @@ merged_all header w cluster =
 
 -- what is due over a link for a shard: the entries of the queue from `done` on that are addressed to the reader
 abbrev pub due : World → ℕ → Link → List Message
-due w shard link = filter (is_addressed link.reader (cluster_at link.source w).table) (drop (lane_in link shard).done (queue_at link.source shard w))
+due w shard link = filter (is_addressed link.reader (cluster_at link.source w).table) (drop (lane_in link shard).levels.done (queue_at link.source shard w))
 
 -- all that is due to a reader arrives, by shard, then source
 unfoldable pub due_arrived : Header → Trace → ClusterNo → Trace

@@ -19,34 +19,17 @@ use Rattle.ndc_state.specs.Pendings.{pending_of}
 use Rattle.ndc_state.specs.Value.{StateValue}
 use Rattle.ndc_state.specs.declared.pendings.Pending.{Pending}
 use Rattle.ndc_cells.specs.Cells.{Cell, learned_of}
+use Rattle.ndc_progress.specs.declared.report.ActivityRef.{ActivityRef}
+use Rattle.ndc_progress.specs.declared.report.Report.{Report}
+use Rattle.ndc_progress.specs.Reports.{held, merge_count, next_beat, next_report, stale_by}
 use Rattle.ndc_model.specs.Reading.{learned_at, read_answer, tip_answer}
 use Rattle.ndc_model.specs.Steps.{Stepped, answered, error_answer}
 use Rattle.ndc_model.specs.Texts.{ok, refused}
-use Rattle.ndc_model.specs.World.{ActivityRef, ProgressReport, World, cell_of, cluster_at, home_at, with_cluster}
+use Rattle.ndc_model.specs.World.{World, cell_of, cluster_at, home_at, with_cluster}
 use Rattle.ndc_cells.specs.Writing.{Home, as_command_error, may_write}
 
--- whether two activities are one
-abbrev pub same_activity : ActivityRef → ActivityRef → Bool
-same_activity one two =
-    bytes_eq one.domain two.domain && (bytes_eq one.workflow two.workflow && (same_run one.run two.run && ((one.scheduled == two.scheduled) && (one.version == two.version))))
-
--- the first report comes before the second: by version, then beat
-abbrev pub report_lt : ProgressReport → ProgressReport → Bool
-report_lt one two = nat_lt one.version two.version || ((one.version == two.version) && nat_lt one.beat two.beat)
-
--- the greater of a report and another one, where there is another
-abbrev pub greater_report : ProgressReport → Option ProgressReport → ProgressReport
-greater_report one None = one
-greater_report one (Some two) = if report_lt one two then two else one
-
--- the report that is held of an activity: the greatest of it
-abbrev pub held : ActivityRef → List ProgressReport → Option ProgressReport
-held activity [] = None
-held activity (report ∷ reports) =
-    if same_activity activity report.activity then Some (greater_report report (held activity reports)) else held activity reports
-
 -- the reports of a cluster become others
-abbrev pub with_reports : ClusterNo → List ProgressReport → World → World
+abbrev pub with_reports : ClusterNo → List Report → World → World
 with_reports cluster reports w = with_cluster cluster (record (cluster_at cluster w) { reports = reports }) w
 
 -- the version of the event with this id, 0 where there is none
@@ -80,24 +63,12 @@ told_of home domain workflow id cell =
     >>= λ version. started_activity domain workflow id (learned_of domain workflow cell) (workflow_tip (learned_of domain workflow cell))
     >>= λ activity. Ok (version, activity)
 
--- the beat of the next report of an activity: one more than that of the held one, where this has the same version
-abbrev pub next_beat : ℕ → Option ProgressReport → ℕ
-next_beat version None = 1
-next_beat version (Some report) = if report.version == version then report.beat + 1 else 1
-
--- the version of a held report that is above another one, where it is so
-abbrev pub stale_by : ℕ → Option ProgressReport → Option ℕ
-stale_by version None = None
-stale_by version (Some report) = if nat_lt version report.version then Some report.version else None
-
 -- a report is told, where the held one has no greater version
 abbrev pub beat_unless : ClusterNo → ℕ → ActivityRef → Name → World → Option ℕ → Stepped
 beat_unless cluster version activity details w (Some stale) = answered w (refused (codes "Stale" ∷ decimal stale ∷ []))
 beat_unless cluster version activity details w None =
     answered
-    (with_reports cluster
-    ((cluster_at cluster w).reports
-    ++ record { activity = activity; version = version; beat = next_beat version (held activity (cluster_at cluster w).reports); details = details } ∷ []) w)
+    (with_reports cluster ((cluster_at cluster w).reports ++ next_report activity version details (cluster_at cluster w).reports ∷ []) w)
     (ok (decimal version ∷ decimal (next_beat version (held activity (cluster_at cluster w).reports)) ∷ []))
 
 -- a report is told, or the line is refused
@@ -110,30 +81,19 @@ abbrev pub beat_step : Header → ClusterNo → Name → Name → Name → Name 
 beat_step header cluster domain workflow id details w =
     beat_by cluster details w (told_of (home_at header cluster w) domain workflow id (cell_of header cluster domain workflow w))
 
--- the activities of reports, each once
-abbrev pub activities_of : List ProgressReport → List ActivityRef
-activities_of [] = []
-activities_of (report ∷ reports) = report.activity ∷ filter (λ other. not (same_activity report.activity other)) (activities_of reports)
-
--- whether the second report takes the place of the first
-abbrev pub replaces : Option ProgressReport → Option ProgressReport → Bool
-replaces one None = false
-replaces None (Some two) = true
-replaces (Some one) (Some two) = report_lt one two
-
 -- `sync`: one cluster takes the reports of another; those count that it now holds in place of its own
 abbrev pub sync_step : ClusterNo → ClusterNo → World → Stepped
 sync_step to from w =
     answered (with_reports to ((cluster_at to w).reports ++ (cluster_at from w).reports) w)
-    (ok (decimal (count_by (λ activity. replaces (held activity (cluster_at to w).reports) (held activity (cluster_at from w).reports)) (activities_of (cluster_at from w).reports)) ∷ []))
+    (ok (decimal (merge_count (cluster_at to w).reports (cluster_at from w).reports) ∷ []))
 
 -- what is held of an activity: version, beat and details
-abbrev pub report_answer : Option ProgressReport → List ℕ
+abbrev pub report_answer : Option Report → List ℕ
 report_answer None = refused (codes "NoProgress" ∷ [])
 report_answer (Some report) = ok (decimal report.version ∷ decimal report.beat ∷ report.details ∷ [])
 
 -- what is held of an activity, or why there is none
-abbrev pub activity_answer : List ProgressReport → Result ActivityRef CommandError → List ℕ
+abbrev pub activity_answer : List Report → Result ActivityRef CommandError → List ℕ
 activity_answer reports (Err error) = error_answer error
 activity_answer reports (Ok activity) = report_answer (held activity reports)
 

@@ -22,7 +22,7 @@ use Rattle.ndc_text.specs.Text.{batch_text}
 use Rattle.ndc_text.specs.Views.{item_text, key_text, with_commas}
 use Rattle.ndc_model.specs.Laws.{script_of}
 use Rattle.ndc_model.specs.Lines.{ran_of, seen_in}
-use Rattle.ndc_model.specs.Report.{Indexer, index_line}
+use Rattle.ndc_index.specs.Lines.{Asked, index_line}
 use Rattle.ndc_model.specs.Texts.{ok, refused}
 
 -- the cluster A
@@ -330,11 +330,11 @@ abbrev pub single_workflow : List Act
 single_workflow = act.Register A (codes "alpha") A 7 (0 ∷ []) ∷ start A ∷ signal A (codes "ping") (codes "x") ∷ act.History A (codes "alpha") (codes "w1") ∷ act.Dump A (codes "alpha") (codes "w1") ∷ []
 
 -- an indexer that is asked for, and whose calls of these numbers fail
-abbrev pub asked_for : List ℕ → List ℕ → Indexer
+abbrev pub asked_for : List ℕ → List ℕ → Asked
 asked_for name failing = record { name = name; failing = failing; own = [] }
 
 -- the index lines of a script
-abbrev pub index_lines : Header → List Line → List Indexer → List (List ℕ)
+abbrev pub index_lines : Header → List Line → List Asked → List (List ℕ)
 index_lines header lines indexers = map (index_line (seen_in (ran_of (script_of header lines)))) indexers
 
 -- what indexers are told of a script: at which cluster, and the key of the batch

@@ -13,7 +13,9 @@ use Rattle.ndc_cells.specs.declared.message.Message.{Message}
 use Rattle.ndc_cells.specs.Cells.{Cell, arrived_of, is_learned_in, missing_of, put_off_in}
 use Rattle.ndc_cells.specs.Places.{is_of}
 use Rattle.ndc_model.specs.Moves.{Note, after_settlement, all_written, bootstrapped, from_world, map_from, pulled_all, pulled_shard, resent, trimmed_all, trimmed_level, worked}
-use Rattle.ndc_model.specs.Queues.{Lane, after_loss, after_move, after_repeat, put_in_flight}
+use Rattle.ndc_queue.specs.Lists.{after_loss, after_move, after_repeat}
+use Rattle.ndc_resend.specs.Gaps.{item_or_zero}
+use Rattle.ndc_model.specs.Queues.{Lane, put_in_flight}
 use Rattle.ndc_model.specs.Steps.{Stepped, answered, applied_by, arrived_by, known_by, learned_by, moved, put_off_by, total}
 use Rattle.ndc_model.specs.Texts.{ok, refused}
 use Rattle.ndc_model.specs.World.{Link, World, cell_at, cluster_at, flight_at, lane_at, link_at, queue_at, shards_of, trimmed_at, with_flight}
@@ -68,13 +70,8 @@ trim_step header source w =
 abbrev pub levels_answer : ClusterNo → ClusterNo → ℕ → World → List ℕ
 levels_answer reader source shard w =
     ok (codes "queue" ∷ decimal (length (queue_at source shard w)) ∷ codes "trimmed" ∷ decimal (trimmed_at source w shard)
-    ∷ codes "read" ∷ decimal (lane_at reader source shard w).read ∷ codes "done" ∷ decimal (lane_at reader source shard w).done
+    ∷ codes "read" ∷ decimal (lane_at reader source shard w).levels.read ∷ codes "done" ∷ decimal (lane_at reader source shard w).levels.done
     ∷ codes "flight" ∷ decimal (length (flight_at reader source shard w)) ∷ [])
-
--- an item, or the one before all
-abbrev pub item_or_zero : Option Item → Item
-item_or_zero None = record { id = 0; version = 0 }
-item_or_zero (Some item) = item
 
 -- where the gap of a batch that is put off begins: the last event of its last learned ancestor in its own run
 abbrev pub gap_after : Header → ℕ → World → Cell → Batch → Item

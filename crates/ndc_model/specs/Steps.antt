@@ -21,14 +21,10 @@ use Rattle.ndc_event.specs.declared.batch.Batch.{Batch}
 use Rattle.ndc_event.specs.declared.name.Name.{Name}
 use Rattle.ndc_act.specs.declared.script.Header.{Header}
 use Rattle.ndc_text.specs.Views.{key_text}
+use Rattle.ndc_index.specs.declared.seen.Seen.{Seen}
 use Rattle.ndc_model.specs.Moves.{Note, Trace, from_world, jobs_done}
 use Rattle.ndc_model.specs.Texts.{ok, refusal_words, refused}
 use Rattle.ndc_model.specs.World.{World, cell_at, home_at}
-
--- a batch that became learned at a cluster
-pub record Seen : Type 0 where
-  pub cluster : ClusterNo
-  pub batch : Batch
 
 -- what a line leaves, what it answers behind its number, and what became learned, in the order of being told
 pub record Stepped : Type 0 where

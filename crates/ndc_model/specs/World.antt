@@ -6,8 +6,6 @@ use Rattle.ndc_domain.specs.Clusters.{count_of}
 use Rattle.ndc_domain.specs.declared.clusters.ClusterNo.{ClusterNo}
 use Rattle.ndc_domain.specs.declared.record.DomainRecord.{DomainRecord}
 use Rattle.ndc_domain.specs.Records.{record_of}
-use Rattle.ndc_event.specs.declared.key.BatchKey.{BatchKey}
-use Rattle.ndc_event.specs.declared.key.RunId.{RunId}
 use Rattle.ndc_event.specs.declared.name.Name.{Name}
 use Rattle.ndc_act.specs.declared.script.Header.{Header}
 use Rattle.ndc_act.specs.Below.{clusters_below}
@@ -16,46 +14,17 @@ use Rattle.ndc_cells.specs.Cells.{Cell, empty_cell}
 use Rattle.ndc_cells.specs.Jobs.{cell_for}
 use Rattle.ndc_cells.specs.Shards.{shard_of}
 use Rattle.ndc_cells.specs.Writing.{Home, same_cluster}
+use Rattle.ndc_graceful.specs.declared.handover.Handover.{Handover}
+use Rattle.ndc_letters.specs.declared.letter.Letter.{Letter}
+use Rattle.ndc_progress.specs.declared.report.Report.{Report}
 use Rattle.ndc_model.specs.Queues.{Lane, names_cluster, new_lane}
-
--- a message that was set aside: where it came from, the batch that it was, and the bytes that came
-pub record Letter : Type 0 where
-  pub source : ClusterNo
-  pub domain : Name
-  pub workflow : Name
-  pub key : BatchKey
-  pub bytes : List ℕ
-
--- an activity: the event that scheduled it
-pub record ActivityRef : Type 0 where
-  pub domain : Name
-  pub workflow : Name
-  pub run : RunId
-  pub scheduled : ℕ
-  pub version : ℕ
-
--- what was told of an activity: the version of the teller's record, a beat, which counts from 1 with each version, and details
-pub record ProgressReport : Type 0 where
-  pub activity : ActivityRef
-  pub version : ℕ
-  pub beat : ℕ
-  pub details : Name
-
--- a handover that is open: the domain, both clusters, both versions, and for each shard how far the old queue has to be done
-pub record Handover : Type 0 where
-  pub domain : Name
-  pub giver : ClusterNo
-  pub taker : ClusterNo
-  pub old : ℕ
-  pub new : ℕ
-  pub places : List ℕ
 
 -- a cluster: its domain records, its cells by shard, what it set aside, and all progress reports that it told or took over
 pub record Cluster : Type 0 where
   pub table : List DomainRecord
   pub cells : List Cell
   pub letters : List Letter
-  pub reports : List ProgressReport
+  pub reports : List Report
 
 -- what a reader has of a source: a lane for each shard, and the domains of which it came to be a member late
 pub record Link : Type 0 where

@@ -7,7 +7,7 @@ ghost use Rattle.ndc_text.specs.Read.{read_of};
 ghost use Rattle.ndc_text.specs.Text.{batch_text};
 ghost use Rattle.ndc_text.specs.declared.form.TextForm.TheVariants.{Two};
 ghost use Rattle.ndc_cells.specs.Places.{place_of};
-ghost use Rattle.ndc_model.specs.Letters.{is_read_as};
+ghost use Rattle.ndc_letters.specs.Letters.{is_read_as};
 
 /// The first bytes of a message are read as the batch that it was exactly where none is missing: so a damaged
 /// message is set aside exactly where it is cut.

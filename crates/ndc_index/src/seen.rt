@@ -1,0 +1,24 @@
+use ndc_domain::ClusterNo;
+use ndc_event::Batch;
+use std::alloc::AllocError;
+
+/// A batch that became learned at a cluster.
+#[derive(Debug, Drop)]
+pub struct Seen {
+    pub cluster: ClusterNo,
+    pub batch: Batch,
+}
+
+impl Seen {
+    ghost use Rattle.std.specs.Prelude.{◌≡◌, IfOk};
+
+    /// The same.
+    pub fn try_copy(&self) -> Result<Seen, AllocError>
+        ensures { IfOk result (λ copy. copy ≡ self.now) }
+    {
+        Ok(Seen {
+            cluster: self.cluster,
+            batch: self.batch.try_copy()?,
+        })
+    }
+}

@@ -1,0 +1,6 @@
+//! Progress of activities, told beside the histories.
+#![tactic(auto)]
+
+mod report;
+
+pub use report::{ActivityRef, Report};

@@ -1,0 +1,25 @@
+-- Gaps: between the best item that local histories have in common with a remote one, and the first event of a batch.
+use Rattle.std.specs.Prelude.{Bool, ◌&&◌, nat_lt, List, Option, Some, None}
+use Rattle.std.specs.List.{filter}
+use Rattle.ndc_event.specs.declared.batch.Batch.{Batch}
+use Rattle.ndc_history.specs.Common.{best_from}
+use Rattle.ndc_history.specs.declared.item.Item.{Item}
+use Rattle.ndc_resend.specs.declared.gap.Gap.{Gap}
+use Rattle.ndc_sets.specs.Paths.{best_item, first_id, last_id}
+
+-- an item, or the one before all
+abbrev pub item_or_zero : Option Item → Item
+item_or_zero None = record { id = 0; version = 0 }
+item_or_zero (Some item) = item
+
+-- the gap before an event: behind the best item that the local histories have in common with the remote one
+abbrev pub gap_of : List (List Item) → List Item → Item → Gap
+gap_of local remote first = record { after = item_or_zero (best_item (best_from 0 local remote)); before = first }
+
+-- whether a batch lies in a gap: all of its events come after the one end and before the other
+abbrev pub is_between : Gap → Batch → Bool
+is_between gap b = nat_lt gap.after.id (first_id b.events) && nat_lt (last_id b.events) gap.before.id
+
+-- the batches of a path that lie in a gap
+abbrev pub served : Gap → List Batch → List Batch
+served gap path = filter (is_between gap) path
