@@ -17,6 +17,7 @@ use Rattle.ndc_act.specs.declared.script.Header.{Header}
 use Rattle.ndc_sets.specs.Sets.{Has}
 use Rattle.ndc_sets.specs.Sound.{IsSound}
 use Rattle.ndc_text.specs.Ranges.{InRange}
+use Rattle.ndc_model.proofs.ListLemmas.{all-flat, all-map, all-weaker}
 use Rattle.ndc_sets.proofs.ForkLemmas.{among-cases}
 use Rattle.ndc_sets.proofs.Lists.{Among, all-from, filter-among, map-among}
 use Rattle.ndc_cells.specs.declared.place.Place.{Place}
@@ -46,20 +47,8 @@ flat-none : {X Y : Type 0} (f : X → List Y) (xs : List X) → ((x : X) → f x
 flat-none f [] none = refl
 flat-none f (x ∷ xs) none = ap (λ ys. ys ++ flat_map f xs) (none x) ∙ flat-none f xs none
 
-all-append : {X : Type 0} (P : X → Type 0) (xs ys : List X) → AllByRecursion P xs → AllByRecursion P ys → AllByRecursion P (xs ++ ys)
-all-append P [] ys p q = q
-all-append P (x ∷ xs) ys p q = (p.0, all-append P xs ys p.1 q)
-
-all-map : {X Y : Type 0} (P : Y → Type 0) (f : X → Y) (xs : List X) → ((x : X) → P (f x)) → AllByRecursion P (map f xs)
-all-map P f [] each = tt
-all-map P f (x ∷ xs) each = (each x, all-map P f xs each)
-
-all-flat : {X Y : Type 0} (P : Y → Type 0) (f : X → List Y) (xs : List X) → ((x : X) → Among x xs → AllByRecursion P (f x)) → AllByRecursion P (flat_map f xs)
-all-flat P f [] each = tt
-all-flat P f (x ∷ xs) each = all-append P (f x) (flat_map f xs) (each x (inl refl)) (all-flat P f xs (λ y among. each y (inr among)))
-
 -- the clusters of a header
-clusters-among : (count : ℕ) (cluster : ClusterNo) → Among cluster (clusters_below count) → cluster.number < count
+pub clusters-among : (count : ℕ) (cluster : ClusterNo) → Among cluster (clusters_below count) → cluster.number < count
 clusters-among zero cluster none = absurd none
 clusters-among (suc count) cluster among = by (clusters-among count cluster) (among-cases cluster (clusters_below count) (cluster_no count ∷ []) among)
   where
@@ -67,10 +56,6 @@ clusters-among (suc count) cluster among = by (clusters-among count cluster) (am
     by below (inl front) = omega (arith, below front)
     by below (inr (inl same)) = omega (arith, ap (λ (c : ClusterNo). c.number) same)
     by below (inr (inr none)) = absurd none
-
-all-weaker : {X : Type 0} (P Q : X → Type 0) → ((x : X) → P x → Q x) → (xs : List X) → AllByRecursion P xs → AllByRecursion Q xs
-all-weaker P Q weaker [] all = tt
-all-weaker P Q weaker (x ∷ xs) all = (weaker x all.0, all-weaker P Q weaker xs all.1)
 
 module _ (header : Header) where
   -- what holds of a cluster in the beginning holds of each

@@ -1,3 +1,4 @@
+pub mod ListLemmas
 pub mod LevelLemmas
 pub mod WorldLemmas
 pub mod StepLemmas

@@ -58,18 +58,17 @@ renewed w reader = record w { links = map (renewed_link w reader) w.links }
 unfoldable pub rewound : ClusterNo → ClusterNo → World → World
 rewound reader source w = with_link reader source (λ link. record link { lanes = map after_rewind link.lanes }) w
 
--- the trim level of a source for a shard
-abbrev pub trim_to : Header → ClusterNo → World → ℕ → ℕ
-trim_to header source w shard =
-    trim_level (queue_at source shard w) (map (λ reader. (lane_at reader source shard w).levels.done) (others_of header source))
+-- how far the readers of a source are done for a shard, link by link
+abbrev pub done_levels : ClusterNo → ℕ → List Link → List ℕ
+done_levels source shard links = flat_map (λ link. if same_cluster link.source source then (lane_in link shard).levels.done ∷ [] else []) links
 
 -- how far the queue of a source comes to be trimmed for a shard: never less than before
-abbrev pub trimmed_level : Header → ClusterNo → World → ℕ → ℕ
-trimmed_level header source w shard = max (trimmed_at source w shard) (trim_to header source w shard)
+abbrev pub trimmed_level : ClusterNo → World → ℕ → ℕ
+trimmed_level source w shard = max (trimmed_at source w shard) (trim_level (queue_at source shard w) (done_levels source shard w.links))
 
 -- the queues of a source are trimmed
 unfoldable pub trimmed_all : Header → ClusterNo → World → World
-trimmed_all header source w = record w { trimmed = slice_set w.trimmed source.number (map (trimmed_level header source w) (shards_of header)) }
+trimmed_all header source w = record w { trimmed = slice_set w.trimmed source.number (map (trimmed_level source w) (shards_of header)) }
 
 -- a job that was done: the cluster that did it, and its reply
 pub record Note : Type 0 where

@@ -64,7 +64,7 @@ work_step header cluster w = moved (worked header cluster w) (work_words (worked
 -- `trim`: how many entries are dropped now
 abbrev pub trim_step : Header → ClusterNo → World → Stepped
 trim_step header source w =
-    answered (trimmed_all header source w) (ok (decimal (sum (map (λ shard. trimmed_level header source w shard - trimmed_at source w shard) (shards_of header))) ∷ []))
+    answered (trimmed_all header source w) (ok (decimal (sum (map (λ shard. trimmed_level source w shard - trimmed_at source w shard) (shards_of header))) ∷ []))
 
 -- `levels`
 abbrev pub levels_answer : ClusterNo → ClusterNo → ℕ → World → List ℕ
