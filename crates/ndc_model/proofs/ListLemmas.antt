@@ -1,7 +1,7 @@
 -- What holds of all items of a list.
 use Rattle.std.proofs.Common.{◌≡◌, ℕ, zero, suc, ◌+◌, ◌<◌, ◌≤◌, Bool, true, false, cond, if◌then◌else◌, List, [], ◌∷◌, ◌++◌, length, map, take, drop, remove, slice_get, slice_index_or, slice_set, Option, Some, None, ◌⊎◌, inl, inr, refl, sym, ◌∙◌, subst, ap, arith, min, true≢false}
 use Rattle.std.specs.List.{AllByRecursion, IsAmong, filter, flat_map, fold, prefix_len, reduce}
-use Rattle.std.specs.Prelude.{unwrap_or}
+use Rattle.std.specs.Prelude.{find, unwrap_or}
 use Rattle.std.proofs.Math.Nat.{min-le_left, min-le_right}
 use Rattle.ndc_model.specs.Moves.{map_from}
 use Rattle.ndc_model.specs.World.{changed_first}
@@ -53,6 +53,23 @@ pub all-index : {X : Type 0} (P : X → Type 0) (xs : List X) (i : ℕ) (d : X) 
 all-index P [] i d p all = p
 all-index P (x ∷ xs) zero d p all = all.0
 all-index P (x ∷ xs) (suc i) d p all = all-index P xs i d p all.1
+
+-- what holds of the items up to a place, and of so many behind it
+pub all-take-more : {X : Type 0} (P : X → Type 0) (n a b : ℕ) (xs : List X) → n ≡ a + b → AllByRecursion P (take a xs) → AllByRecursion P (take b (drop a xs)) → AllByRecursion P (take n xs)
+all-take-more {X = X} P n zero b xs e front back = let same : b ≡ n = omega (arith, e) in subst (λ (m : ℕ). AllByRecursion P (take m xs)) same back
+all-take-more P n (suc a) b [] e front back = all-take P n [] tt
+all-take-more P zero (suc a) b (x ∷ xs) e front back = tt
+all-take-more P (suc n) (suc a) b (x ∷ xs) e front back = (front.0, all-take-more P n a b xs (omega (arith, e)) front.1 back)
+
+-- an item of a list whose items were all changed
+pub map-at : {X Y : Type 0} (f : X → Y) (xs : List X) (i : ℕ) (d : X) (e : Y) → i < length xs → slice_index_or (map f xs) i e ≡ f (slice_index_or xs i d)
+map-at f [] i d e below = absurd (omega (arith, below))
+map-at f (x ∷ xs) zero d e below = refl
+map-at f (x ∷ xs) (suc i) d e below = map-at f xs i d e (omega (arith, below))
+
+pub length-mapped : {X Y : Type 0} (f : X → Y) (xs : List X) → length (map f xs) ≡ length xs
+length-mapped f [] = refl
+length-mapped f (x ∷ xs) = ap suc (length-mapped f xs)
 
 -- what a filter keeps passes
 pub filter-passes : {X : Type 0} (p : X → Bool) (xs : List X) → AllByRecursion (λ x. p x ≡ true) (filter p xs)
@@ -113,13 +130,14 @@ length-map_from f from [] = refl
 length-map_from f from (x ∷ xs) = ap suc (length-map_from f (suc from) xs)
 
 -- the first item that passes, changed
-pub all-changed : {X : Type 0} (P : X → Type 0) (test : X → Bool) (change : X → X) (xs : List X) → ((x : X) → test x ≡ true → P x → P (change x)) → AllByRecursion P xs → AllByRecursion P (changed_first test change xs)
+pub all-changed : {X : Type 0} (P : X → Type 0) (test : X → Bool) (change : X → X) (xs : List X) → ((x : X) → find test xs ≡ Some x → P x → P (change x)) → AllByRecursion P xs → AllByRecursion P (changed_first test change xs)
 all-changed P test change [] keeps all = tt
-all-changed P test change (x ∷ xs) keeps all = by (test x) refl (all-changed P test change xs keeps all.1)
+all-changed {X = X} P test change (x ∷ xs) keeps all = by (test x) refl (λ later. all-changed P test change xs later all.1)
   where
-    by : (t : Bool) → test x ≡ t → AllByRecursion P (changed_first test change xs) → AllByRecursion P (if t then change x ∷ xs else x ∷ changed_first test change xs)
-    by true passes rest = (keeps x passes all.0, all.1)
-    by false fails rest = (all.0, rest)
+    by : (t : Bool) → test x ≡ t → (((y : X) → find test xs ≡ Some y → P y → P (change y)) → AllByRecursion P (changed_first test change xs))
+        → AllByRecursion P (if t then change x ∷ xs else x ∷ changed_first test change xs)
+    by true passes rest = (keeps x (ap (λ u. cond u (Some x) (find test xs)) passes) all.0, all.1)
+    by false fails rest = (all.0, rest (λ y found. keeps y (ap (λ u. cond u (Some x) (find test xs)) fails ∙ found)))
 
 pub map-changed : {X Y : Type 0} (f : X → Y) (test : X → Bool) (change : X → X) (xs : List X) → ((x : X) → f (change x) ≡ f x) → map f (changed_first test change xs) ≡ map f xs
 map-changed f test change [] same = refl
