@@ -78,8 +78,6 @@ fn main(rt: HostRuntime) -> io::Result<()> {
     }
     println!(rt;
         "{} passed, {} differ, {} not built",
-        counts.passed,
-        counts.differing,
-        counts.unbuilt
+        counts.passed, counts.differing, counts.unbuilt
     )
 }

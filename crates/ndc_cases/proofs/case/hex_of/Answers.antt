@@ -1,4 +1,4 @@
-use Rattle.std.proofs.Common.{◌≡◌, ℕ, List, get_or, take, Ok, sym, subst, ◌∙◌}
+use Rattle.std.proofs.Common.{◌≡◌, ℕ, List, get_or, Ok, sym, subst, ◌∙◌}
 use Rattle.ndc_cases.specs.Case.{byte_of}
 use Rattle.ndc_cases.proofs.Hex.{hex_step}
 use Rattle.ndc_cases.proofs.case.hex_of.Goals as goal
