@@ -1,13 +1,12 @@
 -- A script that is read has no more lines in print than were read for it, and no line past the limit.
-use Rattle.std.proofs.Common.{◌≡◌, ℕ, zero, suc, ◌+◌, ◌≤◌, Bool, true, false, nat_le, List, [], ◌∷◌, length, map, drop, codes, Option, Some, None, Result, Ok, Err, IfOk, if◌then◌else◌, refl, sym, ap, ◌^◌, arith, lit≤}
+use Rattle.std.proofs.Common.{◌≡◌, ℕ, zero, suc, ◌+◌, ◌≤◌, Bool, true, false, nat_le, List, [], ◌∷◌, length, drop, codes, Option, Some, None, Result, Ok, Err, IfOk, if◌then◌else◌, refl, sym, ap, ◌^◌, arith, lit≤}
 use Rattle.std.specs.List.{cons_option}
 use Rattle.std.proofs.lemmas.Bool.{leb-true}
 use Rattle.std.proofs.lemmas.List.{length-map, length-append}
 use Rattle.ndc_event.specs.Outcome.{◌>>=◌}
-use Rattle.ndc_domain.specs.Clusters.{ClusterList, name_of, clusters_of}
+use Rattle.ndc_domain.specs.Clusters.{ClusterList, clusters_of}
 use Rattle.ndc_domain.specs.declared.clusters.ClustersError.{ClustersError}
 use Rattle.ndc_act.specs.declared.script.Act.{Act}
-use Rattle.ndc_act.specs.declared.script.Act.TheVariants as act
 use Rattle.ndc_act.specs.declared.script.BurstJob.{BurstJob}
 use Rattle.ndc_act.specs.declared.script.Header.{Header}
 use Rattle.ndc_act.specs.declared.script.Line.{Line}
@@ -22,7 +21,7 @@ use Rattle.ndc_act.specs.declared.script.ScriptCause.TheVariants.{BadHeader}
 use Rattle.ndc_words.specs.Header.{refused, is_cluster_line, Setting, number_read, setting_of, increment_at, member_read, member_of, before_members, members_of, behind_members, placed, body_lines as rest_lines, HeaderRead, clusters_read, header_of}
 use Rattle.ndc_words.specs.Operands.{known}
 use Rattle.ndc_read.specs.Body.{job_read, is_end, jobs_of, burst_line, verb_act, act_by, words_act, act_read, body_behind, body_of, script_of}
-use Rattle.ndc_act.specs.Print.{lines_within, job_words, act_lines, body_lines as printed_lines, header_lines, cluster_line_of, script_lines}
+use Rattle.ndc_act.specs.Print.{lines_within, body_lines as printed_lines, header_lines, cluster_line_of, script_lines}
 use Rattle.ndc_words.specs.Verbs.{verb_of}
 use Rattle.ndc_act.proofs.Counts.{read_count, body_printed}
 use Rattle.ndc_words.proofs.Fits.{after}

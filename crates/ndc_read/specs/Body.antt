@@ -1,5 +1,5 @@
 -- The lines of a script's body, bursts, and the script that bytes are.
-use Rattle.std.specs.Prelude.{ℕ, zero, suc, ◌+◌, Bool, false, Option, None, Some, List, [], ◌∷◌, length, Result, Ok, codes, if◌then◌else◌}
+use Rattle.std.specs.Prelude.{ℕ, zero, suc, Bool, false, Option, None, Some, List, [], ◌∷◌, Result, Ok, codes, if◌then◌else◌}
 use Rattle.std.specs.Str.{bytes_eq}
 use Rattle.ndc_act.specs.Print.{lines_within}
 use Rattle.ndc_event.specs.Outcome.{◌>>=◌}

@@ -12,11 +12,9 @@ use crate::line::{
     place_line, places_line, progress_line, pull_line, reset_line, retain_line, settle_line,
     target_line, workflow_line,
 };
-use ndc_words::{bad, known, named};
 use crate::register::register_line;
 use ndc_act::{Act, BurstJob, Header, Jobs, Line, ScriptCause, ScriptError};
-use ndc_words::{KeptLine, Reading};
-use ndc_words::{CommandVerb, Verb, verb_of};
+use ndc_words::{CommandVerb, KeptLine, Reading, Verb, bad, known, named, verb_of};
 use std::alloc::Global;
 
 /// The refusal of a line past the limit.

@@ -4,14 +4,13 @@ ghost use Rattle.ndc_act.specs.declared.script.ScriptError.TheVariants.{Memory};
 ghost use Rattle.ndc_read.specs.Commands.{bare_command, named_command, paired_command, named_action, paired_action, closing_action, named_group, paired_group, closing_group, canceled_group, group_by, group_of, actions_behind, actions_of, bare_of, named_of, paired_of, respond_of, command_of, command_line};
 ghost use Rattle.ndc_act.specs.WellFormed.{IsName, IsWellFormedAction, AreWellFormedActions, IsWellFormedCommand, IsWellFormedAct};
 
-use ndc_words::{bad, named, workflow_at};
 use ndc_act::{Act, Header, ScriptError};
-use ndc_words::{
-    ActionVerb, BareCommand, ClosingAction, CommandVerb, NamedAction, NamedCommand, PairedAction,
-    PairedCommand, action_verb,
-};
 use ndc_command::{Action, Actions, Command};
 use ndc_event::Name;
+use ndc_words::{
+    ActionVerb, BareCommand, ClosingAction, CommandVerb, NamedAction, NamedCommand, PairedAction,
+    PairedCommand, action_verb, bad, named, workflow_at,
+};
 use std::alloc::Global;
 
 /// An action, and how many words behind its first belong to it.

@@ -5,16 +5,14 @@ ghost use Rattle.ndc_act.specs.declared.script.ScriptError.TheVariants.{Memory};
 ghost use Rattle.ndc_read.specs.Lines.{cluster_act, cluster_line, pair_act, pair_line, domain_act, domain_line, retain_line, target_act, target_line, handover_line, levels_line, place_act, place_line, pull_line, places_act, places_with, places_line, settle_line, workflow_act, workflow_line, compare_line, reset_line, beat_with, beat_line, progress_line};
 ghost use Rattle.ndc_act.specs.WellFormed.{IsWellFormedHeader, IsWellFormedAct};
 
-use ndc_words::{
-    MAX_PLACE, WorkflowAt, bad, both_known, known, named, numbered, place_of, shard_of,
-    two_clusters, workflow_at,
-};
 use ndc_act::{Act, Header, ScriptError};
-use ndc_words::{
-    ClusterVerb, DomainVerb, PairVerb, PlaceVerb, PlacesVerb, TargetVerb, WorkflowVerb,
-};
 use ndc_domain::ClusterNo;
 use ndc_event::Name;
+use ndc_words::{
+    ClusterVerb, DomainVerb, MAX_PLACE, PairVerb, PlaceVerb, PlacesVerb, TargetVerb, WorkflowAt,
+    WorkflowVerb, bad, both_known, known, named, numbered, place_of, shard_of, two_clusters,
+    workflow_at,
+};
 use std::alloc::Global;
 
 /// What a line on one cluster asks for.

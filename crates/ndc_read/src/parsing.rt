@@ -5,9 +5,8 @@ ghost use Rattle.ndc_read.specs.Body.{script_of};
 ghost use Rattle.ndc_act.specs.WellFormed.{IsWellFormedHeader, AreWellFormedLines, IsWellFormed};
 
 use crate::body::body_of;
-use ndc_words::header_of;
 use ndc_act::{Lines, Script, ScriptError};
-use ndc_words::{kept_of, line_after};
+use ndc_words::{header_of, kept_of, line_after};
 use std::alloc::Global;
 
 /// The script that bytes are.

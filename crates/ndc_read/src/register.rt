@@ -6,10 +6,10 @@ ghost use Rattle.ndc_act.specs.declared.script.ScriptError.TheVariants.{Memory};
 ghost use Rattle.ndc_read.specs.Register.{all_differ, clusters_named, clusters_for, members_named, register_with, register_line};
 ghost use Rattle.ndc_act.specs.WellFormed.{IsCluster, IsName, AreDays, IsWellFormedAct};
 
-use ndc_words::{bad, known, named, numbered};
 use ndc_act::{Act, Header, ScriptError, clusters_below};
 use ndc_domain::{ClusterNo, Members};
 use ndc_event::Name;
+use ndc_words::{bad, known, named, numbered};
 use std::alloc::{AllocError, Global};
 use std::collections::BTreeSet;
 

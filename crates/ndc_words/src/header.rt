@@ -7,8 +7,8 @@ ghost use Rattle.ndc_act.specs.WellFormed.{IsWellFormedHeader};
 ghost use Rattle.ndc_words.specs.Header.{keyed_number, within, number_read, setting_of, increment_at, cluster_words, member_of, members_of, behind_members, is_cluster_line, named_initial, no_member, number_at, clusters_refusal, placed, body_lines, clusters_read, header_of};
 
 use crate::number::number_of;
-use ndc_act::{Header, ScriptCause, ScriptError};
 use crate::text::{KeptLine, Reading};
+use ndc_act::{Header, ScriptCause, ScriptError};
 use ndc_domain::{Clusters, ClustersError};
 use ndc_event::{Name, NameError};
 use std::alloc::{AllocError, Global};

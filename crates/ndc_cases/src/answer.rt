@@ -1,0 +1,121 @@
+//! What a call answers, over memory.
+ghost use Rattle.std.specs.Prelude.{◌≡◌, [], IfOk};
+ghost use Rattle.ndc_act.specs.Print.{script_text};
+ghost use Rattle.ndc_read.specs.Body.{script_of};
+
+use ndc_port::{MemSink, MemSource};
+use ndc_script::{Script, ScriptError, generate, parse, print};
+use ndc_text::{TextError, print_batch, read_batch, read_batch_1};
+use ndc_top::ndc_top;
+use ndc_words::number_of;
+use std::alloc::{AllocError, Global};
+
+/// How many bytes a call may print.
+const ROOM: usize = 1_048_576;
+
+/// What a call answers: its status, what it printed, and what it told on standard error.
+#[derive(Drop)]
+pub struct Answer {
+    pub status: u8,
+    pub output: Vec<u8>,
+    pub told: Vec<u8>,
+}
+
+/// The answer of a call that is refused, with the line that tells why.
+fn refused(alloc: Global, status: u8, told: &str) -> Result<Answer, AllocError>
+    ensures { IfOk result (λ answer. answer.status ≡ status) }
+{
+    let mut line = Vec::from_slice(alloc, told.as_bytes())?;
+    line.push(b'\n')?;
+    Ok(Answer {
+        status,
+        output: Vec::new(alloc),
+        told: line,
+    })
+}
+
+/// The answer of a call that prints these bytes.
+fn printed(alloc: Global, output: Vec<u8>) -> Answer
+    ensures { result.output ≡ output }
+{
+    Answer {
+        status: 0,
+        output,
+        told: Vec::new(alloc),
+    }
+}
+
+/// What the program answers on these words.
+fn ndc_answer(alloc: Global, words: &[&[u8]], input: &[u8]) -> Result<Answer, AllocError>
+    ensures { IfOk result (λ answer. answer.status ≡ 0 → answer.told.items ≡ []) }
+{
+    let mut given = Vec::new(alloc);
+    for word in words {
+        given.push(String::from_utf8_lossy(alloc, word)?)?;
+    }
+    let mut source = MemSource::new(Vec::from_slice(alloc, input)?, Vec::new(alloc));
+    let mut out = MemSink::new(alloc, ROOM, Vec::new(alloc))?;
+    let mut err = MemSink::new(alloc, ROOM, Vec::new(alloc))?;
+    let status = ndc_top(alloc, given.as_slice(), &mut source, &mut out, &mut err);
+    Ok(Answer {
+        status,
+        output: Vec::from_slice(alloc, out.bytes())?,
+        told: Vec::from_slice(alloc, err.bytes())?,
+    })
+}
+
+/// A script, read and printed again.
+fn script_answer(alloc: Global, input: &[u8]) -> Result<Answer, AllocError>
+    ensures { IfOk result (λ answer. IfOk (script_of input.now) (λ script. answer.output.items ≡ script_text script)) }
+{
+    match parse(alloc, input) {
+        Ok(script) => Ok(printed(alloc, print(alloc, &script)?)),
+        Err(ScriptError::Memory) => Err(AllocError),
+        Err(error) => refused(alloc, 3, format!(in alloc; "{error:?}")?.as_str()),
+    }
+}
+
+/// A generated script, printed.
+fn generated_answer(alloc: Global, count: &[u8], seed: &[u8]) -> Result<Answer, AllocError> {
+    match (number_of(count), number_of(seed)) {
+        (Some(count), Some(seed)) if 1 <= count && count <= 99_000 => {
+            let script = generate(alloc, count, seed)?;
+            Ok(printed(alloc, print(alloc, &script)?))
+        }
+        _ => refused(alloc, 2, "no such numbers"),
+    }
+}
+
+/// A batch, read and printed again; a bare one has no carrier.
+fn batch_answer(alloc: Global, bare: bool, input: &[u8]) -> Result<Answer, AllocError>
+    ensures { IfOk result (λ answer. answer.status ≡ 0 → answer.output.items ≡ input.now) }
+{
+    let read = if bare {
+        read_batch_1(alloc, input)
+    } else {
+        read_batch(alloc, input)
+    };
+    match read {
+        Ok(batch) => Ok(printed(alloc, print_batch(alloc, &batch)?)),
+        Err(TextError::Memory) => Err(AllocError),
+        Err(error) => refused(alloc, 7, format!(in alloc; "{error:?}")?.as_str()),
+    }
+}
+
+/// What a call answers on this input. Refused with status 2 where there is no such call.
+pub fn answer_of(alloc: Global, call: &[u8], input: &[u8]) -> Result<Answer, AllocError> {
+    let words: Vec<&[u8]> = call
+        .split(|byte| *byte == b' ')
+        .filter(|word| !word.is_empty())
+        .collect(alloc)?;
+    match words.as_slice() {
+        [program, rest @ ..] if *program == b"ndc".as_slice() => ndc_answer(alloc, rest, input),
+        [word] if *word == b"script".as_slice() => script_answer(alloc, input),
+        [word, count, seed] if *word == b"generated".as_slice() => {
+            generated_answer(alloc, count, seed)
+        }
+        [word] if *word == b"batch".as_slice() => batch_answer(alloc, false, input),
+        [word] if *word == b"bare".as_slice() => batch_answer(alloc, true, input),
+        _ => refused(alloc, 2, "no such call"),
+    }
+}

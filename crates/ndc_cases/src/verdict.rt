@@ -1,0 +1,83 @@
+//! What comes of a case.
+ghost use Rattle.std.specs.Prelude.{◌≡◌, ◌↔◌, ◌&&◌, ◌==◌, true};
+ghost use Rattle.std.specs.Str.{bytes_eq};
+ghost use Rattle.ndc_cases.specs.declared.verdict.Verdict.TheVariants.{Passes};
+
+use crate::answer::Answer;
+use crate::case::Case;
+
+/// What comes of a case.
+#[derive(Clone, Copy, Debug, PartialEq, Eq)]
+pub enum Verdict {
+    /// It answers as wanted.
+    Passes,
+    /// It answers otherwise.
+    Differs,
+    /// It calls or asks what is not built yet.
+    NotBuilt,
+}
+
+/// What comes of cases, counted.
+#[derive(Drop)]
+pub struct Counts {
+    pub passed: u64,
+    pub differing: u64,
+    pub unbuilt: u64,
+}
+
+/// Whether the answer is the wanted one, to the last byte.
+fn is_wanted(case: &Case, answer: &Answer) -> bool
+    ensures { result ≡ ((answer.now.status == case.now.status) && bytes_eq answer.now.output.items case.now.output && bytes_eq answer.now.told.items case.now.told) }
+{
+    answer.status == case.status()
+        && answer.output.as_slice() == case.output()
+        && answer.told.as_slice() == case.told()
+}
+
+/// Whether the call was refused since it is not built yet: by its words, or at a line of a script.
+fn is_unbuilt(case: &Case, answer: &Answer) -> bool {
+    (case.status() != 2 && answer.told.starts_with(b"ndc: words: "))
+        || answer.told.ends_with(b": Unbuilt\n")
+}
+
+/// What comes of a case by its answer. It passes exactly where the status and all bytes are the wanted ones.
+pub fn verdict_of(case: &Case, answer: &Answer) -> Verdict
+    ensures { (result ≡ Passes) ↔ (((answer.now.status == case.now.status) && bytes_eq answer.now.output.items case.now.output && bytes_eq answer.now.told.items case.now.told) ≡ true) }
+{
+    if is_wanted(case, answer) {
+        Verdict::Passes
+    } else if is_unbuilt(case, answer) {
+        Verdict::NotBuilt
+    } else {
+        Verdict::Differs
+    }
+}
+
+impl Counts {
+    ghost use Rattle.std.specs.Prelude.{◌≡◌, ◌≢◌};
+    ghost use Rattle.ndc_cases.specs.declared.verdict.Verdict.TheVariants.{Passes, Differs, NotBuilt};
+
+    /// Nothing was counted yet.
+    pub fn new() -> Counts
+        ensures { result ≡ record { passed = 0; differing = 0; unbuilt = 0 } }
+    {
+        Counts {
+            passed: 0,
+            differing: 0,
+            unbuilt: 0,
+        }
+    }
+
+    /// Counts one case more.
+    pub fn count(&mut self, verdict: Verdict)
+        ensures passed { verdict ≢ Passes → self.new.passed ≡ self.old.passed }
+        ensures differing { verdict ≢ Differs → self.new.differing ≡ self.old.differing }
+        ensures unbuilt { verdict ≢ NotBuilt → self.new.unbuilt ≡ self.old.unbuilt }
+    {
+        match verdict {
+            Verdict::Passes => self.passed = self.passed.saturating_add(1),
+            Verdict::Differs => self.differing = self.differing.saturating_add(1),
+            Verdict::NotBuilt => self.unbuilt = self.unbuilt.saturating_add(1),
+        }
+    }
+}
