@@ -126,12 +126,12 @@ place-total a b l s = by (names_cmp a.domain b.domain) refl
     by Greater e = place-from (place_of b) a (inl (greater_flip a.domain b.domain e))
 
 -- what comes after a later place comes after this one
-behind-trans : (low high : Place) (batches : List Batch) → place_lt low high ≡ true → AreBehind high batches → AreBehind low batches
+pub behind-trans : (low high : Place) (batches : List Batch) → place_lt low high ≡ true → AreBehind high batches → AreBehind low batches
 behind-trans low high [] l all = tt
 behind-trans low high (x ∷ xs) l all = (place-trans low high (place_of x) l all.0, behind-trans low high xs l all.1)
 
 -- arrival at a place, by how it compares with the first
-placed-cases : (P : List Batch → Type 0) (new b : Batch) (batches : List Batch) → (place_lt (place_of new) (place_of b) ≡ true → P (new ∷ b ∷ batches))
+pub placed-cases : (P : List Batch → Type 0) (new b : Batch) (batches : List Batch) → (place_lt (place_of new) (place_of b) ≡ true → P (new ∷ b ∷ batches))
     → (place_lt (place_of new) (place_of b) ≡ false → is_at (place_of new) b ≡ true → P (b ∷ batches))
     → (place_lt (place_of new) (place_of b) ≡ false → is_at (place_of new) b ≡ false → P (b ∷ placed new batches)) → P (placed new (b ∷ batches))
 placed-cases P new b batches less same greater = by (place_lt (place_of new) (place_of b)) refl (is_at (place_of new) b) refl
@@ -142,7 +142,7 @@ placed-cases P new b batches less same greater = by (place_lt (place_of new) (pl
     by false e true f = same e f
     by false e false f = greater e f
 
-all-placed : (P : Batch → Type 0) (new : Batch) (batches : List Batch) → P new → AllByRecursion P batches → AllByRecursion P (placed new batches)
+pub all-placed : (P : Batch → Type 0) (new : Batch) (batches : List Batch) → P new → AllByRecursion P batches → AllByRecursion P (placed new batches)
 all-placed P new [] p all = (p, tt)
 all-placed P new (b ∷ batches) p all =
     placed-cases (AllByRecursion P) new b batches (λ _. (p, all)) (λ _ _. all) (λ _ _. (all.0, all-placed P new batches p all.1))

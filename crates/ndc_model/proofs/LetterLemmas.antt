@@ -17,7 +17,7 @@ use Rattle.ndc_cells.specs.Places.{is_at, place_of}
 use Rattle.ndc_letters.specs.Letters.{is_read_as}
 
 -- a batch is at its place
-is_at-own : (b : Batch) → is_at (place_of b) b ≡ true
+pub is_at-own : (b : Batch) → is_at (place_of b) b ≡ true
 is_at-own b =
     and_from _ _ (and_from _ _ ((bytes_eq-Decides b.domain b.domain).1 refl) ((bytes_eq-Decides b.workflow b.workflow).1 refl)) (key_eq-self b.key)
 
