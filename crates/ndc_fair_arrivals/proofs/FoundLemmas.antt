@@ -81,7 +81,7 @@ pub none-behind : (low : Place) (bs : List Batch) → AreBehind low bs → batch
 none-behind low [] all = refl
 none-behind low (b ∷ bs) all = ap (λ t. cond t (Some b) (batch_there bs low)) (at-none low b all.0) ∙ none-behind low bs all.1
 
-or-none : {X : Type 0} (o : Option X) → option_or o None ≡ o
+pub or-none : {X : Type 0} (o : Option X) → option_or o None ≡ o
 or-none None = refl
 or-none (Some x) = refl
 

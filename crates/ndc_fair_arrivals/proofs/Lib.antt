@@ -1,3 +1,5 @@
 pub mod FoundLemmas
 pub mod CellLemmas
 pub mod WaitingLemmas
+pub mod WrittenLemmas
+pub mod ArrivalLemmas
