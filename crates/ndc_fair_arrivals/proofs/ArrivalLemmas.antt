@@ -21,14 +21,14 @@ use Rattle.ndc_model.specs.Fair.{AreMessagesTrue, IsArrivedFit, IsMessageTrue, i
 use Rattle.ndc_model.specs.Moves.{all_written, messages_among}
 use Rattle.ndc_model.specs.World.{World, cell_at}
 use Rattle.ndc_model.proofs.LetterLemmas.{is_at-own}
-use Rattle.ndc_model.proofs.ListLemmas.{all-filter, is-among}
+use Rattle.ndc_model.proofs.ListLemmas.{all-filter, among-is, is-among}
 use Rattle.ndc_sets.specs.Learned.{IsPart, has_key}
 use Rattle.ndc_sets.specs.Paths.{is_wanted}
 use Rattle.ndc_sets.specs.Sets.{Has, PointsBack, batch_at}
 use Rattle.ndc_sets.proofs.Lists.{Among, find-among, find-only}
 use Rattle.ndc_sets.proofs.SetLemmas.{found-has, found-key, has-found}
 use Rattle.ndc_fair_arrivals.proofs.CellLemmas.{IsGrown, LearnedMore}
-use Rattle.ndc_fair_arrivals.proofs.FoundLemmas.{at-place, or-none, order-finds, placed-there, there-among}
+use Rattle.ndc_fair_arrivals.proofs.FoundLemmas.{at-place, or-none, order-finds, placed-stays, placed-there, there-among}
 use Rattle.ndc_fair_arrivals.proofs.WaitingLemmas.{IsFresh, filter-messages, message-there, placed-within, placed-without}
 use Rattle.ndc_fair_arrivals.proofs.WrittenLemmas.{arrived-written, carried-alone, cell-is, names-of, one-carried, one-carrier, one-written, ordered, points-back, wanted-some}
 
@@ -283,3 +283,34 @@ module _ (header : Header) (lines : ℕ) (w : World) (is : IsReached header line
       by : (t : Bool) → has_arrived sent.batch cell ≡ t → IsGrown header w shard cluster cell (if t then cell else cell_with sent cell)
       by true e = grown-known
       by false e = grown-new e
+
+  -- what had arrived has arrived still
+  pub arrived-stays : (place : Place) (b : Batch) → batch_there (cell_at cluster shard w).arrived place ≡ Some b → batch_there (arrived_at sent (cell_at cluster shard w)).arrived place ≡ Some b
+  unfolding arrived_at
+  arrived-stays place b e = by (has_arrived sent.batch cell)
+    where
+      second : (o : Option Batch) → batch_there (placed sent.batch cell.arrived) place ≡ Some b → batch_there (placed_second o (placed sent.batch cell.arrived)) place ≡ Some b
+      second None h = h
+      second (Some s) h = placed-stays s (placed sent.batch cell.arrived) place b first-order h
+
+      by : (t : Bool) → batch_there (if t then cell else cell_with sent cell).arrived place ≡ Some b
+      by true = e
+      by false = second sent.second (placed-stays sent.batch cell.arrived place b old-order e)
+
+  -- the batches of the message have arrived
+  pub arrived-itself : has_arrived sent.batch (arrived_at sent (cell_at cluster shard w)) ≡ true
+  unfolding arrived_at
+  arrived-itself = by (has_arrived sent.batch cell) refl
+    where
+      by : (t : Bool) → has_arrived sent.batch cell ≡ t → has_arrived sent.batch (if t then cell else cell_with sent cell) ≡ true
+      by true e = e
+      by false e = batch-there
+
+  pub second-arrived : (s : Batch) → sent.second ≡ Some s → has_arrived s (arrived_at sent (cell_at cluster shard w)) ≡ true
+  unfolding arrived_at
+  second-arrived s e = by (has_arrived sent.batch cell) refl
+    where
+      by : (t : Bool) → has_arrived sent.batch cell ≡ t → has_arrived s (if t then cell else cell_with sent cell) ≡ true
+      by true h =
+          sym ((is.fair.arrivals cluster shard known below).carried sent.batch s (among-is all sent.batch among) (among-is all s (second-among s e).0) (second-among s e).1) ∙ h
+      by false h = second-there s e

@@ -56,7 +56,7 @@ module _ (header : Header) (lines : ℕ) (w : World) (is : IsReached header line
   v = with_cells cluster (slice_set (cluster_at cluster w).cells shard new) w
 
   -- a cell of the world: the new one at its place, or the one before
-  by-cell : (P : ClusterNo → ℕ → Cell → Type 0) → P cluster shard new → (other : ClusterNo) (place : ℕ) → P other place (cell_at other place w) → P other place (cell_at other place v)
+  pub by-cell : (P : ClusterNo → ℕ → Cell → Type 0) → P cluster shard new → (other : ClusterNo) (place : ℕ) → P other place (cell_at other place w) → P other place (cell_at other place v)
   by-cell P here other place there =
       cells-cases (P other place) cluster other place (slice_set (cluster_at cluster w).cells shard new) w
       (λ at. set-cases (P other place) (cluster_at cluster w).cells shard place new empty_cell

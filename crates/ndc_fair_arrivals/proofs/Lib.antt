@@ -3,3 +3,4 @@ pub mod CellLemmas
 pub mod WaitingLemmas
 pub mod WrittenLemmas
 pub mod ArrivalLemmas
+pub mod BringLemmas
