@@ -28,7 +28,7 @@ use Rattle.ndc_sets.specs.Sets.{Has, PointsBack, batch_at}
 use Rattle.ndc_sets.proofs.Lists.{Among, find-among, find-only}
 use Rattle.ndc_sets.proofs.SetLemmas.{found-has, found-key, has-found}
 use Rattle.ndc_fair_arrivals.proofs.CellLemmas.{IsGrown, LearnedMore}
-use Rattle.ndc_fair_arrivals.proofs.FoundLemmas.{at-place, or-none, order-finds, placed-stays, placed-there, there-among}
+use Rattle.ndc_fair_arrivals.proofs.FoundLemmas.{at-place, find-passes, or-none, order-finds, placed-stays, placed-there, there-among}
 use Rattle.ndc_fair_arrivals.proofs.WaitingLemmas.{IsFresh, filter-messages, message-there, placed-within, placed-without}
 use Rattle.ndc_fair_arrivals.proofs.WrittenLemmas.{arrived-written, carried-alone, cell-is, names-of, one-carried, one-carrier, one-written, ordered, points-back, wanted-some}
 
@@ -72,15 +72,6 @@ own-is own all b sent e = by (is_some b.carrier) refl e
     by true at e = absurd (cc)
     by false at e = (at, let same : message_of own all b ≡ sent = cc in same)
 
--- what is found passes
-found-passes : (p : Batch → Bool) (bs : List Batch) (b : Batch) → find p bs ≡ Some b → p b ≡ true
-found-passes p [] b e = absurd (cc)
-found-passes p (x ∷ xs) b e = by (p x) refl e (found-passes p xs b)
-  where
-    by : (t : Bool) → p x ≡ t → cond t (Some x) (find p xs) ≡ Some b → (find p xs ≡ Some b → p b ≡ true) → p b ≡ true
-    by true passes e rest = let same : x ≡ b = cc in subst (λ (y : Batch). p y ≡ true) same passes
-    by false fails e rest = rest e
-
 -- a message that is true
 module _ (header : Header) (lines : ℕ) (w : World) (is : IsReached header lines w) (cluster : ClusterNo) (shard : ℕ) (known : IsCluster header cluster) (below : shard < header.shards)
     (sent : Message) (true_is : IsMessageTrue header shard w sent) (named : is_named header cluster w sent.batch.domain ≡ true) where
@@ -103,7 +94,7 @@ module _ (header : Header) (lines : ℕ) (w : World) (is : IsReached header line
   second-is = sym (ap (λ (m : Message). m.second) parts.1)
 
   second-among : (s : Batch) → sent.second ≡ Some s → Among s all × (carries sent.batch s ≡ true)
-  second-among s e = let f : find (carries sent.batch) all ≡ Some s = sym second-is ∙ e in (find-among (carries sent.batch) all s f, found-passes (carries sent.batch) all s f)
+  second-among s e = let f : find (carries sent.batch) all ≡ Some s = sym second-is ∙ e in (find-among (carries sent.batch) all s f, find-passes (carries sent.batch) all s f)
 
   second-carried : (s : Batch) → sent.second ≡ Some s → s.carrier ≡ Some sent.batch.key
   second-carried s e = wanted-some s.carrier sent.batch (and_parts (is_of sent.batch.domain sent.batch.workflow s) (is_wanted s.carrier sent.batch) (second-among s e).1).1

@@ -119,7 +119,7 @@ pub record HasCome (cluster : ClusterNo) (shard : ℕ) (v : World) (sent : Messa
   pub batch : has_arrived sent.batch (cell_at cluster shard v) ≡ true
   pub second : (s : Batch) → sent.second ≡ Some s → has_arrived s (cell_at cluster shard v) ≡ true
 
-brought-none : (header : Header) (lines : ℕ) (cluster : ClusterNo) (w : World) → IsReached header lines w → IsBrought header lines cluster w w
+pub brought-none : (header : Header) (lines : ℕ) (cluster : ClusterNo) (w : World) → IsReached header lines w → IsBrought header lines cluster w w
 brought-none header lines cluster w is = record { kept = kept-none header lines w is; grows = λ shard place b h. h; others = λ other shard apart. refl }
 
 pub brought-then : (header : Header) (lines : ℕ) (cluster : ClusterNo) (u v w : World) → IsBrought header lines cluster u v → IsBrought header lines cluster v w → IsBrought header lines cluster u w
@@ -145,7 +145,7 @@ come-still header lines cluster w v brought shard sent come = record {
 
 module _ (header : Header) (lines : ℕ) (cluster : ClusterNo) (known : IsCluster header cluster) where
   -- one message arrives
-  one-arrives : (w : World) (shard : ℕ) (sent : Message) → IsReached header lines w → shard < header.shards → MayArrive header cluster shard w sent
+  pub one-arrives : (w : World) (shard : ℕ) (sent : Message) → IsReached header lines w → shard < header.shards → MayArrive header cluster shard w sent
       → IsBrought header lines cluster w (world_after header cluster (arrives shard sent ∷ []) w) × HasCome cluster shard (world_after header cluster (arrives shard sent ∷ []) w) sent
   unfolding cells_after after_job
   one-arrives w shard sent is below may =

@@ -32,7 +32,7 @@ at-place place b at =
     λ i. record { domain = sym d i; workflow = sym v i; key = sym k i }
 
 -- what is found passes
-find-passes : (p : Batch → Bool) (bs : List Batch) (b : Batch) → find p bs ≡ Some b → p b ≡ true
+pub find-passes : (p : Batch → Bool) (bs : List Batch) (b : Batch) → find p bs ≡ Some b → p b ≡ true
 find-passes p [] b e = absurd (cc)
 find-passes p (x ∷ xs) b e = by (p x) refl e (find-passes p xs b)
   where

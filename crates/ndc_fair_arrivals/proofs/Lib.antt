@@ -4,3 +4,5 @@ pub mod WaitingLemmas
 pub mod WrittenLemmas
 pub mod ArrivalLemmas
 pub mod BringLemmas
+pub mod ManyLemmas
+pub mod MessageLemmas

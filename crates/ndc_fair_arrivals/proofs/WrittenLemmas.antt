@@ -59,7 +59,7 @@ among-placed new x (b ∷ bs) among = by (place_lt (place_of new) (place_of b)) 
         more (inl same) = inl same
         more (inr there) = inr (inr there)
 
-in_order-among : (bs front : List Batch) (x : Batch) → Among x (fold (λ ordered b. placed b ordered) front bs) → Among x front ⊎ Among x bs
+pub in_order-among : (bs front : List Batch) (x : Batch) → Among x (fold (λ ordered b. placed b ordered) front bs) → Among x front ⊎ Among x bs
 in_order-among [] front x among = inl among
 in_order-among (b ∷ bs) front x among = by (in_order-among bs (placed b front) x among)
   where
