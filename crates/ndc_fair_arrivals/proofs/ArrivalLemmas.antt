@@ -60,7 +60,7 @@ order-filter q (b ∷ bs) order = by (q b) (order-filter q bs order.1)
     by true rest = (all-filter (λ x. place_lt (place_of b) (place_of x) ≡ true) q bs order.0, rest)
     by false rest = rest
 
-none-is : {X : Type 0} (o : Option X) → is_some o ≡ false → o ≡ None
+pub none-is : {X : Type 0} (o : Option X) → is_some o ≡ false → o ≡ None
 none-is None e = refl
 none-is (Some x) e = absurd (true≢false e)
 

@@ -32,12 +32,12 @@ at-place place b at =
     λ i. record { domain = sym d i; workflow = sym v i; key = sym k i }
 
 -- what is found passes
-pub find-passes : (p : Batch → Bool) (bs : List Batch) (b : Batch) → find p bs ≡ Some b → p b ≡ true
-find-passes p [] b e = absurd (cc)
-find-passes p (x ∷ xs) b e = by (p x) refl e (find-passes p xs b)
+pub find-passes : {X : Type 0} (p : X → Bool) (xs : List X) (x : X) → find p xs ≡ Some x → p x ≡ true
+find-passes p [] x e = absurd (cc)
+find-passes {X = X} p (y ∷ ys) x e = by (p y) refl e (find-passes p ys x)
   where
-    by : (t : Bool) → p x ≡ t → cond t (Some x) (find p xs) ≡ Some b → (find p xs ≡ Some b → p b ≡ true) → p b ≡ true
-    by true passes e rest = let same : x ≡ b = cc in subst (λ (y : Batch). p y ≡ true) same passes
+    by : (t : Bool) → p y ≡ t → cond t (Some y) (find p ys) ≡ Some x → (find p ys ≡ Some x → p x ≡ true) → p x ≡ true
+    by true passes e rest = let same : y ≡ x = cc in subst (λ (z : X). p z ≡ true) same passes
     by false fails e rest = rest e
 
 pub there-place : (bs : List Batch) (place : Place) (b : Batch) → batch_there bs place ≡ Some b → place ≡ place_of b

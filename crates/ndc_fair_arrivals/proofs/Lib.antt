@@ -6,3 +6,4 @@ pub mod ArrivalLemmas
 pub mod BringLemmas
 pub mod ManyLemmas
 pub mod MessageLemmas
+pub mod BootstrapLemmas

@@ -128,7 +128,7 @@ module _ (header : Header) (lines : ℕ) (w : World) (is : IsReached header line
         (among-filter (is_of b.domain b.workflow) all x p.1 (arrived-written header lines w is shard below source known x p.0))
 
     -- the one that a learned batch carries has arrived where the batch has
-    second-same : (b : Batch) → Among b (cell_at source shard w).arrived → find (carries b) (cell_at source shard w).arrived ≡ find (carries b) all
+    pub second-same : (b : Batch) → Among b (cell_at source shard w).arrived → find (carries b) (cell_at source shard w).arrived ≡ find (carries b) all
     second-same b there = by (find (carries b) all) refl
       where
         written : Among b all
