@@ -7,3 +7,5 @@ pub mod BringLemmas
 pub mod ManyLemmas
 pub mod MessageLemmas
 pub mod BootstrapLemmas
+pub mod LetterLemmas
+pub mod LawLemmas

@@ -1,5 +1,5 @@
 -- Worlds that differ in one part alone: what holds of all other parts stays.
-use Rattle.std.proofs.Common.{◌≡◌, ◌≢◌, ℕ, ◌<◌, ◌≤◌, Bool, true, false, List, [], ◌∷◌, length, Option, Some, refl, sym, subst, if◌then◌else◌}
+use Rattle.std.proofs.Common.{◌≡◌, ◌≢◌, ℕ, ◌<◌, ◌≤◌, Bool, true, false, ◌||◌, map, take, List, [], ◌∷◌, length, Option, Some, refl, sym, subst, if◌then◌else◌}
 use Rattle.std.specs.List.{AllByRecursion, IsAmong, filter, flat_map, list_any}
 use Rattle.std.specs.Prelude.{AllPairs, IsSomeAnd, is_some, drop, not}
 use Rattle.ndc_act.specs.WellFormed.{IsCluster}
@@ -8,7 +8,7 @@ use Rattle.ndc_cells.specs.declared.message.Message.{Message}
 use Rattle.ndc_cells.specs.declared.place.Place.{Place}
 use Rattle.ndc_cells.specs.Cells.{Cell, both, carries, own_message, put_off_in}
 use Rattle.ndc_cells.specs.Arrival.{has_arrived}
-use Rattle.ndc_cells.specs.Places.{AreInOrder, batch_there, is_at, is_of, place_of}
+use Rattle.ndc_cells.specs.Places.{AreInOrder, batch_there, in_order, is_at, is_of, place_of}
 use Rattle.ndc_cells.specs.Shards.{shard_of}
 use Rattle.ndc_domain.specs.Clusters.{writer_of}
 use Rattle.ndc_domain.specs.Laws.{DaysAgree}
@@ -26,10 +26,10 @@ use Rattle.ndc_sets.specs.Sets.{Has}
 use Rattle.ndc_sets.specs.Sound.{CopiesNamed, IsSound}
 use Rattle.ndc_text.specs.Ranges.{InRange}
 use Rattle.ndc_model.specs.Facts.{BeatsAreSmall, HandoversFit, IsHandoverFit, IsLetterFit, LettersFit, ReportsAgree, WritingIsInRange, is_old, place_in}
-use Rattle.ndc_model.specs.Fair.{AreMembersKnown, AreMessagesTrue, AreNumbersSmall, ArrivalsWereWritten, CopiesNameOriginals, HasRecordFrom, IsArrivedFit, IsConfigKnown, IsMessageTrue, IsOwn, IsRecordInRange, MessagesAreTrue, NumbersAreSmall, RecordsAgree, WritersUseOwnVersions, WritingIsSound, goes_on, is_named, places_written, primary}
+use Rattle.ndc_model.specs.Fair.{AreMembersKnown, AreMessagesTrue, AreNumbersSmall, ArrivalsWereWritten, CopiesNameOriginals, HasRecordFrom, IsArrivedFit, IsFair, IsLaneTrue, IsConfigKnown, IsMessageTrue, IsOwn, IsRecordInRange, MessagesAreTrue, NumbersAreSmall, RecordsAgree, WritersUseOwnVersions, WritingIsSound, goes_on, is_named, places_written, primary}
 use Rattle.ndc_model.specs.Moves.{all_written, messages_among}
-use Rattle.ndc_model.specs.Queues.{names_cluster}
-use Rattle.ndc_model.specs.World.{World, all_clusters, cell_at, cluster_at, queue_at, trimmed_at}
+use Rattle.ndc_model.specs.Queues.{Lane, names_cluster, needs_nothing}
+use Rattle.ndc_model.specs.World.{Link, World, all_clusters, cell_at, cluster_at, is_late_in, lane_in, queue_at, trimmed_at}
 
 -- the parts of a world, as functions
 abbrev pub places_in : Header → World → ℕ → List Place
@@ -46,6 +46,9 @@ queues_in w source shard = queue_at source shard w
 
 abbrev pub tables_in : World → ClusterNo → List DomainRecord
 tables_in w cluster = (cluster_at cluster w).table
+
+abbrev pub trims_in : World → ClusterNo → ℕ → ℕ
+trims_in w source shard = trimmed_at source w shard
 
 abbrev pub letters_in : World → ClusterNo → List Letter
 letters_in w cluster = (cluster_at cluster w).letters
@@ -175,3 +178,53 @@ module _ (header : Header) (v w : World) where
     told = subst (λ (f : ClusterNo → List Report). (c : ClusterNo) → IsCluster header c
         → AllByRecursion (λ report. IsSomeAnd (writer_of header.clusters report.version) (λ writer. IsAmong (f writer) report)) (f c)) (sym same) is.told;
   }
+
+  -- a lane is as true where cells, tables and what is trimmed are the same
+  pub lane-alike : cells_in v ≡ cells_in w → tables_in v ≡ tables_in w → trims_in v ≡ trims_in w → (link : Link) (shard : ℕ) (lane : Lane) → IsLaneTrue w link shard lane → IsLaneTrue v link shard lane
+  lane-alike cells tables trims link shard lane t = record {
+    trimmed_most = subst (λ (f : ClusterNo → ℕ → ℕ). f link.source shard ≤ lane.levels.done) (sym trims) t.trimmed_most;
+    levels = record {
+      done_most = t.levels.done_most;
+      read_most = subst (λ (f : ClusterNo → ℕ → Cell). lane.levels.read ≤ length (f link.source shard).written) (sym cells) t.levels.read_most;
+    };
+    done = subst (λ (f : ClusterNo → List DomainRecord). AllByRecursion (λ sent. (needs_nothing link.reader (f link.source) (cell_at link.reader shard v) sent || is_late_in sent.batch.domain link) ≡ true) (take lane.levels.done (queue_at link.source shard v))) (sym tables)
+        (subst (λ (f : ClusterNo → ℕ → Cell). AllByRecursion (λ sent. (needs_nothing link.reader (cluster_at link.source w).table (f link.reader shard) sent || is_late_in sent.batch.domain link) ≡ true) (take lane.levels.done (f link.source shard).written)) (sym cells) t.done);
+    flight = subst (λ (f : ClusterNo → ℕ → Cell). AllByRecursion (IsAmong (f link.source shard).written) lane.flight) (sym cells) t.flight;
+  }
+
+  -- worlds whose cells, tables, links and trimmed queues are the same are as fair
+  module _ (lines : ℕ) (cells : cells_in v ≡ cells_in w) (tables : tables_in v ≡ tables_in w) (links : v.links ≡ w.links) (trims : trims_in v ≡ trims_in w) where
+    pub queues-same : queues_in v ≡ queues_in w
+    queues-same = λ i other place. (cells i other place).written
+
+    pub wrote-same : WroteAlike header v w
+    wrote-same = record {
+      places = λ i s. flat_map (λ c. map place_of (flat_map both (queues-same i c s))) (all_clusters header);
+      batches = λ i s. in_order (flat_map (λ c. flat_map both (queues-same i c s)) (all_clusters header));
+    }
+
+    each-link : {P Q : Link → Type 0} → ((link : Link) → P link → Q link) → (list : List Link) → AllByRecursion P list → AllByRecursion Q list
+    each-link change [] all = tt
+    each-link change (link ∷ list) all = (change link all.0, each-link change list all.1)
+
+    pub fair-alike : IsFair header lines w → IsFair header lines v
+    fair-alike is = record {
+      writing = writing-alike wrote-same is.writing;
+      copies = copies-alike wrote-same.batches is.copies;
+      writers = writers-alike cells tables is.writers;
+      arrivals = arrivals-alike cells wrote-same.batches is.arrivals;
+      messages = messages-alike cells wrote-same.batches is.messages;
+      lanes = subst (AllByRecursion (λ link. (shard : ℕ) → shard < header.shards → IsLaneTrue v link shard (lane_in link shard))) (sym links)
+          (each-link (λ link t shard below. lane-alike cells tables trims link shard (lane_in link shard) (t shard below)) w.links is.lanes);
+      records = records-alike lines tables is.records;
+      numbers = numbers-alike lines wrote-same.batches is.numbers;
+      members = record {
+        members = subst (λ (f : ClusterNo → List DomainRecord). (c : ClusterNo) → IsCluster header c → AllByRecursion (AreMembersKnown header) (f c)) (sym tables) is.members.members;
+        arrived = subst (λ (t : ClusterNo → List DomainRecord). (c : ClusterNo) (shard : ℕ) → IsCluster header c → shard < header.shards → AllByRecursion (λ b. named_by header t c b.domain ≡ true) (cell_at c shard v).arrived) (sym tables)
+            (subst (λ (f : ClusterNo → ℕ → Cell). (c : ClusterNo) (shard : ℕ) → IsCluster header c → shard < header.shards → AllByRecursion (λ b. is_named header c w b.domain ≡ true) (f c shard).arrived) (sym cells) is.members.arrived);
+        flight = subst (λ (t : ClusterNo → List DomainRecord). AllByRecursion (λ link. (shard : ℕ) → shard < header.shards → AllByRecursion (λ sent. named_by header t link.reader sent.batch.domain ≡ true) (lane_in link shard).flight) v.links) (sym tables)
+            (subst (AllByRecursion (λ link. (shard : ℕ) → shard < header.shards → AllByRecursion (λ sent. is_named header link.reader w sent.batch.domain ≡ true) (lane_in link shard).flight)) (sym links) is.members.flight);
+        late = subst (λ (t : ClusterNo → List DomainRecord). AllByRecursion (λ link. AllByRecursion (λ domain. names_cluster link.reader (record_of (t link.source) domain) ≡ true) link.late) v.links) (sym tables)
+            (subst (AllByRecursion (λ link. AllByRecursion (λ domain. names_cluster link.reader (record_of (cluster_at link.source w).table domain) ≡ true) link.late)) (sym links) is.members.late);
+      };
+    }
