@@ -144,7 +144,7 @@ kept-filled run events kept s h e =
     rw (e, run-replay (new_state run) s events h, ← origins_collected run events s h) refl
 
 -- what is kept of a state that reaches a multiple
-pub with_kept-reached : (tip : BatchKey) (events : ℕ) (s : StateValue) (states : List (BatchKey × StateValue)) → reaches events s ≡ true
+pub with_kept-reached : (tip : BatchKey) (events : ℕ) (s : StateValue) (states : List (BatchKey × StateValue)) → reaches events s.next ≡ true
     → insert_entry key_eq states tip (bare s) ≡ with_kept tip events s states
 with_kept-reached tip events s states h = rw h refl
 
@@ -214,7 +214,7 @@ pub FitsPath-one : (run : RunId) (b : Batch) (events : ℕ) (s : StateValue) →
     → FitsPath (record { run = run; states = with_kept b.key events s [] }) (b ∷ [])
 FitsPath-one run b events s h [] back batch kept e at =
     let same : b ≡ batch = cc in
-    (s, subst (λ (x : Batch). replay_of run (history_of (x ∷ [])) ≡ Ok s) same h, value (reaches events s) at)
+    (s, subst (λ (x : Batch). replay_of run (history_of (x ∷ [])) ≡ Ok s) same h, value (reaches events s.next) at)
   where
     one : (c : Bool) → (if c then Some (bare s) else None) ≡ Some kept → kept ≡ bare s
     one true k = cc

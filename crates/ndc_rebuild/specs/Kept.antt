@@ -23,13 +23,13 @@ bare s = record s { origins = [] }
 abbrev pub kept_at : BatchKey → List (BatchKey × StateValue) → Option StateValue
 kept_at key states = lookup (key_eq key) states
 
--- whether the last so many events of a state took their count to or past a multiple of 512
-abbrev pub reaches : ℕ → StateValue → Bool
-reaches events s = not ((s.next - 1) / 512 == (s.next - 1 - events) / 512)
+-- whether the last so many events before the next id took their count to or past a multiple of 512
+abbrev pub reaches : ℕ → ℕ → Bool
+reaches events next = not ((next - 1) / 512 == (next - 1 - events) / 512)
 
 -- a state is kept for its tip, where its last batch, of so many events, reaches a multiple of 512
 abbrev pub with_kept : BatchKey → ℕ → StateValue → List (BatchKey × StateValue) → List (BatchKey × StateValue)
-with_kept tip events s states = if reaches events s then insert_entry key_eq states tip (bare s) else states
+with_kept tip events s states = if reaches events s.next then insert_entry key_eq states tip (bare s) else states
 
 -- what is kept but for the tip
 abbrev pub without_kept : BatchKey → List (BatchKey × StateValue) → List (BatchKey × StateValue)

@@ -5,7 +5,7 @@ ghost use Rattle.ndc_rebuild.specs.Kept.{reaches};
 use crate::replay::{rebuild, replay_batches};
 use indexmap::IndexMap;
 use ndc_event::{Batch, BatchKey, RunId};
-use ndc_state::{State, StateError, Steps};
+use ndc_state::{State, StateError, Steps, Tracked};
 use std::alloc::{AllocError, Global};
 use std::marker::Model;
 
@@ -65,11 +65,30 @@ impl Checkpoints {
         ensures run { self.new.run ≡ self.old.run }
         ensures err { OnErr result (self.new ≡ self.old) }
     {
-        if !reaches(events, state) {
+        if !reaches(events, state.next()) {
             return Ok(());
         }
         let copy = state.try_copy_without_origins()?;
         self.states.insert(tip, copy)?;
+        Ok(())
+    }
+
+    /// Does what [`Checkpoints::keep`] does, for a state that is marked.
+    pub fn keep_marked(
+        &mut self,
+        tip: BatchKey,
+        events: u64,
+        state: &Tracked,
+    ) -> Result<(), AllocError>
+        ensures states { OnOk result (self.new.states ≡ with_kept tip events state.now.current self.old.states) }
+        ensures run { self.new.run ≡ self.old.run }
+        ensures err { OnErr result (self.new ≡ self.old) }
+    {
+        if !reaches(events, state.next()) {
+            return Ok(());
+        }
+        let bare = state.try_copy_without_origins()?;
+        self.states.insert(tip, bare)?;
         Ok(())
     }
 
@@ -125,11 +144,11 @@ impl Checkpoints {
     }
 }
 
-/// Whether the last so many events of the state took their number to or past a multiple of [`INTERVAL`].
-fn reaches(events: u64, state: &State) -> bool
-    ensures { result ≡ reaches events state.now }
+/// Whether the last so many events before the next id took their number to or past a multiple of [`INTERVAL`].
+fn reaches(events: u64, next: u64) -> bool
+    ensures { result ≡ reaches events next }
 {
-    let count = state.next().saturating_sub(1);
+    let count = next.saturating_sub(1);
     let before = count.saturating_sub(events);
     count / INTERVAL != before / INTERVAL
 }

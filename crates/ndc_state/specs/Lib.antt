@@ -7,6 +7,7 @@ pub mod OriginList
 pub mod Value
 pub mod Table
 pub mod Tracked
+pub mod Lending
 pub mod Replay
 pub mod Written
 pub mod Text

@@ -15,6 +15,7 @@ pub use pendings::Pending;
 pub use rule::{CloseKind, Rule, StateError};
 pub use state::State;
 pub use steps::Steps;
+pub use tracked::Tracked;
 
 #[cfg(test)]
 mod tests;

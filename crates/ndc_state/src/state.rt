@@ -31,7 +31,9 @@ impl State {
     ghost use Rattle.std.specs.Prelude.{◌≡◌, ◌≢◌, ◌≤◌, ◌^◌, [], length, All, Err, IfOk, OnOk, OnErr, is_ok, if◌then◌else◌};
     ghost use Rattle.ndc_event.specs.Outcome.{Gives};
     ghost use Rattle.ndc_state.specs.declared.rule.StateError.TheVariants.{Memory};
+    ghost use Rattle.std.specs.Borrow.{sem};
     ghost use Rattle.ndc_state.specs.Counted.{counted};
+    ghost use Rattle.ndc_state.specs.Lending.{LendsTracked};
     ghost use Rattle.ndc_state.specs.Pendings.{pending_of};
     ghost use Rattle.ndc_state.specs.Replay.{replay, allowed_count, collected, CountsWithin};
     ghost use Rattle.ndc_state.specs.Table.{applied};
@@ -73,6 +75,17 @@ impl State {
         ensures most_steps { CountsWithin steps.old (allowed_count self.old events.now) steps.new }
     {
         self.tracked.step_all(events, steps)
+    }
+
+    /// The state with a mark at what it is now, to change it and to go back. When the loan ends, the state stays as
+    /// it was left. Takes no memory.
+    pub fn mark(&mut self) -> &mut Tracked
+        ensures* writes_back { sem 𝓛 (LendsTracked self.entry result) }
+        ensures current { result.now.current ≡ self.old }
+        ensures marked { result.now.marked ≡ self.old }
+    {
+        self.tracked.mark();
+        &mut self.tracked
     }
 
     /// The run.
@@ -185,7 +198,7 @@ impl State {
         ensures { IfOk result (λ copy. copy ≡ record self.now { origins = [] }) }
     {
         Ok(State {
-            tracked: self.tracked.try_copy_without_origins()?,
+            tracked: self.tracked.without_origins()?,
         })
     }
 
@@ -204,5 +217,25 @@ impl State {
         ensures { IfOk result (λ text. text.items ≡ state_text self.now) }
     {
         state_text(self.tracked.allocator(), &self.tracked)
+    }
+}
+
+impl Tracked {
+    ghost use Rattle.std.specs.Prelude.{◌≡◌, [], IfOk};
+
+    /// The id of the event that comes next.
+    pub fn next(&self) -> u64
+        ensures { result ≡ self.now.current.next }
+    {
+        self.outline.next
+    }
+
+    /// The state as it is now but for its origins, as [`State::try_copy_without_origins`] gives it.
+    pub fn try_copy_without_origins(&self) -> Result<State, AllocError>
+        ensures { IfOk result (λ copy. copy ≡ record self.now.current { origins = [] }) }
+    {
+        Ok(State {
+            tracked: self.without_origins()?,
+        })
     }
 }

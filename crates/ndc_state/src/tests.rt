@@ -386,6 +386,40 @@ fn a_list_that_is_refused_is_taken_back(rt: HostRuntime) -> Result<(), Fail> {
     Ok(())
 }
 
+// A state shown twice: with the tail behind a mark, as it is copied from there, and gone back to the mark.
+fn marked(alloc: Global, words: &str, tail: &str) -> Result<Vec<Vec<u8>>, AllocError> {
+    let mut shown = Vec::new(alloc);
+    let Some(mut state) = state_of(alloc, words)? else {
+        return Ok(shown);
+    };
+    let behind = events(alloc, tail)?;
+    let mut steps: Steps<Test> = Steps::new();
+    let marked = state.mark();
+    if marked.apply_all(behind.as_slice(), &mut steps).is_err() {
+        return Ok(shown);
+    }
+    shown.push(marked.try_copy_without_origins()?.text()?)?;
+    marked.revert();
+    shown.push(state.text()?)?;
+    Ok(shown)
+}
+
+#[test]
+fn a_state_goes_back_to_its_mark(rt: HostRuntime) -> Result<(), Fail> {
+    let words = "start signal act:a act:b act:c actstart:b timer:t child:u childstart:u";
+    let tail = "10:copy50 cancel actstart:a actdone:b fire:t childdone:u wake";
+    let shown = marked(rt.alloc(), words, tail)?;
+    let texts = [
+        "next=17 decision=16 activities=3+12,5 timers=- children=- signals=0 cancel=yes",
+        "next=10 decision=- activities=3,4+6,5 timers=7 children=8+9 signals=1 cancel=no",
+    ];
+    assert_eq!(rt; shown.len(), texts.len());
+    for place in 0..texts.len() {
+        assert_eq!(rt; shown[place].as_slice(), texts[place].as_bytes());
+    }
+    Ok(())
+}
+
 // The numbers that a state tells: run, next id, version, signals, and those of what is pending as `a`, `t` and `u`.
 fn told(alloc: Global, words: &str) -> Result<String, AllocError> {
     let Some(state) = state_of(alloc, words)? else {

@@ -22,10 +22,13 @@ pub(crate) struct Outline {
     pub(crate) cancel: bool,
 }
 
-/// A state that can go back to how it was at the last mark. A mark and the way back take time of the events
-/// in between alone.
+/// A state that can go back to how it was at the last mark, as [`State::mark`] lends it. It is seen as both: the
+/// state now, and the one at the mark. A mark and the way back take no memory, and time of the events in
+/// between alone.
+///
+/// [`State::mark`]: crate::State::mark
 #[derive(Drop)]
-pub(crate) struct Tracked {
+pub struct Tracked {
     pub(crate) outline: Outline,
     marked: Outline,
     pub(crate) activities: Pendings,
@@ -158,7 +161,7 @@ impl Tracked {
     }
 
     /// Goes back to the mark.
-    pub(crate) fn revert(&mut self)
+    pub fn revert(&mut self)
         ensures current { self.new.current ≡ self.old.marked }
         ensures marked { self.new.marked ≡ self.old.marked }
     {
@@ -388,6 +391,28 @@ impl Tracked {
         Ok(())
     }
 
+    /// Applies the events in order, in time of these events and of what is pending at a removal, and the mark
+    /// stays. Refused with [`StateError::Invalid`] for the first event that is forbidden; the state is then the
+    /// marked one, as for want of memory, and the steps of the events before it stay counted.
+    pub fn apply_all<L>(&mut self, events: &[Event], steps: &mut Steps<L>) -> Result<(), StateError>
+        requires { All (λ event. event.id ≤ 10 ^ 12) events.now }
+        ensures answer { Gives Memory (λ _. self.new.current) result (replay self.old.current events.now) }
+        ensures marked { self.new.marked ≡ self.old.marked }
+        ensures err { OnErr result (self.new.current ≡ self.old.marked) }
+        ensures ok_steps { OnOk result (steps.new ≡ counted steps.old (length events.now)) }
+        ensures steps { result ≢ Err Memory → steps.new ≡ counted steps.old (allowed_count self.old.current events.now) }
+        ensures most_steps { CountsWithin steps.old (allowed_count self.old.current events.now) steps.new }
+    {
+        for event in events {
+            if let Err(error) = self.step(event) {
+                self.revert();
+                return Err(error);
+            }
+            steps.count();
+        }
+        Ok(())
+    }
+
     /// Applies the events in order, a step each, or goes back to where it was.
     pub(crate) fn step_all<L>(
         &mut self,
@@ -402,13 +427,7 @@ impl Tracked {
         ensures most_steps { CountsWithin steps.old (allowed_count self.old.current events.now) steps.new }
     {
         self.mark();
-        for event in events {
-            if let Err(error) = self.step(event) {
-                self.revert();
-                return Err(error);
-            }
-            steps.count();
-        }
+        self.apply_all(events, steps)?;
         self.mark();
         Ok(())
     }
@@ -443,7 +462,7 @@ impl Tracked {
     }
 
     /// The same state without its origins.
-    pub(crate) fn try_copy_without_origins(&self) -> Result<Tracked, AllocError>
+    pub(crate) fn without_origins(&self) -> Result<Tracked, AllocError>
         ensures { IfOk result (λ copy. copy.current ≡ record self.now.current { origins = [] }) }
     {
         self.with_origins(Origins::new(self.allocator()))
