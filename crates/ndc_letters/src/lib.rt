@@ -2,5 +2,7 @@
 #![tactic(auto)]
 
 mod letter;
+mod letters;
 
 pub use letter::{Bytes, Letter};
+pub use letters::{Letters, Taken};
