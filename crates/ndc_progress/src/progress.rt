@@ -89,6 +89,7 @@ fn put_all(reports: &mut IndexMap<ActivityRef, Report>, taken: Vec<(ActivityRef,
 
 impl Progress {
     ghost use Rattle.std.specs.Prelude.{◌≡◌, ◌≤◌, ◌<◌, ◌^◌, [], option_copied, IfOk, IfSome, OnOk, OnErr};
+    ghost use Rattle.ndc_progress.specs.Keyed.{AreOnce};
     ghost use Rattle.ndc_progress.specs.Reports.{held, next_beat, next_report, with_report, merged, merge_count};
 
     /// Nothing was told.
@@ -102,7 +103,8 @@ impl Progress {
 
     /// The report that is held of an activity; none exactly where none of it was told. Takes no memory.
     pub fn find(&self, activity: &ActivityRef) -> Option<&Report>
-        ensures { option_copied result ≡ held activity.now self.now }
+        ensures found { option_copied result ≡ held activity.now self.now }
+        ensures once { AreOnce self.now }
     {
         self.reports.get(activity)
     }
