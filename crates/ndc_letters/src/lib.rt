@@ -3,6 +3,8 @@
 
 mod letter;
 mod letters;
+#[cfg(test)]
+mod tests;
 
 pub use letter::{Bytes, Letter};
 pub use letters::{Letters, Taken};

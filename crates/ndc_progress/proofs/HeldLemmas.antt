@@ -37,8 +37,13 @@ same_is_one one two h =
 -- an activity is the same as itself
 pub self_same : (one : ActivityRef) → same_activity one one ≡ true
 self_same one =
-    rw ((bytes_eq-Decides one.domain one.domain).1 refl, (bytes_eq-Decides one.workflow one.workflow).1 refl, eq-eqb one.run.value one.run.value refl,
-        eq-eqb one.scheduled one.scheduled refl, eq-eqb one.version one.version refl) refl
+    rw (
+      (bytes_eq-Decides one.domain one.domain).1 refl,
+      (bytes_eq-Decides one.workflow one.workflow).1 refl,
+      eq-eqb one.run.value one.run.value refl,
+      eq-eqb one.scheduled one.scheduled refl,
+      eq-eqb one.version one.version refl,
+    ) refl
 
 -- sameness goes both ways
 pub other_flip : (one two : ActivityRef) → same_activity one two ≡ false → same_activity two one ≡ false

@@ -60,13 +60,13 @@ put_merges es (r ∷ rs) h o =
   where
     by : (t : Bool) → replaces (held r.activity (values_of es)) (Some r) ≡ t
         → values_of (insert_all same_activity (insert_entry same_activity es r.activity r) (keyed (news (values_of (insert_entry same_activity es r.activity r)) rs)))
-            ≡ merged (values_of (insert_entry same_activity es r.activity r)) rs
+        ≡ merged (values_of (insert_entry same_activity es r.activity r)) rs
         → values_of (insert_all same_activity es (keyed (news (values_of es) rs))) ≡ merged (values_of es) rs
         → values_of (insert_all same_activity es (keyed (news (values_of es) (r ∷ rs)))) ≡ merged (values_of es) (r ∷ rs)
     by true p put same =
         let stay = news_stay es r rs h (none_of r.activity rs o.0) in
         rw p (subst (λ list. values_of (insert_all same_activity (insert_entry same_activity es r.activity r) (keyed list)) ≡ merged (values_of (insert_entry same_activity es r.activity r)) rs) stay put
-            ∙ ap (λ own. merged own rs) (put_joins es r h p))
+        ∙ ap (λ own. merged own rs) (put_joins es r h p))
     by false p put same = rw p (same ∙ ap (λ own. merged own rs) (sym (no_news (values_of es) r (once es h) p)))
 
 -- a map of reports stays one where reports are put
@@ -107,7 +107,7 @@ count_news own others (r ∷ rs) h =
   where
     by : (t : Bool) → count_by (λ activity. replaces (held activity own) (held activity others)) (map (λ r. r.activity) rs) ≡ length (keyed (news own rs))
         → (if t then 1 else 0) + count_by (λ activity. replaces (held activity own) (held activity others)) (map (λ r. r.activity) rs)
-            ≡ length (keyed (cond t (r ∷ news own rs) (news own rs)))
+        ≡ length (keyed (cond t (r ∷ news own rs) (news own rs)))
     by true more = omega (arith, more)
     by false more = omega (arith, more)
 

@@ -89,6 +89,7 @@ held_with a (f ∷ list) r h = by (same_activity r.activity f.activity) refl (he
         of false q false p =
             let also : same_activity a r.activity ≡ false = subst (λ k. same_activity a k ≡ false) (sym same) q in
             rw (q, also) (sym (joined-none (held a list)))
+
     -- where it is not
     there : same_activity r.activity f.activity ≡ false → held a (with_report list r) ≡ joined (held a list) (own a r)
         → (s : Bool) → same_activity a f.activity ≡ s → held a (f ∷ with_report list r) ≡ joined (held a (f ∷ list)) (own a r)
@@ -99,6 +100,7 @@ held_with a (f ∷ list) r h = by (same_activity r.activity f.activity) refl (he
         let still : held a (with_report list r) ≡ None = more ∙ (λ i. joined (none i) (cond (also i) (Some r) None)) in
         rw (q, also, none, still) refl
     there other more false q = rw q more
+
     by : (t : Bool) → same_activity r.activity f.activity ≡ t → held a (with_report list r) ≡ joined (held a list) (own a r)
         → held a (cond t (greater_report f (Some r) ∷ list) (f ∷ with_report list r)) ≡ joined (held a (f ∷ list)) (own a r)
     by true p more = here (same_is_one r.activity f.activity p) (report_lt f r) refl
@@ -112,6 +114,7 @@ with_once (f ∷ list) r h = by (same_activity r.activity f.activity) refl (with
     here : r.activity ≡ f.activity → (t : Bool) → AreOnce (cond t r f ∷ list)
     here same true = (subst (λ k. held k list ≡ None) (sym same) h.0, h.1)
     here same false = h
+
     by : (t : Bool) → same_activity r.activity f.activity ≡ t → AreOnce (with_report list r) → AreOnce (cond t (greater_report f (Some r) ∷ list) (f ∷ with_report list r))
     by true p more = here (same_is_one r.activity f.activity p) (report_lt f r)
     by false p more =
@@ -235,6 +238,7 @@ held-among P a (r ∷ rs) h = by (same_activity a r.activity) refl (held a rs) (
         choose : (t : Bool) → P (cond t other r) × (a ≡ (cond t other r).activity)
         choose true = more
         choose false = (h.0, same)
+
     by : (t : Bool) → same_activity a r.activity ≡ t → (found : Option Report) → IfSome found (λ r. P r × (a ≡ r.activity))
         → IfSome (cond t (Some (greater_report r found)) found) (λ r. P r × (a ≡ r.activity))
     by true p found more = of (same_is_one a r.activity p) found more
@@ -259,6 +263,7 @@ joined-flip a one two agree = by (held a one) (held-among (λ x. AllByRecursion 
         → joined (Some x) found ≡ joined found (Some x)
     other x agrees same None h = refl
     other x agrees same (Some y) h = ap Some (greater-flip x y (sym same ∙ h.1) h.0)
+
     by : (found : Option Report) → IfSome found (λ x. AllByRecursion (Agree x) two × (a ≡ x.activity)) → joined found (held a two) ≡ joined (held a two) found
     by None h = sym (joined-none (held a two))
     by (Some x) h = other x h.0 h.1 (held a two) (held-among (Agree x) a two h.0)

@@ -13,7 +13,7 @@ loop-report-preserved-in_ok-push c =
     let told = c.in-Some.report.now in
     let found = c.get.ensures.value ∙ lookup_held told.activity c.args.own.now.entries c.requires in
     let greater : replaces (held told.activity own) (Some told) ≡ true =
-        ap (λ o. replaces o (Some told)) (sym found) ∙ sym c.is_greater.ensures ∙ c.if-is_greater.true in
+    ap (λ o. replaces o (Some told)) (sym found) ∙ sym c.is_greater.ensures ∙ c.if-is_greater.true in
     c.in_ok-push.ensures.items ∙ ap (λ list. list ++ (c.in_ok-try_copy.field-0, c.in_ok-try_copy-2.field-0) ∷ []) c.loop-report.invariant
     ∙ (λ i. keyed (news own (map (λ report. report.now) c.loop-report.yielded)) ++ (c.in_ok-try_copy.ensures i, c.in_ok-try_copy-2.ensures i) ∷ [])
     ∙ sym (news_more own (map (λ report. report.now) c.loop-report.yielded) told greater)
@@ -25,6 +25,6 @@ loop-report-preserved c =
     let told = c.in-Some.report.now in
     let found = c.get.ensures.value ∙ lookup_held told.activity c.args.own.now.entries c.requires in
     let lesser : replaces (held told.activity own) (Some told) ≡ false =
-        ap (λ o. replaces o (Some told)) (sym found) ∙ sym c.is_greater.ensures ∙ c.if-is_greater.false in
+    ap (λ o. replaces o (Some told)) (sym found) ∙ sym c.is_greater.ensures ∙ c.if-is_greater.false in
     c.loop-report.invariant ∙ sym (news_same own (map (λ report. report.now) c.loop-report.yielded) told lesser)
     ∙ ap (λ list. keyed (news own list)) (sym (map-append (λ report. report.now) c.loop-report.yielded (c.in-Some.report ∷ [])))

@@ -34,8 +34,8 @@ returns-clause-told c =
     let told : Report = record { activity = c.args.activity; version = c.args.version; beat = c.beat_behind-beat.result; details = c.args.details } in
     let put = c.in_ok-insert.ensures.entries ∙ ap (λ key. insert_entry same_activity c.self.inside.reports.entries key told) c.in_ok-key.ensures in
     let greater : replaces (held c.args.activity c.args.self.now) (Some told) ≡ true =
-        subst (λ beat. replaces (held c.args.activity c.args.self.now) (Some (record { activity = c.args.activity; version = c.args.version; beat = beat; details = c.args.details })) ≡ true)
-        (sym (returns-clause-beat c)) (next_replaces c.args.version c.args.activity c.args.details (held c.args.activity c.args.self.now) c.requires) in
+    subst (λ beat. replaces (held c.args.activity c.args.self.now) (Some (record { activity = c.args.activity; version = c.args.version; beat = beat; details = c.args.details })) ≡ true)
+    (sym (returns-clause-beat c)) (next_replaces c.args.version c.args.activity c.args.details (held c.args.activity c.args.self.now) c.requires) in
     let replacing = subst (λ own. replaces (held c.args.activity own) (Some told) ≡ true) (sym c.self.view_is) greater in
     ap values_of put ∙ put_joins c.self.inside.reports.entries told c.self.invariant replacing ∙ ap (λ own. with_report own told) c.self.view_is
     ∙ ap (λ beat. with_report c.args.self.now (record { activity = c.args.activity; version = c.args.version; beat = beat; details = c.args.details })) (returns-clause-beat c)
