@@ -41,17 +41,23 @@ fn take_out(entries: &mut Vec<Message>, count: usize)
     entries.truncate(left);
 }
 
-/// Copies of the first entries, at most so many.
-fn copies(alloc: Global, entries: &[Message], count: u64) -> Result<Vec<Message>, AllocError>
-    ensures { IfOk result (λ list. list.items ≡ take count entries.now) }
+/// The first entries, at most so many.
+fn front(entries: &[Message], count: u64) -> &[Message]
+    ensures { result.now ≡ take count entries.now }
 {
-    let mut list = Vec::new(alloc);
-    let mut left = count;
+    if count < entries.len() as u64 {
+        &entries[..count as usize]
+    } else {
+        entries
+    }
+}
+
+/// Copies of the entries.
+fn copies(alloc: Global, entries: &[Message]) -> Result<Vec<Message>, AllocError>
+    ensures { IfOk result (λ list. list.items ≡ entries.now) }
+{
+    let mut list = Vec::with_capacity(alloc, entries.len())?;
     for entry in entries {
-        if left == 0 {
-            return Ok(list);
-        }
-        left -= 1;
         list.push(entry.try_copy()?)?;
     }
     Ok(list)
@@ -95,7 +101,7 @@ impl Queue {
     {
         let entries = &self.entries.as_slice()[self.idle..];
         let entries = &entries[(level - self.first) as usize..];
-        copies(*self.entries.allocator(), entries, count)
+        copies(*self.entries.allocator(), front(entries, count))
     }
 
     /// Drops all entries below a level, which is not above `len`. Takes no memory, and moves an entry at most as often
