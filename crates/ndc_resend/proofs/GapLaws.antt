@@ -13,7 +13,7 @@ use Rattle.ndc_state.specs.Replay.{history_of}
 use Rattle.ndc_sets.proofs.GapLaws.{gap_names_the_last_learned}
 
 -- the gap between two ends
-between : Item → Item → Gap
+abbrev between : Item → Item → Gap
 between after before = record { after = after; before = before }
 
 -- a gap begins behind the last event of what is learned of the path

@@ -5,4 +5,4 @@ mod gap;
 mod laws;
 
 pub use gap::{Gap, serve};
-pub use laws::a_gap_begins_behind_the_last_learned_ancestor;
+pub use laws::{a_gap_begins_behind_the_last_learned_ancestor, what_lies_between_is_served};
