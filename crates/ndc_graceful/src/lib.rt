@@ -2,5 +2,7 @@
 #![tactic(auto)]
 
 mod handover;
+#[cfg(test)]
+mod tests;
 
 pub use handover::{BeginError, Handover, Places, ReadyError};

@@ -2,5 +2,9 @@
 #![tactic(auto)]
 
 mod letter;
+mod letters;
+#[cfg(test)]
+mod tests;
 
 pub use letter::{Bytes, Letter};
+pub use letters::{Letters, Taken};

@@ -1,6 +1,6 @@
 -- Reports of the progress of activities: which one is held of an activity, the next beat, and what a merge changes.
 use Rattle.std.specs.Prelude.{ℕ, ◌+◌, Bool, true, false, ◌&&◌, ◌||◌, ◌==◌, not, nat_lt, List, [], ◌∷◌, count_by, Option, Some, None, if◌then◌else◌}
-use Rattle.std.specs.List.{filter}
+use Rattle.std.specs.List.{filter, fold}
 use Rattle.std.specs.Str.{bytes_eq}
 use Rattle.ndc_event.specs.declared.name.Name.{Name}
 use Rattle.ndc_progress.specs.declared.report.ActivityRef.{ActivityRef}
@@ -40,6 +40,20 @@ stale_by version (Some report) = if nat_lt version report.version then Some repo
 abbrev pub next_report : ActivityRef → ℕ → Name → List Report → Report
 next_report activity version details reports =
     record { activity = activity; version = version; beat = next_beat version (held activity reports); details = details }
+
+-- a report joins those that are held: it takes the place of the one of its activity, where it is greater; where there is none, it goes last
+abbrev pub with_report : List Report → Report → List Report
+with_report [] report = report ∷ []
+with_report (first ∷ kept) report =
+    if same_activity report.activity first.activity then greater_report first (Some report) ∷ kept else first ∷ with_report kept report
+
+-- what is held where other reports are taken over, in order
+abbrev pub merged : List Report → List Report → List Report
+merged own others = fold with_report own others
+
+-- the greatest report of each activity, in the order in which the activities come first
+abbrev pub greatest_of : List Report → List Report
+greatest_of reports = merged [] reports
 
 -- the activities of reports, each once
 abbrev pub activities_of : List Report → List ActivityRef

@@ -1,6 +1,15 @@
 //! Progress of activities, told beside the histories.
 #![tactic(auto)]
 
+mod laws;
+mod progress;
 mod report;
+#[cfg(test)]
+mod tests;
 
+pub use laws::{
+    merging_twice_is_merging_once, the_greatest_reports_are_held,
+    the_order_of_merges_does_not_matter,
+};
+pub use progress::Progress;
 pub use report::{ActivityRef, Report};

@@ -2,7 +2,7 @@ use ndc_event::{Name, RunId};
 use std::alloc::AllocError;
 
 /// An activity, by the event that scheduled it.
-#[derive(Debug, Drop)]
+#[derive(Debug, Drop, PartialEq, Eq, Hash)]
 pub struct ActivityRef {
     pub domain: Name,
     pub workflow: Name,

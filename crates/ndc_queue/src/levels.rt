@@ -23,13 +23,29 @@ impl Model for Levels {
 }
 
 impl Levels {
-    ghost use Rattle.std.specs.Prelude.{◌≡◌};
-    ghost use Rattle.ndc_queue.specs.Levels.{new_levels};
+    ghost use Rattle.std.specs.Prelude.{◌≡◌, ◌≤◌};
+    ghost use Rattle.ndc_queue.specs.Levels.{advanced, new_levels, rewound};
 
     /// The levels before anything was read.
     pub fn new() -> Levels
         ensures { result ≡ new_levels }
     {
         Levels { read: 0, done: 0 }
+    }
+
+    /// Raises `done` to a level, and `read` where it would be below. The level is not below `done`. Takes no memory.
+    pub fn advance(&mut self, done: u64)
+        requires { self.old.done ≤ done }
+        ensures { self.new ≡ advanced done self.old }
+    {
+        self.read = self.read.max(done);
+        self.done = done;
+    }
+
+    /// What was read and is not done is to be read again. Takes no memory.
+    pub fn rewind(&mut self)
+        ensures { self.new ≡ rewound self.old }
+    {
+        self.read = self.done;
     }
 }

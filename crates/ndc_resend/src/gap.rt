@@ -1,4 +1,10 @@
-use ndc_history::Item;
+ghost use Rattle.std.specs.Prelude.{◌≡◌, IfOk};
+ghost use Rattle.ndc_resend.specs.Gaps.{is_between, served};
+ghost use Rattle.ndc_sets.specs.Paths.{first_id, last_id};
+
+use ndc_event::{Batch, Event};
+use ndc_history::{Item, VersionHistory, best_common};
+use std::alloc::{AllocError, Global};
 
 /// A gap in a run: what comes after one event and before another one, each by its id and version.
 #[derive(Clone, Copy, Debug, PartialEq, Eq)]
@@ -7,4 +13,66 @@ pub struct Gap {
     pub after: Item,
     /// The first event behind the gap.
     pub before: Item,
+}
+
+impl Gap {
+    ghost use Rattle.std.specs.Prelude.{◌≡◌};
+    ghost use Rattle.ndc_resend.specs.Gaps.{gap_of};
+
+    /// The gap before an event: behind the item with the greatest id that one of the local histories has in common
+    /// with the remote one; behind id 0 and version 0 where none has an item in common. Takes no memory.
+    pub fn of(local: &[VersionHistory], remote: &VersionHistory, first: Item) -> Gap
+        ensures { result ≡ gap_of local.now remote.now first }
+    {
+        let after = match best_common(local, remote) {
+            Some((_, item)) => item,
+            None => Item { id: 0, version: 0 },
+        };
+        Gap {
+            after,
+            before: first,
+        }
+    }
+}
+
+/// The id of the first event, 0 where there is none.
+fn first_id(events: &[Event]) -> u64
+    ensures { result ≡ first_id events.now }
+{
+    match events.first() {
+        Some(event) => event.id,
+        None => 0,
+    }
+}
+
+/// The id of the last event, 0 where there is none.
+fn last_id(events: &[Event]) -> u64
+    ensures { result ≡ last_id events.now }
+{
+    match events.last() {
+        Some(event) => event.id,
+        None => 0,
+    }
+}
+
+/// Whether all events of the batch come behind the one end of the gap and before the other.
+fn is_between(gap: &Gap, batch: &Batch) -> bool
+    ensures { result ≡ is_between gap.now batch.now }
+{
+    gap.after.id < first_id(batch.events.as_slice())
+        && last_id(batch.events.as_slice()) < gap.before.id
+}
+
+/// Copies of the batches of a path that lie in the gap, in order: those whose first id is above that of the one end,
+/// and whose last id is below that of the other.
+pub fn serve(alloc: Global, path: &[Batch], gap: &Gap) -> Result<Vec<Batch>, AllocError>
+    ensures { IfOk result (λ list. list.items ≡ served gap.now path.now) }
+{
+    let mut list = Vec::new(alloc);
+    for batch in path {
+        if is_between(gap, batch) {
+            list.push(batch.try_copy()?)?;
+        }
+    }
+    Ok(list)
 }

@@ -1,0 +1,145 @@
+ghost use Rattle.std.specs.Prelude.{◌≡◌, ◌≤◌, drop, length, take, IfOk};
+
+use ndc_cells::Message;
+use std::alloc::{AllocError, Global};
+use std::marker::Model;
+
+/// How many entries a queue may have, with those that were dropped.
+pub const MAX_ENTRIES: u64 = 1_000_000_000_000;
+
+/// The messages that a cell has written, in order. The first ones may have been dropped. Seen as how many these are,
+/// and the list of the others.
+#[derive(Debug, Drop)]
+pub struct Queue {
+    /// The kept entries, behind dropped ones that have not been taken out yet.
+    entries: Vec<Message>,
+    /// How many of `entries` are dropped ones: at most half of them.
+    idle: usize,
+    /// How many entries were dropped in all.
+    first: u64,
+}
+
+impl Model for Queue {
+    ghost use Rattle.std.specs.Prelude.{◌≤◌, ◌+◌, ◌*◌, ◌^◌, drop, length};
+    ghost use Rattle.ndc_queue.specs.Queues.{QueueValue};
+
+    ghost Value = { QueueValue };
+
+    ghost view = { λ queue. record { first = queue.first; kept = drop queue.idle queue.entries.items } };
+
+    ghost invariant = { λ queue. (2 * queue.idle ≤ length queue.entries.items)
+        × (queue.first + length (drop queue.idle queue.entries.items) ≤ 10 ^ 12) };
+}
+
+/// Takes the first entries out.
+fn take_out(entries: &mut Vec<Message>, count: usize)
+    requires { count ≤ length entries.old.items }
+    ensures { entries.new.items ≡ drop count entries.old.items }
+{
+    let left = entries.len() - count;
+    entries.rotate_left(count);
+    entries.truncate(left);
+}
+
+/// The first entries, at most so many.
+fn front(entries: &[Message], count: u64) -> &[Message]
+    ensures { result.now ≡ take count entries.now }
+{
+    if count < entries.len() as u64 {
+        &entries[..count as usize]
+    } else {
+        entries
+    }
+}
+
+/// Copies of the entries.
+fn copies(alloc: Global, entries: &[Message]) -> Result<Vec<Message>, AllocError>
+    ensures { IfOk result (λ list. list.items ≡ entries.now) }
+{
+    let mut list = Vec::with_capacity(alloc, entries.len())?;
+    for entry in entries {
+        list.push(entry.try_copy()?)?;
+    }
+    Ok(list)
+}
+
+impl Queue {
+    ghost use Rattle.std.specs.Prelude.{◌≡◌, ◌≤◌, ◌^◌, Err, IfOk, OnErr, OnOk, take};
+    ghost use Rattle.ndc_queue.specs.Lists.{kept_from};
+    ghost use Rattle.ndc_queue.specs.Queues.{new_queue, pushed, queue_len, trimmed};
+
+    /// The queue without an entry. Takes no memory.
+    pub fn new(alloc: Global) -> Queue
+        ensures { result ≡ new_queue }
+    {
+        Queue {
+            entries: Vec::new(alloc),
+            idle: 0,
+            first: 0,
+        }
+    }
+
+    /// Puts an entry last. Where memory runs out, the queue stays as it was; a queue of [`MAX_ENTRIES`] entries
+    /// answers so too.
+    pub fn push(&mut self, message: Message) -> Result<(), AllocError>
+        ensures pushed { OnOk result (self.new ≡ pushed message self.old) }
+        ensures unchanged { OnErr result (self.new ≡ self.old) }
+    {
+        let kept = (self.entries.len() - self.idle) as u64;
+        if MAX_ENTRIES - self.first <= kept {
+            return Err(AllocError);
+        }
+        self.entries.push(message)?;
+        Ok(())
+    }
+
+    /// Copies of the entries from a level on, at most so many. The level is not below `first` and not above `len`.
+    pub fn after(&self, level: u64, count: u64) -> Result<Vec<Message>, AllocError>
+        requires least { self.now.first ≤ level }
+        requires most { level ≤ queue_len self.now }
+        ensures { IfOk result (λ list. list.items ≡ take count (kept_from self.now.first level self.now.kept)) }
+    {
+        let entries = &self.entries.as_slice()[self.idle..];
+        let entries = &entries[(level - self.first) as usize..];
+        copies(*self.entries.allocator(), front(entries, count))
+    }
+
+    /// Drops all entries below a level, which is not above `len`. Takes no memory, and moves an entry at most as often
+    /// as entries before it were dropped.
+    pub fn trim(&mut self, level: u64)
+        requires { level ≤ queue_len self.old }
+        ensures { self.new ≡ trimmed level self.old }
+    {
+        if level <= self.first {
+            return;
+        }
+        self.idle += (level - self.first) as usize;
+        self.first = level;
+        if self.entries.len() / 2 < self.idle {
+            take_out(&mut self.entries, self.idle);
+            self.idle = 0;
+        }
+    }
+
+    /// How many entries were dropped. Takes no memory.
+    pub fn first(&self) -> u64
+        ensures { result ≡ self.now.first }
+    {
+        self.first
+    }
+
+    /// How many entries there are, with those that were dropped. Takes no memory.
+    pub fn len(&self) -> u64
+        ensures len { result ≡ queue_len self.now }
+        ensures most { result ≤ 10 ^ 12 }
+    {
+        self.first + (self.entries.len() - self.idle) as u64
+    }
+
+    /// The entries that are kept, in order. Takes no memory.
+    pub fn kept(&self) -> &[Message]
+        ensures { result.now ≡ self.now.kept }
+    {
+        &self.entries.as_slice()[self.idle..]
+    }
+}

@@ -1,0 +1,179 @@
+-- What is served lies between the ends of the gap.
+use Rattle.std.proofs.Common.{◌≡◌, ℕ, zero, suc, ◌+◌, ◌-◌, ◌<◌, ◌≤◌, Bool, true, false, cond, List, [], ◌∷◌, ◌++◌, length, slice_get, nat_lt, ◌&&◌, ◌==◌, Option, Some, None, refl, sym, ap, subst, ◌∙◌, arith}
+use Rattle.std.specs.List.{AllByRecursion, filter}
+use Rattle.std.proofs.lemmas.Bool.{eqb-true, le-ltb, lt-ltb}
+use Rattle.std.proofs.lemmas.List.Elements.{filter-append}
+use Rattle.ndc_event.specs.Batch.{fault_of, follow_from}
+use Rattle.ndc_event.specs.declared.batch.Batch.{Batch}
+use Rattle.ndc_event.specs.declared.batch.Event.{Event}
+use Rattle.ndc_event.specs.declared.key.BatchKey.{BatchKey}
+use Rattle.ndc_history.specs.declared.item.Item.{Item}
+use Rattle.ndc_resend.specs.Gaps.{is_between, item_or_zero, served}
+use Rattle.ndc_resend.specs.declared.gap.Gap.{Gap}
+use Rattle.ndc_sets.specs.Paths.{IsPath, first, below, first_id, last_from, last_id, last_item_of, path_to}
+use Rattle.ndc_sets.specs.Sets.{Has, batch_at}
+use Rattle.ndc_sets.specs.Sound.{IsSound}
+use Rattle.ndc_state.specs.Replay.{history_of}
+use Rattle.ndc_sets.proofs.FaultLemmas.{passes}
+use Rattle.ndc_sets.proofs.PathIds.{ends, ends-last, follow-front, follow-rest, history-append, path-events}
+use Rattle.ndc_sets.proofs.PathLemmas.{path_is}
+
+-- the last of events, by its place
+last-place : (e : Event) (es : List Event) → slice_get (e ∷ es) (length es) ≡ Some (last_from e es)
+last-place e [] = refl
+last-place e (f ∷ fs) = last-place f fs
+
+-- the id of the event at the last place
+pub last_id_is : (events : List Event) (e : Event) → slice_get events (length events - 1) ≡ Some e → last_id events ≡ e.id
+last_id_is [] e h = absurd (cc)
+last_id_is (f ∷ fs) e h =
+    let place : length (f ∷ fs) - 1 ≡ length fs = omega arith in
+    let same : Some (last_from f fs) ≡ Some e = sym (last-place f fs) ∙ sym (ap (slice_get (f ∷ fs)) place) ∙ h in
+    let one : last_from f fs ≡ e = cc in
+    ap (λ event. event.id) one
+
+-- a batch has an event
+pub record HasEvents (b : Batch) : Type 0 where
+  pub event : Event
+  pub events : List Event
+  pub are : b.events ≡ event ∷ events
+
+-- what follows two tests that hold together
+both-parts : (one two : Bool) → (one && two) ≡ true → (one ≡ true) × (two ≡ true)
+both-parts true two h = (refl, h)
+both-parts false two h = absurd (cc)
+
+-- where events end that follow an id
+ends-least : (n : ℕ) (events : List Event) → follow_from n events ≡ true → n ≤ ends n events
+ends-least n [] h = omega arith
+ends-least n (e ∷ es) h =
+    let p = both-parts (e.id == n + 1) (follow_from e.id es) h in
+    let next : e.id ≡ n + 1 = eqb-true e.id (n + 1) p.0 in
+    let more = ends-least e.id es p.1 in
+    omega (arith, next, more)
+
+-- events that end behind others
+ends-append : (n : ℕ) (front rest : List Event) → ends n (front ++ rest) ≡ ends (ends n front) rest
+ends-append n [] rest = refl
+ends-append n (e ∷ es) rest = ends-append e.id es rest
+
+-- what is known of a batch whose events follow an id
+record Follows (n : ℕ) (b : Batch) : Type 0 where
+  pub first : first_id b.events ≡ n + 1
+  pub last : last_id b.events ≡ ends n b.events
+  pub least : first_id b.events ≤ last_id b.events
+
+follows : (n : ℕ) (b : Batch) → HasEvents b → follow_from n b.events ≡ true → Follows n b
+follows n b has h = by b.events has.are h
+  where
+    by : (events : List Event) → events ≡ has.event ∷ has.events → follow_from n events ≡ true
+        → Follows n (record b { events = events })
+    by [] e h = absurd (cc)
+    by (x ∷ xs) e h =
+        let p = both-parts (x.id == n + 1) (follow_from x.id xs) h in
+        let least = ends-least x.id xs p.1 in
+        let end : ends n (x ∷ xs) ≡ (last_from x xs).id = ends-last n x xs in
+        record { first = eqb-true x.id (n + 1) p.0; last = sym end; least = omega (arith, least, end) }
+
+-- the events of the first batch and of the rest
+pub record Parts (n : ℕ) (b : Batch) (rest : List Batch) : Type 0 where
+  pub here : follow_from n b.events ≡ true
+  pub there : follow_from (ends n b.events) (history_of rest) ≡ true
+
+parts : (n : ℕ) (b : Batch) (rest : List Batch) → follow_from n (history_of (b ∷ rest)) ≡ true → Parts n b rest
+parts n b rest h = record { here = follow-front n b.events (history_of rest) h; there = follow-rest n b.events (history_of rest) h }
+
+-- nothing is served of what comes before the gap
+none-before : (gap : Gap) (n : ℕ) (front : List Batch) → AllByRecursion HasEvents front → follow_from n (history_of front) ≡ true
+    → ends n (history_of front) ≤ gap.after.id → served gap front ≡ []
+none-before gap n [] has h most = refl
+none-before gap n (c ∷ front) has h most =
+    let p = parts n c front h in
+    let f = follows n c has.0 p.here in
+    let further = ends-least (ends n c.events) (history_of front) p.there in
+    let whole : ends n (c.events ++ history_of front) ≡ ends (ends n c.events) (history_of front) = ends-append n c.events (history_of front) in
+    let below_it : first_id c.events ≤ gap.after.id = omega (arith, f.least, f.last, further, whole, most) in
+    let rest : ends (ends n c.events) (history_of front) ≤ gap.after.id = omega (arith, whole, most) in
+    rw (le-ltb gap.after.id (first_id c.events) below_it) (none-before gap (ends n c.events) front has.1 p.there rest)
+
+-- the batch behind others begins behind the id that they follow
+begins-behind : (n : ℕ) (middle : List Batch) (b : Batch) → AllByRecursion HasEvents (middle ++ b ∷ []) → follow_from n (history_of (middle ++ b ∷ [])) ≡ true
+    → n < first_id b.events
+begins-behind n [] b has h =
+    let p = parts n b [] h in
+    let f = follows n b has.0 p.here in
+    omega (arith, f.first)
+begins-behind n (c ∷ middle) b has h =
+    let p = parts n c (middle ++ b ∷ []) h in
+    let more = begins-behind (ends n c.events) middle b has.1 p.there in
+    let least = ends-least n c.events p.here in
+    omega (arith, more, least)
+
+-- all is served that comes between, and not the batch behind the gap
+all-between : (gap : Gap) (n : ℕ) (middle : List Batch) (b : Batch) → AllByRecursion HasEvents (middle ++ b ∷ []) → follow_from n (history_of (middle ++ b ∷ [])) ≡ true
+    → gap.after.id ≤ n → gap.before.id ≡ first_id b.events → served gap (middle ++ b ∷ []) ≡ middle
+all-between gap n [] b has h most end =
+    let p = parts n b [] h in
+    let f = follows n b has.0 p.here in
+    let later : gap.before.id ≤ last_id b.events = omega (arith, f.least, end) in
+    out (nat_lt gap.after.id (first_id b.events)) (le-ltb (last_id b.events) gap.before.id later)
+  where
+    out : (t : Bool) → nat_lt (last_id b.events) gap.before.id ≡ false → cond (t && nat_lt (last_id b.events) gap.before.id) (b ∷ []) [] ≡ []
+    out true e = rw e refl
+    out false e = refl
+all-between gap n (c ∷ middle) b has h most end =
+    let p = parts n c (middle ++ b ∷ []) h in
+    let f = follows n c has.0 p.here in
+    let least = ends-least n c.events p.here in
+    let behind = begins-behind (ends n c.events) middle b has.1 p.there in
+    let after_it : gap.after.id < first_id c.events = omega (arith, f.first, most) in
+    let before_it : last_id c.events < gap.before.id = omega (arith, f.last, behind, end) in
+    let still : gap.after.id ≤ ends n c.events = omega (arith, most, least) in
+    rw (lt-ltb gap.after.id (first_id c.events) after_it, lt-ltb (last_id c.events) gap.before.id before_it)
+    (ap (λ rest. c ∷ rest) (all-between gap (ends n c.events) middle b has.1 p.there still end))
+
+-- where the gap begins
+after-id : (events : List Event) → (item_or_zero (last_item_of events)).id ≡ ends 0 events
+after-id [] = refl
+after-id (e ∷ es) = sym (ends-last 0 e es)
+
+-- what holds of two lists holds of both behind each other
+all-append : (P : Batch → Type 0) (xs ys : List Batch) → AllByRecursion P xs → AllByRecursion P ys → AllByRecursion P (xs ++ ys)
+all-append P [] ys p q = q
+all-append P (x ∷ xs) ys p q = (p.0, all-append P xs ys p.1 q)
+
+-- what holds of a list holds of its two parts
+all-front : (P : Batch → Type 0) (xs ys : List Batch) → AllByRecursion P (xs ++ ys) → AllByRecursion P xs
+all-front P [] ys p = tt
+all-front P (x ∷ xs) ys p = (p.0, all-front P xs ys p.1)
+
+all-rest : (P : Batch → Type 0) (xs ys : List Batch) → AllByRecursion P (xs ++ ys) → AllByRecursion P ys
+all-rest P [] ys p = p
+all-rest P (x ∷ xs) ys p = all-rest P xs ys p.1
+
+-- a batch of a sound set has events
+events-of : (batches : List Batch) (b : Batch) → IsSound batches → Has batches b → HasEvents b
+events-of batches b sound has = let p = passes b (sound.faultless b has) in record { event = p.event; events = p.events; are = p.are }
+
+-- each batch of a path has events
+path-has_events : (batches : List Batch) (b : Batch) (path : List Batch) → IsSound batches → IsPath batches b path → AllByRecursion HasEvents path
+path-has_events batches _ _ sound (first b has none) = (events-of batches b sound has, tt)
+path-has_events batches _ _ sound (below b before key path has parent at more) =
+    all-append HasEvents path (b ∷ []) (path-has_events batches before path sound more) (events-of batches b sound has, tt)
+
+-- what is served is what lies between what is learned and the batch
+pub served_is_between : (batches : List Batch) (b : Batch) (front middle : List Batch) → IsSound batches → Has batches b
+    → path_to b.key batches ≡ front ++ (middle ++ b ∷ [])
+    → served (record { after = item_or_zero (last_item_of (history_of front)); before = record { id = first_id b.events; version = b.key.version } }) (path_to b.key batches) ≡ middle
+served_is_between batches b front middle sound has path =
+    let gap : Gap = record { after = item_or_zero (last_item_of (history_of front)); before = record { id = first_id b.events; version = b.key.version } } in
+    let is : IsPath batches b (front ++ (middle ++ b ∷ [])) = subst (IsPath batches b) path (path_is batches b sound.set sound.closed has) in
+    let events = path-has_events batches b (front ++ (middle ++ b ∷ [])) sound is in
+    let follow = subst (λ all. follow_from 0 all ≡ true) (history-append front (middle ++ b ∷ []))
+        (path-events batches b (front ++ (middle ++ b ∷ [])) sound.faultless sound.parents is).follow in
+    let start = after-id (history_of front) in
+    let none : served gap front ≡ [] = none-before gap 0 front (all-front HasEvents front (middle ++ b ∷ []) events)
+        (follow-front 0 (history_of front) (history_of (middle ++ b ∷ [])) follow) (omega (arith, start)) in
+    let all : served gap (middle ++ b ∷ []) ≡ middle = all-between gap (ends 0 (history_of front)) middle b (all-rest HasEvents front (middle ++ b ∷ []) events)
+        (follow-rest 0 (history_of front) (history_of (middle ++ b ∷ [])) follow) (omega (arith, start)) refl in
+    ap (served gap) path ∙ filter-append (is_between gap) front (middle ++ b ∷ []) ∙ (λ i. none i ++ all i)
