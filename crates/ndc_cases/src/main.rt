@@ -25,9 +25,10 @@ use crate::verdict::{Counts, Verdict, verdict_of};
 use std::{fs, io};
 
 /// The files of transcripts.
-const FILES: [&str; 4] = [
+const FILES: [&str; 5] = [
     "faults.cases",
     "first.cases",
+    "worked.cases",
     "printed.cases",
     "batches.cases",
 ];

@@ -6,6 +6,7 @@ use std::test::Fail;
 // A signal that was copied.
 const COPY: &str =
     "{\"domain\":\"alpha\",\"events\":[{\"eventId\":4,\"eventType\":\"WorkflowExecutionSignaled\",\"input\":\"x\",\"origin\":{\"event\":3,\"run\":\"00000000-0000-0001-0000-000000000001\",\"version\":1},\"signalName\":\"a1\",\"version\":2}],\"parent\":{\"task\":2,\"version\":2},\"run\":\"00000000-0000-0001-0000-000000000001\",\"task\":3,\"version\":2,\"workflow\":\"w1\"}";
+
 const RUN: RunId = RunId {
     value: 18446744073709551617,
 };
