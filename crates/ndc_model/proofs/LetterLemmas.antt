@@ -1,5 +1,5 @@
 -- A damaged message is read as what it was exactly where no byte is missing.
-use Rattle.std.proofs.Common.{◌≡◌, ℕ, ◌<◌, ◌≤◌, Bool, true, false, not, nat_lt, [], ◌++◌, length, take, drop, Result, Ok, Err, None, refl, ap, sym, ◌∙◌, arith, length-drop}
+use Rattle.std.proofs.Common.{◌≡◌, ℕ, ◌<◌, ◌≤◌, Bool, true, false, not, nat_lt, [], ◌++◌, length, take, drop, Result, Ok, Err, None, if◌then◌else◌, refl, ap, sym, ◌∙◌, arith, length-drop}
 use Rattle.std.proofs.lemmas.Bool.{and_from}
 use Rattle.std.proofs.lemmas.Bool.Decides.{nat_tests}
 use Rattle.std.proofs.lemmas.List.{take-append-drop, take_all}
@@ -14,7 +14,9 @@ use Rattle.ndc_text.specs.Text.{batch_text}
 use Rattle.ndc_text.specs.declared.error.TextError.{TextError}
 use Rattle.ndc_text.specs.declared.form.TextForm.TheVariants.{Two}
 use Rattle.ndc_cells.specs.Places.{is_at, place_of}
-use Rattle.ndc_letters.specs.Letters.{is_read_as}
+use Rattle.ndc_domain.specs.declared.clusters.ClusterNo.{ClusterNo}
+use Rattle.ndc_letters.specs.Letters.{is_whole, letter_of, taken_as, taken_of, was_whole}
+use Rattle.ndc_letters.specs.declared.letters.Taken.TheVariants.{Aside, Whole}
 
 -- a batch is at its place
 pub is_at-own : (b : Batch) → is_at (place_of b) b ≡ true
@@ -29,16 +31,25 @@ front-whole b c cut range read =
     let none : drop cut (batch_text b) ≡ [] = no_front c b (drop cut (batch_text b)) f.0 range whole in
     omega (arith, length-drop cut (batch_text b), ap length none)
 
-pub read_where_whole : (b : Batch) (cut : ℕ) → InRange b → fault_of b ≡ None → is_read_as (place_of b) (read_of Two (take cut (batch_text b))) ≡ not (nat_lt cut (length (batch_text b)))
-read_where_whole b cut range sound = by (nat_lt cut (length (batch_text b))) refl
+-- whether what was read of a batch's text is the batch
+abbrev reads : Batch → Result Batch TextError → Bool
+reads b r = was_whole (taken_as (place_of b) r)
+
+read-where-whole : (b : Batch) (cut : ℕ) → InRange b → fault_of b ≡ None → reads b (read_of Two (take cut (batch_text b))) ≡ not (nat_lt cut (length (batch_text b)))
+read-where-whole b cut range sound = by (nat_lt cut (length (batch_text b))) refl
   where
-    cut_off : (r : Result Batch TextError) → read_of Two (take cut (batch_text b)) ≡ r → cut < length (batch_text b) → is_read_as (place_of b) r ≡ false
+    cut_off : (r : Result Batch TextError) → read_of Two (take cut (batch_text b)) ≡ r → cut < length (batch_text b) → reads b r ≡ false
     cut_off (Ok c) read less = absurd (omega (arith, less, front-whole b c cut range read))
     cut_off (Err error) read less = refl
 
-    by : (t : Bool) → nat_lt cut (length (batch_text b)) ≡ t → is_read_as (place_of b) (read_of Two (take cut (batch_text b))) ≡ not t
+    by : (t : Bool) → nat_lt cut (length (batch_text b)) ≡ t → reads b (read_of Two (take cut (batch_text b))) ≡ not t
     by true e = let less : cut < length (batch_text b) = grind (arith, nat_tests) in cut_off (read_of Two (take cut (batch_text b))) refl less
     by false e =
         let most : length (batch_text b) ≤ cut = grind (arith, nat_tests) in
         let whole : take cut (batch_text b) ≡ batch_text b = take_all cut (batch_text b) most in
-        ap (λ bytes. is_read_as (place_of b) (read_of Two bytes)) whole ∙ ap (is_read_as (place_of b)) (text_again b range sound) ∙ is_at-own b
+        ap (λ bytes. reads b (read_of Two bytes)) whole ∙ ap (reads b) (text_again b range sound) ∙ ap (λ t. was_whole (if t then Whole b else Aside)) (is_at-own b)
+
+-- what comes of a batch is whole exactly where no byte is missing
+pub whole_where_uncut : (source : ClusterNo) (b : Batch) (cut : ℕ) → InRange b → fault_of b ≡ None → is_whole (letter_of source cut b) ≡ not (nat_lt cut (length (batch_text b)))
+unfolding taken_of
+whole_where_uncut source b cut range sound = read-where-whole b cut range sound

@@ -13,7 +13,7 @@ use Rattle.ndc_cells.specs.Arrival.{arrival_of, arrived_at, learned_by}
 use Rattle.ndc_cells.specs.Jobs.{after_job, cells_after, learned_in, outcome_of, replies_to}
 use Rattle.ndc_cells.specs.Shards.{shard_of}
 use Rattle.ndc_cells.specs.Writing.{command_of, may_write, reapplication_of, reset_at}
-use Rattle.ndc_letters.specs.Letters.{is_whole}
+use Rattle.ndc_letters.specs.Letters.{taken_of}
 use Rattle.ndc_model.specs.Letters.{letters_merged}
 use Rattle.ndc_model.specs.Lines.{act_step}
 use Rattle.ndc_model.specs.Moves.{after_settlement, bootstrapped, due_arrived, flights_arrived, jobs_done, pulled_all, pulled_shard, reapplied_all, renewed, resent, rewound, settled_once, trimmed_all, worked}
@@ -27,9 +27,9 @@ use Rattle.ndc_model.proofs.worked_scripts.a_damaged_message_is_set_aside.Goals 
 
 -- the first thirty bytes of the message hold no number, and are no JSON
 pub returns-clause-again : goal.returns-clause-again
-unfolding is_whole act_step command_step reset_step with_table pulled_all pulled_shard renewed rewound trimmed_all jobs_done flights_arrived reapplied_all worked resent bootstrapped due_arrived settled_once after_settlement letters_merged shard_of may_write command_of reapplication_of reset_at arrival_of arrived_at learned_by after_job outcome_of learned_in cells_after replies_to row plan_of start_of plan_below written judged_at within refuse numbers numbers_where kind_name refusal_words read_of batch_text with_attributes escape_byte content lex punctuate value chars is_utf8 encode_utf8
+unfolding taken_of act_step command_step reset_step with_table pulled_all pulled_shard renewed rewound trimmed_all jobs_done flights_arrived reapplied_all worked resent bootstrapped due_arrived settled_once after_settlement letters_merged shard_of may_write command_of reapplication_of reset_at arrival_of arrived_at learned_by after_job outcome_of learned_in cells_after replies_to row plan_of start_of plan_below written judged_at within refuse numbers numbers_where kind_name refusal_words read_of batch_text with_attributes escape_byte content lex punctuate value chars is_utf8 encode_utf8
 returns-clause-again c = refl
 
 pub returns-clause-purged : goal.returns-clause-purged
-unfolding is_whole act_step command_step reset_step with_table pulled_all pulled_shard renewed rewound trimmed_all jobs_done flights_arrived reapplied_all worked resent bootstrapped due_arrived settled_once after_settlement letters_merged shard_of may_write command_of reapplication_of reset_at arrival_of arrived_at learned_by after_job outcome_of learned_in cells_after replies_to row plan_of start_of plan_below written judged_at within refuse numbers numbers_where kind_name refusal_words read_of batch_text with_attributes escape_byte content lex punctuate value chars is_utf8 encode_utf8
+unfolding taken_of act_step command_step reset_step with_table pulled_all pulled_shard renewed rewound trimmed_all jobs_done flights_arrived reapplied_all worked resent bootstrapped due_arrived settled_once after_settlement letters_merged shard_of may_write command_of reapplication_of reset_at arrival_of arrived_at learned_by after_job outcome_of learned_in cells_after replies_to row plan_of start_of plan_below written judged_at within refuse numbers numbers_where kind_name refusal_words read_of batch_text with_attributes escape_byte content lex punctuate value chars is_utf8 encode_utf8
 returns-clause-purged c = refl
