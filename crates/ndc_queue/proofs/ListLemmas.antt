@@ -1,5 +1,5 @@
 -- Lists of which the first items were dropped.
-use Rattle.std.proofs.Common.{◌≡◌, ◌≤◌, ◌+◌, ◌-◌, ℕ, zero, suc, List, [], ◌∷◌, Some, drop, take, max, refl, ap, sym, ◌∙◌, arith}
+use Rattle.std.proofs.Common.{◌≡◌, ◌≤◌, ◌+◌, ◌-◌, ℕ, zero, suc, List, [], ◌∷◌, Some, drop, take, refl, ap, sym, ◌∙◌, arith}
 use Rattle.ndc_queue.specs.Lists.{entries_from, first_from, kept_from}
 
 -- nothing is left of nothing

@@ -1,17 +1,15 @@
 -- What is served lies between the ends of the gap.
-use Rattle.std.proofs.Common.{◌≡◌, ℕ, zero, suc, ◌+◌, ◌-◌, ◌<◌, ◌≤◌, Bool, true, false, cond, List, [], ◌∷◌, ◌++◌, length, slice_get, nat_lt, ◌&&◌, ◌==◌, Option, Some, None, refl, sym, ap, subst, ◌∙◌, arith}
-use Rattle.std.specs.List.{AllByRecursion, filter}
+use Rattle.std.proofs.Common.{◌≡◌, ℕ, ◌+◌, ◌-◌, ◌<◌, ◌≤◌, Bool, true, false, cond, List, [], ◌∷◌, ◌++◌, length, slice_get, nat_lt, ◌&&◌, ◌==◌, Some, refl, sym, ap, subst, ◌∙◌, arith}
+use Rattle.std.specs.List.{AllByRecursion}
 use Rattle.std.proofs.lemmas.Bool.{eqb-true, le-ltb, lt-ltb}
 use Rattle.std.proofs.lemmas.List.Elements.{filter-append}
-use Rattle.ndc_event.specs.Batch.{fault_of, follow_from}
+use Rattle.ndc_event.specs.Batch.{follow_from}
 use Rattle.ndc_event.specs.declared.batch.Batch.{Batch}
 use Rattle.ndc_event.specs.declared.batch.Event.{Event}
-use Rattle.ndc_event.specs.declared.key.BatchKey.{BatchKey}
-use Rattle.ndc_history.specs.declared.item.Item.{Item}
 use Rattle.ndc_resend.specs.Gaps.{is_between, item_or_zero, served}
 use Rattle.ndc_resend.specs.declared.gap.Gap.{Gap}
 use Rattle.ndc_sets.specs.Paths.{IsPath, first, below, first_id, last_from, last_id, last_item_of, path_to}
-use Rattle.ndc_sets.specs.Sets.{Has, batch_at}
+use Rattle.ndc_sets.specs.Sets.{Has}
 use Rattle.ndc_sets.specs.Sound.{IsSound}
 use Rattle.ndc_state.specs.Replay.{history_of}
 use Rattle.ndc_sets.proofs.FaultLemmas.{passes}
@@ -170,10 +168,10 @@ served_is_between batches b front middle sound has path =
     let is : IsPath batches b (front ++ (middle ++ b ∷ [])) = subst (IsPath batches b) path (path_is batches b sound.set sound.closed has) in
     let events = path-has_events batches b (front ++ (middle ++ b ∷ [])) sound is in
     let follow = subst (λ all. follow_from 0 all ≡ true) (history-append front (middle ++ b ∷ []))
-        (path-events batches b (front ++ (middle ++ b ∷ [])) sound.faultless sound.parents is).follow in
+    (path-events batches b (front ++ (middle ++ b ∷ [])) sound.faultless sound.parents is).follow in
     let start = after-id (history_of front) in
     let none : served gap front ≡ [] = none-before gap 0 front (all-front HasEvents front (middle ++ b ∷ []) events)
-        (follow-front 0 (history_of front) (history_of (middle ++ b ∷ [])) follow) (omega (arith, start)) in
+    (follow-front 0 (history_of front) (history_of (middle ++ b ∷ [])) follow) (omega (arith, start)) in
     let all : served gap (middle ++ b ∷ []) ≡ middle = all-between gap (ends 0 (history_of front)) middle b (all-rest HasEvents front (middle ++ b ∷ []) events)
-        (follow-rest 0 (history_of front) (history_of (middle ++ b ∷ [])) follow) (omega (arith, start)) refl in
+    (follow-rest 0 (history_of front) (history_of (middle ++ b ∷ [])) follow) (omega (arith, start)) refl in
     ap (served gap) path ∙ filter-append (is_between gap) front (middle ++ b ∷ []) ∙ (λ i. none i ++ all i)

@@ -15,8 +15,7 @@ pub fn a_gap_begins_behind_the_last_learned_ancestor()
     ensures { (batches part : List Batch) (b : Batch) (front rest : List Batch) (first : Item) → IsSound batches → IsSet part → IsClosed part → IsPart part batches → Has batches b
         → path_to b.key batches ≡ front ++ rest → IsPart front part → ((c : Batch) → Has rest c → batch_at c.key part ≡ None)
         → gap_of (histories b.run part) (versions_of (events_to b.key batches)) first ≡ record { after = item_or_zero (last_item_of (history_of front)); before = first } }
-{
-}
+{}
 
 /// On the path to a batch of a sound set, what is served of the gap between its first batches and the batch itself is
 /// exactly what lies between these.
@@ -25,5 +24,4 @@ pub fn what_lies_between_is_served()
     ensures { (batches : List Batch) (b : Batch) (front middle : List Batch) → IsSound batches → Has batches b
         → path_to b.key batches ≡ front ++ (middle ++ b ∷ [])
         → served (record { after = item_or_zero (last_item_of (history_of front)); before = record { id = first_id b.events; version = b.key.version } }) (path_to b.key batches) ≡ middle }
-{
-}
+{}
