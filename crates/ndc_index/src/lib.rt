@@ -1,6 +1,8 @@
 //! Indexers: objects that are told of each batch that becomes learned at a cluster, and the lines that they show.
 #![tactic(auto)]
 
+mod indexer;
 mod seen;
 
+pub use indexer::{Counted, Indexer, ToldError};
 pub use seen::Seen;
