@@ -28,3 +28,9 @@ counts Copies kind = is_copy kind
 -- how many events of what was told have such a kind
 unfoldable pub count_told : Counted → List Seen → ℕ
 count_told which list = count_kinds (counts which) (events_told list)
+
+-- what was told, and the two sorts of events that are counted
+pub record TallyValue : Type 0 where
+  pub list : List Seen
+  pub first : Counted
+  pub second : Counted

@@ -3,6 +3,7 @@
 
 mod indexer;
 mod seen;
+mod tally;
 
 pub use indexer::{Counted, Indexer, ToldError};
 pub use seen::Seen;
