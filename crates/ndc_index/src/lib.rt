@@ -3,7 +3,9 @@
 
 mod indexer;
 mod seen;
+mod shipped;
 mod tally;
 
 pub use indexer::{Counted, Indexer, ToldError};
 pub use seen::Seen;
+pub use shipped::{OpenIndexer, SignalsIndexer};
