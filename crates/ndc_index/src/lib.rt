@@ -5,6 +5,8 @@ mod indexer;
 mod seen;
 mod shipped;
 mod tally;
+#[cfg(test)]
+mod tests;
 
 pub use indexer::{Counted, Indexer, ToldError};
 pub use seen::Seen;
