@@ -1,0 +1,4 @@
+pub mod MapLemmas
+pub mod GrowLemmas
+pub mod EventLemmas
+pub mod FitLemmas
