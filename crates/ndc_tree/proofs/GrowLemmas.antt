@@ -1,6 +1,6 @@
 -- A tree with one more batch.
 use Rattle.std.proofs.Common.{◌≡◌, ◌+◌, ◌<◌, ◌≤◌, true, List, ◌⊎◌, inl, inr, Option, Some, None, refl, sym, ◌∙◌, subst, ap, arith}
-use Rattle.std.specs.Prelude.{is_some, not, nat_lt}
+use Rattle.std.specs.Prelude.{is_some, not, nat_lt, IfSome}
 use Rattle.std.proofs.lemmas.Bool.{and_parts, ltb-true}
 use Rattle.ndc_event.specs.declared.batch.Batch.{Batch}
 use Rattle.ndc_event.specs.declared.key.BatchKey.{BatchKey}
@@ -96,3 +96,11 @@ module _ (run : RunId) (batches : List Batch) (new : Batch) (tree : IsTree run b
       parents = grown-parents;
       follow = grown-follow;
     }
+
+-- the parent of a batch without a fault has a smaller task
+pub parent-before : (b : Batch) → fault_of b ≡ None → IfSome b.parent (λ before. before.task < b.key.task)
+parent-before b e = by b.parent refl
+  where
+    by : (o : Option BatchKey) → b.parent ≡ o → IfSome o (λ before. before.task < b.key.task)
+    by None at = tt
+    by (Some parent) at = parent-task b parent e at

@@ -31,7 +31,8 @@ key_cmp-by one two = numbers-cmp one.version one.task two.version two.task
 numbers-same : (a b x y : ℕ) → is_eq (if nat_lt a x || (a == x) && nat_lt b y then Less else if (a == x) && (b == y) then Equal else Greater) ≡ ((x == a) && (y == b))
 numbers-same a b x y = grind (arith, nat_tests)
 
-key_cmp-same : (key other : BatchKey) → is_eq (key_cmp key other) ≡ key_eq other key
+-- keys that compare as one are one
+pub key_cmp-same : (key other : BatchKey) → is_eq (key_cmp key other) ≡ key_eq other key
 key_cmp-same key other = numbers-same key.version key.task other.version other.task
 
 -- the batches of those under their keys are the batches

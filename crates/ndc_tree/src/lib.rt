@@ -1,7 +1,10 @@
 //! The batches of one run, as a tree: each batch hangs below its parent.
 #![tactic(auto)]
 
+mod answer;
 mod batches;
+mod tips;
 mod tree;
 
-pub use tree::{Inserted, Tree, TreeError};
+pub use answer::{Inserted, TreeError};
+pub use tree::Tree;

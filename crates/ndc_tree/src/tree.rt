@@ -1,40 +1,23 @@
-ghost use Rattle.std.specs.Prelude.{◌≡◌, ◌<◌, ◌-◌, ◌^◌, IfSome, Some};
+ghost use Rattle.std.specs.Prelude.{◌≡◌, ◌<◌, ◌↔◌, IfSome, IsTrue, Some};
+ghost use Rattle.ndc_sets.specs.Sets.{Has};
 ghost use Rattle.ndc_sets.specs.Paths.{first_id, last_id};
+ghost use Rattle.std.specs.Option.{option_copied};
 ghost use Rattle.ndc_tree.specs.Fitting.{goes_on, key_behind};
+ghost use Rattle.ndc_tree.specs.Inserting.{end_of};
 
+use crate::answer::{Inserted, TreeError};
 use crate::batches::Batches;
+use crate::tips::Tips;
 use ndc_event::{Batch, BatchKey, Event, RunId};
 use ndc_history::Item;
-use std::alloc::{AllocError, AllocFailed, Global};
+use std::alloc::{AllocError, Global};
 use std::marker::Model;
-use thiserror::Error;
-
-/// What became of a batch that was handed in.
-#[derive(Clone, Copy, Debug, PartialEq, Eq)]
-pub enum Inserted {
-    /// An equal batch was there.
-    Known,
-    /// It goes on from a tip, or is the first; it is the tip of this branch.
-    Extended { branch: BatchKey },
-    /// It hangs below a batch that had a child, whose last event is this item; it is the tip of a new branch.
-    Forked { branch: BatchKey, at: Item },
-}
-
-/// Why a batch was not taken in.
-#[derive(Clone, Copy, Debug, PartialEq, Eq, Error)]
-pub enum TreeError {
-    #[error("the parent of batch {key:?} is missing")]
-    MissingParent { key: BatchKey },
-    #[error("batch {key:?} does not fit the tree")]
-    NotWellFormed { key: BatchKey },
-    #[error("out of memory")]
-    Memory,
-}
 
 /// The batches of one run. Seen as the run and the list of its batches in key order.
 pub struct Tree {
     run: RunId,
     batches: Batches,
+    tips: Tips,
 }
 
 impl Model for Tree {
@@ -54,16 +37,24 @@ impl Drop for Tree {
         let Tree {
             run: _run,
             batches: _batches,
+            tips: _tips,
         } = self;
     }
 }
 
 impl Tree {
-    ghost use Rattle.std.specs.Prelude.{◌≡◌, ◌<◌, ◌-◌, ◌^◌, [], None, IfSome};
+    ghost use Rattle.std.specs.Prelude.{◌≡◌, ◌<◌, ◌↔◌, ◌≢◌, [], None, Ok, IfSome, IfOk, OnOk, OnErr, IsTrue};
     ghost use Rattle.std.specs.Option.{option_copied};
-    ghost use Rattle.ndc_sets.specs.Sets.{batch_at};
+    ghost use Rattle.ndc_sets.specs.Sets.{batch_at, arrived, Has};
+    ghost use Rattle.ndc_event.specs.Outcome.{Gives};
+    ghost use Rattle.ndc_event.specs.Batch.{fault_of};
+    ghost use Rattle.ndc_tree.specs.declared.answer.Inserted.TheVariants.{Known};
+    ghost use Rattle.ndc_tree.specs.declared.answer.TreeError.TheVariants.{Memory};
+    ghost use Rattle.ndc_tree.specs.Tree.{Joins};
     ghost use Rattle.ndc_sets.specs.Learned.{has_key};
     ghost use Rattle.ndc_tree.specs.Fitting.{is_below, splits_version, fits};
+    ghost use Rattle.ndc_tree.specs.Inserting.{inserted, placed};
+    ghost use Rattle.ndc_tree.specs.Tips.{tip_keys};
 
     /// The tree of a run without a batch.
     pub fn new(alloc: Global, run: RunId) -> Tree
@@ -72,6 +63,7 @@ impl Tree {
         Tree {
             run,
             batches: Batches::new(alloc),
+            tips: Tips::new(alloc),
         }
     }
 
@@ -87,6 +79,93 @@ impl Tree {
         ensures { option_copied result ≡ batch_at key self.now.batches }
     {
         self.batches.get(key)
+    }
+
+    /// Takes the batch in. [`Inserted::Known`] exactly where an equal one is there. Refused with
+    /// [`TreeError::MissingParent`] where its parent is not there; then with [`TreeError::NotWellFormed`] where it is
+    /// of another run, or its key is there with another batch, or it has no parent and the tree has a batch, or its
+    /// first id is not one past the parent's last, or a batch of its version is no ancestor. After an error the tree
+    /// is as it was. In time of the logarithm of its batches, and of the batch's copy.
+    pub fn insert(&mut self, batch: &Batch) -> Result<Inserted, TreeError>
+        requires { fault_of batch.now ≡ None }
+        ensures known { Has self.old.batches batch.now ↔ (result ≡ Ok Known) }
+        ensures answer { result ≢ Ok Known → Gives Memory (λ done. done) result (inserted self.old.run self.old.batches batch.now) }
+        ensures grown { result ≢ Ok Known → OnOk result (self.new ≡ record self.old { batches = arrived batch.now self.old.batches }) }
+        ensures same { result ≡ Ok Known → self.new ≡ self.old }
+        ensures err { OnErr result (self.new ≡ self.old) }
+    {
+        let inserted = self.judged(batch)?;
+        match inserted {
+            Inserted::Known => Ok(inserted),
+            _ => {
+                self.join(batch)?;
+                Ok(inserted)
+            }
+        }
+    }
+
+    /// What becomes of the batch.
+    fn judged(&self, batch: &Batch) -> Result<Inserted, TreeError>
+        requires { fault_of batch.now ≡ None }
+        ensures known { Has self.now.batches batch.now ↔ (result ≡ Ok Known) }
+        ensures answer { result ≢ Ok Known → result ≡ inserted self.now.run self.now.batches batch.now }
+        ensures joins { result ≢ Ok Known → OnOk result (Joins self.now.run self.now.batches batch.now) }
+    {
+        let key = batch.key;
+        if is_known(&self.batches, batch) {
+            return Ok(Inserted::Known);
+        }
+        if !self.has(batch.parent) {
+            return Err(TreeError::MissingParent { key });
+        }
+        if !self.fits(batch) {
+            return Err(TreeError::NotWellFormed { key });
+        }
+        Ok(self.placed(key, batch.parent))
+    }
+
+    /// Takes in a batch that joins the tree.
+    fn join(&mut self, batch: &Batch) -> Result<(), AllocError>
+        requires { Joins self.old.run self.old.batches batch.now }
+        ensures ok { OnOk result (self.new ≡ record self.old { batches = arrived batch.now self.old.batches }) }
+        ensures err { OnErr result (self.new ≡ self.old) }
+    {
+        let copy = batch.try_copy()?;
+        self.tips.put(batch.key)?;
+        match self.batches.insert(copy) {
+            Ok(()) => {
+                self.tips.take_parent(batch.parent);
+                Ok(())
+            }
+            Err(error) => {
+                self.tips.take(batch.key);
+                Err(error)
+            }
+        }
+    }
+
+    /// The keys of the tips, ascending.
+    pub fn branches(&self, alloc: Global) -> Result<Vec<BatchKey>, AllocError>
+        ensures { IfOk result (λ list. list.items ≡ tip_keys self.now.run self.now.batches) }
+    {
+        self.tips.to_vec(alloc)
+    }
+
+    /// Where a batch goes that fits the tree.
+    fn placed(&self, key: BatchKey, parent: Option<BatchKey>) -> Inserted
+        ensures { result ≡ placed self.now.run self.now.batches key parent }
+    {
+        match parent {
+            None => Inserted::Extended { branch: key },
+            Some(parent) => {
+                if self.tips.has(parent) {
+                    Inserted::Extended { branch: key }
+                } else {
+                    let at = end_of(self.batches.get(parent));
+                    Inserted::Forked { branch: key, at }
+                }
+            }
+        }
     }
 
     /// Whether the batch of this key is there.
@@ -112,26 +191,36 @@ impl Tree {
         }
     }
 
-    /// Whether a batch of this version is no ancestor of one with this parent.
-    fn splits_version(&self, version: u64, parent: Option<BatchKey>) -> bool
-        requires { IfSome parent (λ key. key.task < 2 ^ 64 - 1) }
-        ensures { result ≡ splits_version self.now.batches version parent }
+    /// Whether a batch of the key's version is no ancestor of one with this key and this parent.
+    fn splits_version(&self, key: BatchKey, parent: Option<BatchKey>) -> bool
+        requires { IfSome parent (λ before. before.task < key.task) }
+        ensures { result ≡ splits_version self.now.batches key.version parent }
     {
-        match self.batches.first_from(key_behind(version, parent)) {
+        match self.batches.first_from(key_behind(key, parent)) {
             None => false,
-            Some(batch) => batch.key.version == version,
+            Some(batch) => batch.key.version == key.version,
         }
     }
 
     /// Whether the batch fits the tree.
     fn fits(&self, batch: &Batch) -> bool
-        requires { IfSome batch.now.parent (λ key. key.task < 2 ^ 64 - 1) }
+        requires { IfSome batch.now.parent (λ before. before.task < batch.now.key.task) }
         ensures { result ≡ fits self.now.run self.now.batches batch.now }
     {
         batch.run.value == self.run.value
             && self.batches.get(batch.key).is_none()
             && self.is_below(batch)
-            && !self.splits_version(batch.key.version, batch.parent)
+            && !self.splits_version(batch.key, batch.parent)
+    }
+}
+
+/// Whether the batch is one of these.
+fn is_known(batches: &Batches, batch: &Batch) -> bool
+    ensures { IsTrue result ↔ Has batches.now batch.now }
+{
+    match batches.get(batch.key) {
+        None => false,
+        Some(other) => other.is_same(batch),
     }
 }
 
@@ -155,6 +244,19 @@ fn first_id(events: &[Event]) -> u64
     }
 }
 
+/// The item of a batch's last event, where there is a batch.
+fn end_of(batch: Option<&Batch>) -> Item
+    ensures { result ≡ end_of (option_copied batch.entry) }
+{
+    match batch {
+        None => Item { id: 0, version: 0 },
+        Some(batch) => Item {
+            id: last_id(batch.events.as_slice()),
+            version: batch.key.version,
+        },
+    }
+}
+
 /// Whether the batch's first event comes just behind the last one of the other.
 fn goes_on(batch: &Batch, before: &Batch) -> bool
     ensures { result ≡ goes_on batch.now (Some before.now) }
@@ -163,11 +265,12 @@ fn goes_on(batch: &Batch, before: &Batch) -> bool
     first.checked_sub(1) == Some(last_id(before.events.as_slice()))
 }
 
-/// The key of the version behind that of the parent, where this is of the version, or else the least one.
-fn key_behind(version: u64, parent: Option<BatchKey>) -> BatchKey
-    requires { IfSome parent (λ key. key.task < 2 ^ 64 - 1) }
-    ensures { result ≡ key_behind version parent }
+/// The key of this key's version behind the parent's, where this is of the version, or else the least one.
+fn key_behind(key: BatchKey, parent: Option<BatchKey>) -> BatchKey
+    requires { IfSome parent (λ before. before.task < key.task) }
+    ensures { result ≡ key_behind key.version parent }
 {
+    let version = key.version;
     let task = match parent {
         None => 0,
         Some(parent) => {

@@ -1,0 +1,72 @@
+use ndc_event::BatchKey;
+use std::alloc::{AllocError, Global};
+use std::collections::BTreeSet;
+use std::marker::Model;
+
+/// The keys of tips. Seen as their list, ascending.
+#[derive(Drop)]
+pub(crate) struct Tips {
+    keys: BTreeSet<BatchKey>,
+}
+
+impl Model for Tips {
+    ghost use Rattle.std.specs.Prelude.{List};
+    ghost use Rattle.ndc_event.specs.declared.key.BatchKey.{BatchKey};
+
+    ghost Value = { List BatchKey };
+
+    ghost view = { λ tips. tips.keys.keys };
+}
+
+impl Tips {
+    ghost use Rattle.std.specs.Prelude.{◌≡◌, [], IfOk, OnOk, OnErr};
+    ghost use Rattle.ndc_tree.specs.Tips.{is_key_among, with_key, without_key, without_parent};
+
+    /// There is no tip.
+    pub(crate) fn new(alloc: Global) -> Tips
+        ensures { result ≡ [] }
+    {
+        Tips {
+            keys: BTreeSet::new(alloc),
+        }
+    }
+
+    /// Whether the key is that of a tip.
+    pub(crate) fn has(&self, key: BatchKey) -> bool
+        ensures { result ≡ is_key_among key self.now }
+    {
+        self.keys.contains(&key)
+    }
+
+    /// Puts the key to its place, where it is not there.
+    pub(crate) fn put(&mut self, key: BatchKey) -> Result<(), AllocError>
+        ensures ok { OnOk result (self.new ≡ with_key key self.old) }
+        ensures err { OnErr result (self.new ≡ self.old) }
+    {
+        self.keys.insert(key)?;
+        Ok(())
+    }
+
+    /// Takes the key out, where it is there.
+    pub(crate) fn take(&mut self, key: BatchKey)
+        ensures { self.new ≡ without_key key self.old }
+    {
+        self.keys.remove(&key);
+    }
+
+    /// Takes the parent out, where there is one.
+    pub(crate) fn take_parent(&mut self, parent: Option<BatchKey>)
+        ensures { self.new ≡ without_parent parent self.old }
+    {
+        if let Some(key) = parent {
+            self.take(key);
+        }
+    }
+
+    /// The keys, ascending.
+    pub(crate) fn to_vec(&self, alloc: Global) -> Result<Vec<BatchKey>, AllocError>
+        ensures { IfOk result (λ list. list.items ≡ self.now) }
+    {
+        self.keys.iter().copied().collect(alloc)
+    }
+}
