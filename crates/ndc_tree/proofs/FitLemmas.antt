@@ -1,5 +1,5 @@
 -- A batch that fits a tree joins it.
-use Rattle.std.proofs.Common.{◌≡◌, ℕ, ◌+◌, ◌<◌, ◌≤◌, Bool, true, false, not, ◌&&◌, ◌==◌, cond, List, [], ◌∷◌, ◌⊎◌, inl, inr, Option, Some, None, if◌then◌else◌, refl, sym, ◌∙◌, subst, ap, arith}
+use Rattle.std.proofs.Common.{◌≡◌, ◌+◌, ◌<◌, ◌≤◌, Bool, true, false, not, ◌&&◌, ◌==◌, cond, List, [], ◌∷◌, inl, inr, Option, Some, None, if◌then◌else◌, refl, sym, ◌∙◌, subst, ap, arith}
 use Rattle.std.specs.Prelude.{is_some}
 use Rattle.std.proofs.lemmas.Bool.{and_parts, eqb-true, eq-eqb}
 use Rattle.ndc_event.specs.Key.{key_lt}
@@ -15,7 +15,7 @@ use Rattle.ndc_sets.proofs.Lists.{Among, all-among}
 use Rattle.ndc_sets.proofs.BranchLemmas.{has-among, run-same}
 use Rattle.ndc_sets.proofs.KeyLemmas.{IsBefore, before-parts, before-from}
 use Rattle.ndc_tree.specs.Last.{is_nil, first_from}
-use Rattle.ndc_tree.specs.Fitting.{key_behind, is_of_version, splits_version, goes_on, is_below, fits}
+use Rattle.ndc_tree.specs.Fitting.{is_of_version, splits_version, goes_on, is_below, fits}
 use Rattle.ndc_tree.specs.Tree.{IsNextOfVersion, IsTree, Joins}
 
 -- where the first batch from a key on is not of its version, all batches of the version come before the key
@@ -83,11 +83,11 @@ module _ (run : RunId) (batches : List Batch) (new : Batch) (tree : IsTree run b
       parent_is : (key : BatchKey) → new.parent ≡ Some key → (t : Bool) → (key.version == new.key.version) ≡ t
           → key_lt one.key (if t then record { version = new.key.version; task = key.task + 1 } else record { version = new.key.version; task = 0 }) ≡ true → IsNextOfVersion one new
       parent_is key e true f l = record {
-          parent = key;
-          named = e;
-          version = eqb-true key.version new.key.version f;
-          next = parts (before-parts one.key (record { version = new.key.version; task = key.task + 1 }) l);
-        }
+        parent = key;
+        named = e;
+        version = eqb-true key.version new.key.version f;
+        next = parts (before-parts one.key (record { version = new.key.version; task = key.task + 1 }) l);
+      }
         where
           parts : IsBefore one.key (record { version = new.key.version; task = key.task + 1 }) → one.key.task ≤ key.task
           parts (inl m) = absurd (omega (arith, m, v))
@@ -110,10 +110,10 @@ module _ (run : RunId) (batches : List Batch) (new : Batch) (tree : IsTree run b
   -- a batch without a fault that fits a tree, and whose parent is there, joins it
   pub fit-joins : has_key new.parent batches ≡ true → fault_of new ≡ None → Joins run batches new
   fit-joins reached faultless = record {
-      fresh = none-where (batch_at new.key batches) mine.1;
-      faultless = faultless;
-      run_is = run-same new.run run mine.0;
-      reached = reached;
-      ids = ids;
-      next = next;
-    }
+    fresh = none-where (batch_at new.key batches) mine.1;
+    faultless = faultless;
+    run_is = run-same new.run run mine.0;
+    reached = reached;
+    ids = ids;
+    next = next;
+  }

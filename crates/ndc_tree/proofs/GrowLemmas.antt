@@ -1,17 +1,16 @@
 -- A tree with one more batch.
-use Rattle.std.proofs.Common.{◌≡◌, ◌+◌, ◌<◌, ◌≤◌, true, List, ◌⊎◌, inl, inr, Option, Some, None, refl, sym, ◌∙◌, subst, ap, arith}
+use Rattle.std.proofs.Common.{◌≡◌, ◌<◌, true, List, ◌⊎◌, inl, inr, Option, Some, None, refl, sym, ◌∙◌, subst, ap, arith}
 use Rattle.std.specs.Prelude.{is_some, not, nat_lt, IfSome}
 use Rattle.std.proofs.lemmas.Bool.{and_parts, ltb-true}
 use Rattle.ndc_event.specs.declared.batch.Batch.{Batch}
 use Rattle.ndc_event.specs.declared.key.BatchKey.{BatchKey}
 use Rattle.ndc_event.specs.declared.key.RunId.{RunId}
 use Rattle.ndc_event.specs.Batch.{is_parent_fit, fault_of}
-use Rattle.ndc_sets.specs.Sets.{IsSet, batch_at, Has, arrived}
+use Rattle.ndc_sets.specs.Sets.{batch_at, Has, arrived}
 use Rattle.ndc_sets.specs.Learned.{has_key, IsPart}
-use Rattle.ndc_sets.specs.Paths.{first_id, last_id}
 use Rattle.ndc_sets.specs.Sound.{IsParentFit, ParentsFit}
-use Rattle.ndc_sets.proofs.ArrivalLemmas.{arrival_keeps_sets, stays, was_or_new, is_there}
-use Rattle.ndc_sets.proofs.FaultLemmas.{Passes, passes}
+use Rattle.ndc_sets.proofs.ArrivalLemmas.{arrival_keeps_sets, stays, was_or_new}
+use Rattle.ndc_sets.proofs.FaultLemmas.{passes}
 use Rattle.ndc_sets.proofs.SetLemmas.{found-key, found-has, has-found}
 use Rattle.ndc_sets.proofs.SoundLemmas.{faultless-back}
 use Rattle.ndc_tree.specs.Tree.{HaveParents, AreOfRun, IsNextOfVersion, VersionsFollow, IsTree, Joins}
@@ -90,12 +89,12 @@ module _ (run : RunId) (batches : List Batch) (new : Batch) (tree : IsTree run b
   -- a tree stays one where a batch joins it
   pub grown_is_tree : IsTree run (arrived new batches)
   grown_is_tree = record {
-      set = arrival_keeps_sets new batches tree.set (faultless-back new joins.faultless);
-      closed = grown-closed;
-      runs = grown-runs;
-      parents = grown-parents;
-      follow = grown-follow;
-    }
+    set = arrival_keeps_sets new batches tree.set (faultless-back new joins.faultless);
+    closed = grown-closed;
+    runs = grown-runs;
+    parents = grown-parents;
+    follow = grown-follow;
+  }
 
 -- the parent of a batch without a fault has a smaller task
 pub parent-before : (b : Batch) → fault_of b ≡ None → IfSome b.parent (λ before. before.task < b.key.task)

@@ -8,3 +8,6 @@ mod tree;
 
 pub use answer::{Inserted, TreeError};
 pub use tree::Tree;
+
+#[cfg(test)]
+mod tests;

@@ -1,5 +1,5 @@
 use Rattle.ndc_tree.proofs.EventLemmas.{last-id-at}
-use Rattle.std.proofs.Common.{◌∙◌, ap, sym}
+use Rattle.std.proofs.Common.{sym}
 use Rattle.ndc_tree.proofs.tree.last_id.Goals as goal
 
 pub returns-in-Some : goal.returns-in-Some

@@ -1,5 +1,4 @@
 use Rattle.std.proofs.Common.{◌≡◌, None, ◌∙◌, ap, sym, subst, List}
-use Rattle.std.specs.Map.{values_of}
 use Rattle.ndc_event.specs.declared.batch.Batch.{Batch}
 use Rattle.ndc_sets.specs.Sets.{batch_at, arrived}
 use Rattle.ndc_tree.proofs.MapLemmas.{key_cmp-by, inserted}

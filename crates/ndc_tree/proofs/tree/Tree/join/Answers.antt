@@ -13,10 +13,11 @@ invariant_of-self-in-Ok c =
     let old = c.self.inside.batches in
     let b = c.args.batch.now in
     let j : Joins run old b = subst (λ (v : TreeValue). Joins v.run v.batches b) (sym c.self.view_is) c.requires in
-    let new : c.insert.new.self ≡ arrived b old = c.in-Ok.ensures.ok ∙ ap (λ (x : Batch). arrived x old) c.in_ok-copy.ensures in
-    (subst (IsTree run) (sym new) (grown_is_tree run old b c.self.invariant.0 j),
-    c.take_parent.ensures ∙ ap (without_parent b.parent) (c.in_ok-put.ensures.ok ∙ ap (with_key b.key) c.self.invariant.1)
-    ∙ sym (tips-grown run old b c.self.invariant.0 j) ∙ ap (tip_keys run) (sym new))
+    let new : c.insert.new.self ≡ arrived b old = c.in-Ok.ensures.ok ∙ ap (λ (x : Batch). arrived x old) c.in_ok-copy.ensures in (
+      subst (IsTree run) (sym new) (grown_is_tree run old b c.self.invariant.0 j),
+      c.take_parent.ensures ∙ ap (without_parent b.parent) (c.in_ok-put.ensures.ok ∙ ap (with_key b.key) c.self.invariant.1)
+          ∙ sym (tips-grown run old b c.self.invariant.0 j) ∙ ap (tip_keys run) (sym new),
+    )
 
 pub invariant_of-self-in-Err : goal.invariant_of-self-in-Err
 invariant_of-self-in-Err c =
@@ -24,7 +25,8 @@ invariant_of-self-in-Err c =
     let old = c.self.inside.batches in
     let b = c.args.batch.now in
     let j : Joins run old b = subst (λ (v : TreeValue). Joins v.run v.batches b) (sym c.self.view_is) c.requires in
-    let same : c.insert.new.self ≡ old = c.in-Err.ensures.err in
-    (subst (IsTree run) (sym same) c.self.invariant.0,
-    c.take.ensures ∙ ap (without_key b.key) (c.in_ok-put.ensures.ok ∙ ap (with_key b.key) c.self.invariant.1)
-    ∙ with-without b.key (tip_keys run old) (fresh-no-tip run old b.key c.self.invariant.0.set.ordered j.fresh) ∙ ap (tip_keys run) (sym same))
+    let same : c.insert.new.self ≡ old = c.in-Err.ensures.err in (
+      subst (IsTree run) (sym same) c.self.invariant.0,
+      c.take.ensures ∙ ap (without_key b.key) (c.in_ok-put.ensures.ok ∙ ap (with_key b.key) c.self.invariant.1)
+          ∙ with-without b.key (tip_keys run old) (fresh-no-tip run old b.key c.self.invariant.0.set.ordered j.fresh) ∙ ap (tip_keys run) (sym same),
+    )
