@@ -148,17 +148,18 @@ module _ (header : Header) (lines : ℕ) (cluster : ClusterNo) (known : IsCluste
   pub one-arrives : (w : World) (shard : ℕ) (sent : Message) → IsReached header lines w → shard < header.shards → MayArrive header cluster shard w sent
       → IsBrought header lines cluster w (world_after header cluster (arrives shard sent ∷ []) w) × HasCome cluster shard (world_after header cluster (arrives shard sent ∷ []) w) sent
   unfolding cells_after after_job
-  one-arrives w shard sent is below may =
-      (record {
-        kept = cell-grown header lines w is cluster shard known below new grown;
-        grows = λ place at b. by-cell header lines w is cluster shard known below new grown (λ o p c. batch_there (cell_at o p w).arrived at ≡ Some b → batch_there c.arrived at ≡ Some b)
-            (arrived-stays header lines w is cluster shard known below sent may.is_true may.named at b) cluster place (λ h. h);
-        others = λ other place. by-cell header lines w is cluster shard known below new grown (λ o p c. o.number ≢ cluster.number → c ≡ cell_at o p w) (λ apart. absurd (apart refl)) other place (λ apart. refl);
-      },
-      record {
-        batch = subst (λ (c : Cell). has_arrived sent.batch c ≡ true) (sym there) (arrived-itself header lines w is cluster shard known below sent may.is_true may.named);
-        second = λ s e. subst (λ (c : Cell). has_arrived s c ≡ true) (sym there) (second-arrived header lines w is cluster shard known below sent may.is_true may.named s e);
-      })
+  one-arrives w shard sent is below may = (
+    record {
+      kept = cell-grown header lines w is cluster shard known below new grown;
+      grows = λ place at b. by-cell header lines w is cluster shard known below new grown (λ o p c. batch_there (cell_at o p w).arrived at ≡ Some b → batch_there c.arrived at ≡ Some b)
+          (arrived-stays header lines w is cluster shard known below sent may.is_true may.named at b) cluster place (λ h. h);
+      others = λ other place. by-cell header lines w is cluster shard known below new grown (λ o p c. o.number ≢ cluster.number → c ≡ cell_at o p w) (λ apart. absurd (apart refl)) other place (λ apart. refl);
+    },
+    record {
+      batch = subst (λ (c : Cell). has_arrived sent.batch c ≡ true) (sym there) (arrived-itself header lines w is cluster shard known below sent may.is_true may.named);
+      second = λ s e. subst (λ (c : Cell). has_arrived s c ≡ true) (sym there) (second-arrived header lines w is cluster shard known below sent may.is_true may.named s e);
+    },
+  )
     where
       new : Cell
       new = arrived_at sent (cell_at cluster shard w)

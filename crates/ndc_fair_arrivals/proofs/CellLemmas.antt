@@ -161,13 +161,15 @@ module _ (header : Header) (lines : ℕ) (w : World) (is : IsReached header line
   -- what a cell wrote is its own still
   own-there : (o : ClusterNo) (place : ℕ) → (table : List DomainRecord) → (bs : List Batch) → AllByRecursion (IsOwn header o place table (cell_at o place w)) bs → AllByRecursion (IsOwn header o place table (cell_at o place v)) bs
   own-there o place table [] all = tt
-  own-there o place table (b ∷ bs) all =
-      (record {
-        lives = all.0.lives;
-        version = all.0.version;
-        learned = by-cell (λ o p cell. Has (learned_of b.domain b.workflow (cell_at o p w)) b → Has (learned_of b.domain b.workflow cell) b) (grown.own b.domain b.workflow b) o place (λ h. h) all.0.learned;
-        recorded = all.0.recorded;
-      }, own-there o place table bs all.1)
+  own-there o place table (b ∷ bs) all = (
+    record {
+      lives = all.0.lives;
+      version = all.0.version;
+      learned = by-cell (λ o p cell. Has (learned_of b.domain b.workflow (cell_at o p w)) b → Has (learned_of b.domain b.workflow cell) b) (grown.own b.domain b.workflow b) o place (λ h. h) all.0.learned;
+      recorded = all.0.recorded;
+    },
+    own-there o place table bs all.1,
+  )
 
   pub cell-grown : IsKept header lines w v
   cell-grown = record {

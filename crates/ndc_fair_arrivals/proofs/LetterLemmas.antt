@@ -197,7 +197,7 @@ module _ (header : Header) (lines : ℕ) (reader : ClusterNo) (known : IsCluster
       sent-may b f (Some sent) g e =
           let there : Among b (learned_of letter.domain letter.workflow (cell_of header letter.source letter.domain letter.workflow w)) = there-among _ (place_of_letter letter) b f in
           let set = learned_closed (arrived_of letter.domain letter.workflow (cell_of header letter.source letter.domain letter.workflow w))
-              (set_of_workflow letter.domain letter.workflow (cell_of header letter.source letter.domain letter.workflow w) (cell-is header lines w is (shard_of letter.domain letter.workflow header.shards) below letter.source fit.clusters.second)) in
+          (set_of_workflow letter.domain letter.workflow (cell_of header letter.source letter.domain letter.workflow w) (cell-is header lines w is (shard_of letter.domain letter.workflow header.shards) below letter.source fit.clusters.second)) in
           let has : Has (learned_of letter.domain letter.workflow (cell_of header letter.source letter.domain letter.workflow w)) b = among-has (learned_of letter.domain letter.workflow (cell_of header letter.source letter.domain letter.workflow w)) b set.0.ordered there in
           let p = learned-arrived header lines w is (shard_of letter.domain letter.workflow header.shards) below letter.source fit.clusters.second letter.domain letter.workflow b has in
           let n = names-of letter.domain letter.workflow b p.1 in

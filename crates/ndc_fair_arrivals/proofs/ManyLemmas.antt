@@ -82,9 +82,10 @@ module _ (header : Header) (lines : ℕ) (cluster : ClusterNo) (known : IsCluste
           → IsBrought header lines cluster w (world_after header cluster (asked ∷ jobs) w) × AllByRecursion (JobHasCome (world_after header cluster (asked ∷ jobs) w)) (asked ∷ jobs)
       joined one rest =
           let r = rest one.0 in
-          subst (λ (v : World). IsBrought header lines cluster w v × AllByRecursion (JobHasCome v) (asked ∷ jobs)) (after-more header cluster w is.shaped known asked jobs)
-          (brought-then header lines cluster w (world_after header cluster (asked ∷ []) w) (world_after header cluster jobs (world_after header cluster (asked ∷ []) w)) one.0 r.0,
-          (λ sent e. come-still header lines cluster (world_after header cluster (asked ∷ []) w) (world_after header cluster jobs (world_after header cluster (asked ∷ []) w)) r.0 asked.shard sent (one.1 sent e), r.1))
+          subst (λ (v : World). IsBrought header lines cluster w v × AllByRecursion (JobHasCome v) (asked ∷ jobs)) (after-more header cluster w is.shaped known asked jobs) (
+            brought-then header lines cluster w (world_after header cluster (asked ∷ []) w) (world_after header cluster jobs (world_after header cluster (asked ∷ []) w)) one.0 r.0,
+            (λ sent e. come-still header lines cluster (world_after header cluster (asked ∷ []) w) (world_after header cluster jobs (world_after header cluster (asked ∷ []) w)) r.0 asked.shard sent (one.1 sent e), r.1),
+          )
 
   -- messages by shard
   pub by-shard : (messages : ℕ → List Message) (w : World) → IsReached header lines w → ((shard : ℕ) → shard < header.shards → AllByRecursion (MayArrive header cluster shard w) (messages shard))
@@ -92,12 +93,13 @@ module _ (header : Header) (lines : ℕ) (cluster : ClusterNo) (known : IsCluste
       × ((shard : ℕ) (sent : Message) → shard < header.shards → Among sent (messages shard) → HasCome cluster shard (world_after header cluster (all_arrive messages (shards_of header)) w) sent)
   by-shard messages w is may =
       let m = many (all_arrive messages (shards_of header)) w is
-          (all-flat (IsArrival header cluster w) (λ shard. map (arrives shard) (messages shard)) (shards_of header)
-          (λ shard among. let below : shard < header.shards = omega (arith, range-below 0 header.shards shard among) in each shard below (messages shard) (may shard below))) in
-      (m.0,
-      λ shard sent below among. all-among (JobHasCome (world_after header cluster (all_arrive messages (shards_of header)) w)) (all_arrive messages (shards_of header)) (arrives shard sent) m.1
-      (among-flat (λ s. map (arrives s) (messages s)) (shards_of header) shard (arrives shard sent) (range-among 0 header.shards shard shard below (omega arith)) (among-map (arrives shard) (messages shard) sent among))
-      sent refl)
+      (all-flat (IsArrival header cluster w) (λ shard. map (arrives shard) (messages shard)) (shards_of header)
+      (λ shard among. let below : shard < header.shards = omega (arith, range-below 0 header.shards shard among) in each shard below (messages shard) (may shard below))) in (
+        m.0,
+        λ shard sent below among. all-among (JobHasCome (world_after header cluster (all_arrive messages (shards_of header)) w)) (all_arrive messages (shards_of header)) (arrives shard sent) m.1
+            (among-flat (λ s. map (arrives s) (messages s)) (shards_of header) shard (arrives shard sent) (range-among 0 header.shards shard shard below (omega arith)) (among-map (arrives shard) (messages shard) sent among))
+            sent refl,
+      )
     where
       each : (shard : ℕ) → shard < header.shards → (sents : List Message) → AllByRecursion (MayArrive header cluster shard w) sents → AllByRecursion (IsArrival header cluster w) (map (arrives shard) sents)
       each shard below [] all = tt

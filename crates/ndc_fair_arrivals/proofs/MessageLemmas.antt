@@ -69,9 +69,10 @@ module _ (header : Header) (lines : ℕ) (w : World) (is : IsReached header line
   pub among-true : (b : Batch) (sent : Message) → Among b all → own_message (filter (is_of b.domain b.workflow) (all_written header shard w)) (all_written header shard w) b ≡ Some sent
       → IsMessageTrue header shard w sent
   among-true b sent among e =
-      let same : b ≡ sent.batch = ap (λ (m : Message). m.batch) (own-is (filter (is_of b.domain b.workflow) all) all b sent e).1 in
-      (subst (λ (x : Batch). batch_there all (place_of x) ≡ Some x) same (order-finds all b (ordered header lines w is shard below) among),
-      subst (λ (x : Batch). own_message (filter (is_of x.domain x.workflow) all) all x ≡ Some sent) same e)
+      let same : b ≡ sent.batch = ap (λ (m : Message). m.batch) (own-is (filter (is_of b.domain b.workflow) all) all b sent e).1 in (
+        subst (λ (x : Batch). batch_there all (place_of x) ≡ Some x) same (order-finds all b (ordered header lines w is shard below) among),
+        subst (λ (x : Batch). own_message (filter (is_of x.domain x.workflow) all) all x ≡ Some sent) same e,
+      )
 
   -- what is sent again may arrive
   pub again-may : (reader : ClusterNo) → IsCluster header reader → AllByRecursion (MayArrive header reader shard w) (sent_again header reader w shard)

@@ -33,9 +33,10 @@ together : (header : Header) (w : World) (links : List Link) → AllByRecursion 
     → AllByRecursion (λ link. AllByRecursion (λ domain. names_cluster link.reader (record_of (cluster_at link.source w).table domain) ≡ true) link.late) links
     → AllByRecursion (IsLinkFit header w) links
 together header w [] ends many lanes named late = tt
-together header w (link ∷ links) ends many lanes named late =
-    (record { ends = ends.0; many = many.0; lanes = λ shard below. record { is_true = lanes.0 shard below; named = named.0 shard below }; late = late.0 },
-    together header w links ends.1 many.1 lanes.1 named.1 late.1)
+together header w (link ∷ links) ends many lanes named late = (
+  record { ends = ends.0; many = many.0; lanes = λ shard below. record { is_true = lanes.0 shard below; named = named.0 shard below }; late = late.0 },
+  together header w links ends.1 many.1 lanes.1 named.1 late.1,
+)
 
 -- each link of a world that is as it should be
 pub links-fit : (header : Header) (lines : ℕ) (w : World) → IsReached header lines w → AllByRecursion (IsLinkFit header w) w.links
