@@ -1,5 +1,5 @@
 -- What holds of all items of a list.
-use Rattle.std.proofs.Common.{◌≡◌, ℕ, zero, suc, ◌+◌, ◌<◌, ◌≤◌, Bool, true, false, cond, if◌then◌else◌, List, [], ◌∷◌, ◌++◌, length, map, take, drop, remove, slice_get, slice_index_or, slice_set, Option, Some, None, ◌⊎◌, inl, inr, refl, sym, ◌∙◌, subst, ap, arith, min, true≢false}
+use Rattle.std.proofs.Common.{◌≡◌, ℕ, zero, suc, ◌+◌, ◌<◌, ◌≤◌, Bool, true, false, cond, if◌then◌else◌, List, [], ◌∷◌, ◌++◌, length, map, take, drop, remove, slice_get, slice_index_or, slice_set, Some, inl, inr, refl, sym, ◌∙◌, subst, ap, arith, min}
 use Rattle.std.specs.List.{AllByRecursion, IsAmong, filter, flat_map, fold, prefix_len, reduce}
 use Rattle.std.specs.Prelude.{find, unwrap_or}
 use Rattle.std.proofs.Math.Nat.{min-le_left, min-le_right}

@@ -1,5 +1,5 @@
 -- Lines that change nothing.
-use Rattle.std.proofs.Common.{◌≡◌, ℕ, Bool, true, false, List, [], ◌∷◌, ◌++◌, remove, slice_set, Option, Some, None, Result, Ok, Err, not, is_some, codes, cond, find, if◌then◌else◌, refl, sym, subst, ap, ◌∙◌, true≢false}
+use Rattle.std.proofs.Common.{◌≡◌, ℕ, Bool, true, false, List, [], ◌∷◌, ◌++◌, remove, slice_set, Option, Some, None, Result, Ok, Err, is_some, codes, cond, find, if◌then◌else◌, refl, sym, subst, ap, ◌∙◌, true≢false}
 use Rattle.std.proofs.lemmas.Bool.{and_parts}
 use Rattle.std.proofs.lemmas.Slice.Eq.{bytes_eq-Decides}
 use Rattle.ndc_command.specs.declared.refusal.CommandError.{CommandError}
@@ -8,23 +8,17 @@ use Rattle.ndc_event.specs.declared.batch.Batch.{Batch}
 use Rattle.ndc_cells.specs.Cells.{empty_cell}
 use Rattle.ndc_domain.specs.declared.clusters.ClusterNo.{ClusterNo}
 use Rattle.ndc_domain.specs.declared.record.DomainRecord.{DomainRecord}
-use Rattle.ndc_domain.specs.declared.record.FailoverError.{FailoverError}
 use Rattle.ndc_domain.specs.declared.record.JoinError.{JoinError}
 use Rattle.ndc_event.specs.declared.name.Name.{Name}
 use Rattle.ndc_act.specs.declared.script.Act.{Act}
 use Rattle.ndc_act.specs.declared.script.Act.TheVariants as act
 use Rattle.ndc_act.specs.declared.script.Header.{Header}
-use Rattle.ndc_command.specs.declared.refusal.Refusal.TheVariants.{NotActive}
-use Rattle.ndc_domain.specs.Clusters.{writer_of}
-use Rattle.ndc_domain.specs.Records.{failover_of, record_of}
-use Rattle.ndc_text.specs.Read.{read_of}
-use Rattle.ndc_text.specs.declared.form.TextForm.TheVariants.{Two}
 use Rattle.ndc_cells.specs.declared.job.Job.{Job}
 use Rattle.ndc_cells.specs.declared.job.Job.TheVariants as job
 use Rattle.ndc_cells.specs.declared.message.Message.{Message}
 use Rattle.ndc_cells.specs.Jobs.{after_job, cells_after, learned_in, outcome_of, replies_to, written_at, written_now, written_outcome}
 use Rattle.ndc_cells.specs.Shards.{shard_of}
-use Rattle.ndc_cells.specs.Writing.{Entry, command_of, is_writer, reset_at, same_cluster}
+use Rattle.ndc_cells.specs.Writing.{Entry, command_of, reset_at, same_cluster}
 use Rattle.ndc_graceful.specs.Begin.{begin_of}
 use Rattle.ndc_graceful.specs.declared.handover.BeginError.{BeginError}
 use Rattle.ndc_graceful.specs.declared.handover.Handover.{Handover}
@@ -42,8 +36,8 @@ use Rattle.ndc_model.specs.Sending.{flight_step}
 use Rattle.ndc_model.specs.Moves.{jobs_done}
 use Rattle.ndc_model.specs.Steps.{Stepped, answered, command_step, outcome_answer, reset_step, seen_of}
 use Rattle.ndc_model.specs.Tables.{join_step, table_step}
-use Rattle.ndc_model.specs.Texts.{ok, refusal_words, refused}
-use Rattle.ndc_model.specs.World.{World, cell_at, cluster_at, flight_at, home_at, is_late_in, link_at, with_cells, with_flight}
+use Rattle.ndc_model.specs.Texts.{ok, refused}
+use Rattle.ndc_model.specs.World.{World, cell_at, cluster_at, flight_at, home_at, with_cells, with_flight}
 use Rattle.ndc_model.proofs.WorldLemmas.{same-cells, set-same}
 
 -- a step that changes nothing where it refuses; an answer that ends a handover aside

@@ -1,9 +1,8 @@
 -- Letters: messages that came damaged and were set aside.
-use Rattle.std.specs.Prelude.{ℕ, Bool, false, List, [], ◌∷◌, ◌++◌, length, take, codes, decimal, slice_get, option_map, Option, Some, None, Result, Ok, Err, if◌then◌else◌, remove}
+use Rattle.std.specs.Prelude.{ℕ, List, [], ◌∷◌, ◌++◌, length, codes, decimal, slice_get, option_map, Option, Some, None, if◌then◌else◌, remove}
 use Rattle.std.specs.List.{filter_map, flat_map}
 use Rattle.ndc_domain.specs.Clusters.{name_of}
 use Rattle.ndc_domain.specs.declared.clusters.ClusterNo.{ClusterNo}
-use Rattle.ndc_event.specs.declared.batch.Batch.{Batch}
 use Rattle.ndc_act.specs.declared.script.Header.{Header}
 use Rattle.ndc_text.specs.Views.{key_text}
 use Rattle.ndc_cells.specs.declared.job.ShardJob.{ShardJob}
