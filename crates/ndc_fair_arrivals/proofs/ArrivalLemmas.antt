@@ -1,6 +1,6 @@
 -- A message that arrives lets its cell grow.
-use Rattle.std.proofs.Common.{◌≡◌, ◌≢◌, ℕ, ◌<◌, Bool, true, false, not, cond, ◌&&◌, if◌then◌else◌, List, [], ◌∷◌, Option, Some, None, IfSome, ◌⊎◌, inl, inr, refl, sym, ◌∙◌, subst, ap, true≢false}
-use Rattle.std.specs.List.{AllByRecursion, IsAmong, cons_option, filter, filter_map}
+use Rattle.std.proofs.Common.{◌≡◌, ℕ, ◌<◌, Bool, true, false, not, cond, if◌then◌else◌, List, [], ◌∷◌, Option, Some, None, IfSome, refl, sym, ◌∙◌, subst, ap, true≢false}
+use Rattle.std.specs.List.{AllByRecursion, IsAmong, filter, filter_map}
 use Rattle.std.specs.Option.{option_or}
 use Rattle.std.specs.Prelude.{find, is_some}
 use Rattle.std.proofs.lemmas.Bool.{and_parts}
@@ -8,7 +8,7 @@ use Rattle.ndc_act.specs.WellFormed.{IsCluster}
 use Rattle.ndc_act.specs.declared.script.Header.{Header}
 use Rattle.ndc_cells.specs.declared.message.Message.{Message}
 use Rattle.ndc_cells.specs.declared.place.Place.{Place}
-use Rattle.ndc_cells.specs.Arrival.{arrived_at, cell_with, has_arrived, message_placed, placed_second, still_waiting}
+use Rattle.ndc_cells.specs.Arrival.{arrived_at, cell_with, has_arrived, message_placed, placed_second}
 use Rattle.ndc_cells.specs.Cells.{Cell, carries, is_learned_in, learned_of, message_of, own_message, put_off_in}
 use Rattle.ndc_cells.specs.Places.{AreInOrder, batch_there, is_at, is_of, place_lt, place_of, placed}
 use Rattle.ndc_cells.proofs.PlaceLemmas.{all-placed, both-add, placed-in-order}
@@ -17,20 +17,20 @@ use Rattle.ndc_event.specs.declared.batch.Batch.{Batch}
 use Rattle.ndc_event.specs.declared.key.BatchKey.{BatchKey}
 use Rattle.ndc_event.specs.declared.name.Name.{Name}
 use Rattle.ndc_model.specs.Facts.{IsReached}
-use Rattle.ndc_model.specs.Fair.{AreMessagesTrue, IsArrivedFit, IsMessageTrue, is_named}
+use Rattle.ndc_model.specs.Fair.{IsMessageTrue, is_named}
 use Rattle.ndc_model.specs.Moves.{all_written, messages_among}
 use Rattle.ndc_model.specs.World.{World, cell_at}
 use Rattle.ndc_model.proofs.LetterLemmas.{is_at-own}
 use Rattle.ndc_model.proofs.ListLemmas.{all-filter, among-is, is-among}
 use Rattle.ndc_sets.specs.Learned.{IsPart, has_key}
 use Rattle.ndc_sets.specs.Paths.{is_wanted}
-use Rattle.ndc_sets.specs.Sets.{Has, PointsBack, batch_at}
+use Rattle.ndc_sets.specs.Sets.{PointsBack, batch_at}
 use Rattle.ndc_sets.proofs.Lists.{Among, find-among, find-only}
 use Rattle.ndc_sets.proofs.SetLemmas.{found-has, found-key, has-found}
-use Rattle.ndc_fair_arrivals.proofs.CellLemmas.{IsGrown, LearnedMore}
+use Rattle.ndc_fair_arrivals.proofs.CellLemmas.{IsGrown}
 use Rattle.ndc_fair_arrivals.proofs.FoundLemmas.{at-place, find-passes, or-none, order-finds, placed-stays, placed-there, there-among}
 use Rattle.ndc_fair_arrivals.proofs.WaitingLemmas.{IsFresh, filter-messages, message-there, placed-within, placed-without}
-use Rattle.ndc_fair_arrivals.proofs.WrittenLemmas.{arrived-written, carried-alone, cell-is, names-of, one-carried, one-carrier, one-written, ordered, points-back, wanted-some}
+use Rattle.ndc_fair_arrivals.proofs.WrittenLemmas.{carried-alone, cell-is, names-of, one-carried, one-carrier, one-written, ordered, points-back, wanted-some}
 
 -- what is learned with a key is learned in more
 pub key-more : (one two : List Batch) (key : BatchKey) → IsPart one two → has_key (Some key) one ≡ true → has_key (Some key) two ≡ true

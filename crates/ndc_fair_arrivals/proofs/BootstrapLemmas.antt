@@ -1,6 +1,6 @@
 -- A member that is late is brought all that it lacks, and is late no more.
-use Rattle.std.proofs.Common.{◌≡◌, ◌≢◌, ℕ, ◌<◌, Bool, true, false, ◌&&◌, ◌||◌, cond, if◌then◌else◌, List, [], ◌∷◌, take, Option, Some, None, ◌⊎◌, inl, inr, refl, sym, ◌∙◌, subst, ap, true≢false}
-use Rattle.std.specs.List.{AllByRecursion, IsAmong, filter, filter_map, flat_map, list_any}
+use Rattle.std.proofs.Common.{◌≡◌, ℕ, ◌<◌, Bool, true, false, ◌&&◌, ◌||◌, if◌then◌else◌, List, [], ◌∷◌, take, Option, Some, None, inl, inr, refl, sym, ◌∙◌, subst, ap, true≢false}
+use Rattle.std.specs.List.{AllByRecursion, IsAmong, filter, flat_map, list_any}
 use Rattle.std.specs.Prelude.{find, is_some, not, option_to_list}
 use Rattle.std.specs.Str.{bytes_eq}
 use Rattle.std.proofs.lemmas.Bool.{and_from, and_parts, or_left}
@@ -12,7 +12,7 @@ use Rattle.ndc_cells.specs.Arrival.{has_arrived}
 use Rattle.ndc_cells.specs.Cells.{Cell, arrived_of, both, carries, is_learned_in, is_message_learned, is_second_learned, learned_message, learned_of, message_of}
 use Rattle.ndc_cells.specs.Writing.{same_cluster}
 use Rattle.ndc_event.specs.Key.{key_eq}
-use Rattle.ndc_cells.specs.Places.{batch_there, is_at, is_of, place_of}
+use Rattle.ndc_cells.specs.Places.{batch_there, is_of, place_of}
 use Rattle.ndc_cells.proofs.PlaceLemmas.{set_of_workflow}
 use Rattle.ndc_domain.specs.Records.{record_of}
 use Rattle.ndc_domain.specs.declared.clusters.ClusterNo.{ClusterNo}
@@ -25,10 +25,10 @@ use Rattle.ndc_model.specs.Moves.{all_arrive, all_written, learned_of_domains, r
 use Rattle.ndc_model.specs.Queues.{is_addressed, names_cluster, needs_nothing}
 use Rattle.ndc_model.specs.World.{Link, World, cell_at, cluster_at, is_late_in, is_link, lane_in, link_at, link_found, queue_at, shards_of, with_link}
 use Rattle.ndc_model.proofs.ListLemmas.{all-self, all-take, is-among}
-use Rattle.ndc_sets.specs.Learned.{IsClosed, IsPart, has_key, learned}
+use Rattle.ndc_sets.specs.Learned.{IsPart, has_key}
 use Rattle.ndc_sets.specs.Paths.{is_wanted}
-use Rattle.ndc_sets.specs.Sets.{Has, IsSet, batch_at, earlier, earlier_of}
-use Rattle.ndc_sets.proofs.BranchLemmas.{among-has, has-among}
+use Rattle.ndc_sets.specs.Sets.{Has, batch_at, earlier_of}
+use Rattle.ndc_sets.proofs.BranchLemmas.{among-has}
 use Rattle.ndc_sets.proofs.KeyLemmas.{key_eq-self}
 use Rattle.ndc_sets.proofs.LearnedLemmas.{closed_part, learned_closed}
 use Rattle.ndc_sets.proofs.Lists.{Among, all-among, all-from, among-filter, among-filter_map, filter-among, filter_map-among, find-among, find-only}
@@ -41,7 +41,7 @@ use Rattle.ndc_fair_arrivals.proofs.BringLemmas.{HasCome, IsBrought, MayArrive, 
 use Rattle.ndc_fair_arrivals.proofs.FoundLemmas.{find-passes, there-among, there-place}
 use Rattle.ndc_fair_arrivals.proofs.ManyLemmas.{among-flat, by-shard, one-cluster}
 use Rattle.ndc_fair_arrivals.proofs.MessageLemmas.{learned-arrived, learned-true, second-same}
-use Rattle.ndc_fair_arrivals.proofs.WrittenLemmas.{arrived-written, carried-alone, cell-is, has-written, names-of, one-carried, one-written, own-names}
+use Rattle.ndc_fair_arrivals.proofs.WrittenLemmas.{arrived-written, carried-alone, cell-is, has-written, names-of, one-carried, one-written}
 
 -- one of those passes, where some does
 any-one : {X : Type 0} (p : X → Bool) (xs : List X) → list_any p xs ≡ true → (x : X) × Among x xs × (p x ≡ true)

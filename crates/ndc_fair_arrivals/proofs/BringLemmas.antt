@@ -1,12 +1,10 @@
 -- Messages that arrive one after the other at a cluster.
-use Rattle.std.proofs.Common.{◌≡◌, ◌≢◌, ℕ, zero, suc, ◌<◌, Bool, true, false, ◌&&◌, cond, if◌then◌else◌, List, [], ◌∷◌, ◌++◌, length, map, slice_index_or, slice_set, Option, Some, None, ◌⊎◌, inl, inr, refl, sym, ◌∙◌, subst, ap, arith, true≢false}
-use Rattle.std.specs.List.{AllByRecursion, IsAmong, filter, filter_map, flat_map}
-use Rattle.std.specs.Option.{option_or}
+use Rattle.std.proofs.Common.{◌≡◌, ◌≢◌, ℕ, zero, suc, ◌<◌, true, List, [], ◌∷◌, length, slice_index_or, slice_set, Option, Some, None, refl, sym, ◌∙◌, subst, ap, arith, true≢false}
+use Rattle.std.specs.List.{AllByRecursion, filter}
 use Rattle.std.specs.Prelude.{is_some}
 use Rattle.ndc_act.specs.WellFormed.{IsCluster}
 use Rattle.ndc_act.specs.declared.script.Header.{Header}
 use Rattle.ndc_cells.specs.declared.job.Job.TheVariants.{Arrive}
-use Rattle.ndc_cells.specs.declared.job.Job.{Job}
 use Rattle.ndc_cells.specs.declared.job.ShardJob.{ShardJob}
 use Rattle.ndc_cells.specs.declared.message.Message.{Message}
 use Rattle.ndc_cells.specs.declared.place.Place.{Place}
@@ -18,15 +16,11 @@ use Rattle.ndc_cells.specs.Writing.{Home}
 use Rattle.ndc_domain.specs.declared.clusters.ClusterNo.{ClusterNo}
 use Rattle.ndc_domain.specs.declared.record.DomainRecord.{DomainRecord}
 use Rattle.ndc_event.specs.declared.batch.Batch.{Batch}
-use Rattle.ndc_event.specs.declared.name.Name.{Name}
 use Rattle.ndc_model.specs.Facts.{IsReached}
 use Rattle.ndc_model.specs.Fair.{IsMessageTrue, IsShaped, is_named}
-use Rattle.ndc_model.specs.Moves.{Trace, all_arrive, arrives, jobs_done}
-use Rattle.ndc_model.specs.World.{Cluster, World, cell_at, cluster_at, home_at, new_cluster, shards_of, with_cells}
-use Rattle.ndc_model.proofs.ListLemmas.{all-append, all-weaker}
-use Rattle.ndc_model.proofs.WorldLemmas.{cells-cases, same-cells, set-cases}
-use Rattle.ndc_sets.proofs.Lists.{Among, all-from, map-among}
-use Rattle.ndc_fair_lanes.proofs.FrameLemmas.{batches_in, named_by, queues_in, tables_in}
+use Rattle.ndc_model.specs.Moves.{Trace, arrives, jobs_done}
+use Rattle.ndc_model.specs.World.{Cluster, World, cell_at, cluster_at, home_at, new_cluster, with_cells}
+use Rattle.ndc_fair_lanes.proofs.FrameLemmas.{named_by}
 use Rattle.ndc_fair_arrivals.proofs.ArrivalLemmas.{arrival-grown, arrived-itself, arrived-stays, second-arrived}
 use Rattle.ndc_fair_arrivals.proofs.CellLemmas.{IsGrown, IsKept, by-cell, cell-grown}
 

@@ -1,15 +1,13 @@
 -- A cell that has grown, and the world with it.
-use Rattle.std.proofs.Common.{◌≡◌, ℕ, zero, suc, ◌<◌, ◌≤◌, Bool, true, false, ◌&&◌, ◌||◌, not, List, [], ◌∷◌, length, map, take, slice_index_or, slice_set, Option, Some, None, refl, sym, ◌∙◌, subst, ap, arith}
-use Rattle.std.specs.List.{AllByRecursion, IsAmong, filter, flat_map}
+use Rattle.std.proofs.Common.{◌≡◌, ℕ, zero, suc, ◌<◌, ◌≤◌, Bool, true, false, ◌||◌, not, List, [], ◌∷◌, length, map, take, slice_index_or, slice_set, Option, Some, None, refl, sym, ◌∙◌, subst, ap, arith}
+use Rattle.std.specs.List.{AllByRecursion, IsAmong, flat_map}
 use Rattle.std.proofs.lemmas.Bool.{and_from, and_parts, or_left, or_right}
 use Rattle.ndc_act.specs.WellFormed.{IsCluster}
 use Rattle.ndc_act.specs.declared.script.Header.{Header}
 use Rattle.ndc_cells.specs.declared.message.Message.{Message}
-use Rattle.ndc_cells.specs.declared.place.Place.{Place}
 use Rattle.ndc_cells.specs.Cells.{Cell, both, empty_cell, is_learned_in, is_message_learned, is_second_learned, learned_of}
 use Rattle.ndc_cells.specs.Jobs.{cell_for}
 use Rattle.ndc_cells.specs.Places.{in_order, place_of}
-use Rattle.ndc_domain.specs.Clusters.{count_of}
 use Rattle.ndc_domain.specs.declared.clusters.ClusterNo.{ClusterNo}
 use Rattle.ndc_domain.specs.declared.record.DomainRecord.{DomainRecord}
 use Rattle.ndc_event.specs.declared.batch.Batch.{Batch}
@@ -19,12 +17,10 @@ use Rattle.ndc_model.specs.Fair.{AreMembersKnown, AreMessagesTrue, IsArrivedFit,
 use Rattle.ndc_domain.specs.Records.{record_of}
 use Rattle.ndc_model.specs.Queues.{is_addressed, names_cluster, needs_nothing}
 use Rattle.ndc_model.specs.World.{Cluster, Link, World, all_clusters, cell_at, cluster_at, is_late_in, lane_in, new_cluster, queue_at, with_cells}
-use Rattle.ndc_model.proofs.ListLemmas.{all-set, all-take, all-weaker}
+use Rattle.ndc_model.proofs.ListLemmas.{all-set, all-weaker}
 use Rattle.ndc_model.proofs.WorldLemmas.{cells-cases, set-cases}
-use Rattle.ndc_sets.specs.Learned.{IsPart, has_key}
-use Rattle.ndc_sets.specs.Sets.{Has, batch_at}
-use Rattle.ndc_fair_lanes.proofs.FrameLemmas.{WroteAlike, arrival-alike, batches_in, beats-alike, copies-alike, handovers-alike, letters-alike, letters_in, message-alike, named_by, numbers-alike, places_in, queues_in, ranges-alike, records-alike, reports-alike, reports_in, tables_in, writing-alike}
-use Rattle.ndc_fair_lanes.proofs.LinkLemmas.{IsLinkFit, links-fit}
+use Rattle.ndc_sets.specs.Sets.{Has}
+use Rattle.ndc_fair_lanes.proofs.FrameLemmas.{WroteAlike, arrival-alike, batches_in, beats-alike, copies-alike, handovers-alike, letters-alike, letters_in, message-alike, named_by, numbers-alike, queues_in, ranges-alike, records-alike, reports-alike, reports_in, tables_in, writing-alike}
 
 -- what a cell has learned is learned in another one too
 abbrev pub LearnedMore : Cell → Cell → Type 0

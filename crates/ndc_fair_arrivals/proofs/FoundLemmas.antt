@@ -1,13 +1,13 @@
 -- What is found at places, in lists in order.
-use Rattle.std.proofs.Common.{◌≡◌, Bool, true, false, ◌&&◌, cond, if◌then◌else◌, List, [], ◌∷◌, Option, Some, None, ◌⊎◌, inl, inr, refl, sym, ◌∙◌, subst, ap, true≢false}
-use Rattle.std.specs.List.{AllByRecursion, filter, fold}
-use Rattle.std.specs.Prelude.{find, is_some}
+use Rattle.std.proofs.Common.{◌≡◌, Bool, true, false, ◌&&◌, cond, List, [], ◌∷◌, Option, Some, None, ◌⊎◌, inl, inr, refl, sym, ◌∙◌, subst, ap}
+use Rattle.std.specs.List.{filter, fold}
+use Rattle.std.specs.Prelude.{find}
 use Rattle.std.specs.Option.{option_or}
 use Rattle.std.specs.Str.{bytes_eq}
 use Rattle.std.proofs.lemmas.Bool.{and_parts}
 use Rattle.std.proofs.lemmas.Slice.Eq.{bytes_eq-Decides}
 use Rattle.ndc_cells.specs.declared.place.Place.{Place}
-use Rattle.ndc_cells.specs.Places.{AreBehind, AreInOrder, batch_there, in_order, is_at, is_of, place_lt, place_of, placed}
+use Rattle.ndc_cells.specs.Places.{AreBehind, AreInOrder, batch_there, is_at, is_of, place_lt, place_of, placed}
 use Rattle.ndc_cells.proofs.PlaceLemmas.{PlaceIsBefore, WorkflowIsBefore, behind-trans, place-parts, placed-cases, placed-in-order}
 use Rattle.ndc_domain.specs.Records.{names_cmp}
 use Rattle.ndc_domain.proofs.Order.{names_same}

@@ -1,21 +1,19 @@
 -- What the laws say of arrivals.
-use Rattle.std.proofs.Common.{◌≡◌, ℕ, ◌<◌, List, []}
+use Rattle.std.proofs.Common.{ℕ, ◌<◌}
 use Rattle.ndc_act.specs.WellFormed.{AreTwoClusters, IsCluster}
 use Rattle.ndc_act.specs.declared.script.Header.{Header}
 use Rattle.ndc_domain.specs.declared.clusters.ClusterNo.{ClusterNo}
 use Rattle.ndc_model.specs.Facts.{IsReached}
 use Rattle.ndc_model.specs.Letters.{damage_step, letters_merged, purge_step}
-use Rattle.ndc_model.specs.Moves.{Trace, all_arrive, bootstrapped, by_link, due, due_arrived, flights_arrived, from_world, in_flight, jobs_done, resent, sent_again, without_flights_to}
+use Rattle.ndc_model.specs.Moves.{Trace, bootstrapped, by_link, due, due_arrived, flights_arrived, in_flight, jobs_done, resent, sent_again, without_flights_to}
 use Rattle.ndc_model.specs.World.{World}
 use Rattle.ndc_fair_lanes.proofs.LaneLemmas.{emptied-to, renewed-all}
 use Rattle.ndc_fair_arrivals.proofs.BootstrapLemmas.{bootstrap-kept}
-use Rattle.ndc_fair_arrivals.proofs.BringLemmas.{IsBrought, MayArrive}
-use Rattle.ndc_fair_arrivals.proofs.CellLemmas.{IsKept}
+use Rattle.ndc_fair_arrivals.proofs.BringLemmas.{MayArrive}
 use Rattle.ndc_fair_arrivals.proofs.LetterLemmas.{damaged-kept, letters-merged, purged-kept}
 use Rattle.ndc_fair_arrivals.proofs.ManyLemmas.{by-shard, due-may, flights-may}
 use Rattle.ndc_fair_arrivals.proofs.MessageLemmas.{again-may}
 use Rattle.ndc_model.proofs.ListLemmas.{all-weaker}
-use Rattle.std.specs.List.{AllByRecursion}
 
 -- all that is in flight to a reader arrives
 pub flights_kept : (header : Header) (lines : ℕ) (reader : ClusterNo) (w : World) → IsCluster header reader → IsReached header lines w → IsReached header lines (flights_arrived header reader w).world

@@ -1,5 +1,5 @@
 -- Letters: set aside, dropped, and brought again.
-use Rattle.std.specs.Prelude.{codes, find, not}
+use Rattle.std.specs.Prelude.{codes, find}
 use Rattle.std.proofs.lemmas.Bool.{and_parts}
 use Rattle.std.proofs.lemmas.Nat.{mod_below}
 use Rattle.ndc_cells.specs.Cells.{arrived_of}
@@ -21,33 +21,31 @@ use Rattle.ndc_fair_arrivals.proofs.FoundLemmas.{find-passes, there-among}
 use Rattle.ndc_fair_arrivals.proofs.ManyLemmas.{many, one-cluster}
 use Rattle.ndc_fair_arrivals.proofs.MessageLemmas.{learned-arrived, learned-true}
 use Rattle.ndc_fair_arrivals.proofs.WrittenLemmas.{cell-is, lives, names-of}
-use Rattle.std.proofs.Common.{◌≡◌, ℕ, zero, suc, ◌%◌, ◌<◌, ◌≤◌, Bool, true, false, cond, ◌||◌, if◌then◌else◌, List, [], ◌∷◌, ◌++◌, length, map, remove, slice_get, slice_index_or, slice_set, Option, Some, None, option_map, inl, inr, refl, sym, ◌∙◌, subst, ap, arith}
-use Rattle.std.specs.List.{AllByRecursion, IsAmong, cons_option, filter_map, flat_map, list_any}
-use Rattle.std.specs.Prelude.{is_some}
+use Rattle.std.proofs.Common.{◌≡◌, ℕ, zero, suc, ◌<◌, Bool, true, false, if◌then◌else◌, List, [], ◌∷◌, ◌++◌, length, remove, slice_get, slice_index_or, slice_set, Option, Some, None, option_map, refl, sym, ◌∙◌, subst, ap, arith}
+use Rattle.std.specs.List.{AllByRecursion, IsAmong, filter_map, list_any}
 use Rattle.ndc_act.specs.WellFormed.{AreTwoClusters, IsCluster}
 use Rattle.ndc_act.specs.declared.script.Header.{Header}
 use Rattle.ndc_cells.specs.declared.message.Message.{Message}
 use Rattle.ndc_cells.specs.declared.job.ShardJob.{ShardJob}
-use Rattle.ndc_cells.specs.Cells.{Cell, both, learned_message, learned_of, message_at, message_found}
+use Rattle.ndc_cells.specs.Cells.{Cell, learned_message, learned_of, message_found}
 use Rattle.ndc_cells.specs.Jobs.{cell_for}
-use Rattle.ndc_cells.specs.Places.{batch_there, in_order, is_at, is_of, place_of}
+use Rattle.ndc_cells.specs.Places.{batch_there, is_at, place_of}
 use Rattle.ndc_cells.specs.Shards.{hash_of, shard_of}
 use Rattle.ndc_domain.specs.declared.clusters.ClusterNo.{ClusterNo}
-use Rattle.ndc_domain.specs.declared.record.DomainRecord.{DomainRecord}
 use Rattle.ndc_event.specs.declared.batch.Batch.{Batch}
 use Rattle.ndc_event.specs.declared.name.Name.{Name}
 use Rattle.ndc_letters.specs.declared.letter.Letter.{Letter}
 use Rattle.ndc_letters.specs.Letters.{is_whole, letter_of, place_of_letter}
 use Rattle.ndc_model.specs.Facts.{IsLetterFit, IsReached}
-use Rattle.ndc_model.specs.Fair.{AreMembersKnown, AreMessagesTrue, IsArrivedFit, IsOwn, IsShaped, is_named}
+use Rattle.ndc_model.specs.Fair.{IsShaped, is_named}
 use Rattle.ndc_model.specs.Letters.{damage_at, damage_step, damaged, letter_job, letters_merged, purge_step, with_letters}
-use Rattle.ndc_model.specs.Moves.{arrives, from_world, renewed}
-use Rattle.ndc_model.specs.World.{Cluster, Link, World, all_clusters, cell_at, cell_of, cluster_at, flight_at, new_cluster, queue_at, with_flight}
+use Rattle.ndc_model.specs.Moves.{arrives}
+use Rattle.ndc_model.specs.World.{Cluster, Link, World, cell_of, cluster_at, flight_at, new_cluster, queue_at, with_flight}
 use Rattle.ndc_model.proofs.LetterLemmas.{is_at-own}
 use Rattle.ndc_model.proofs.ListLemmas.{all-append, all-got, all-remove, all-set, is-among}
 use Rattle.ndc_model.proofs.WorldLemmas.{set-cases}
 use Rattle.ndc_sets.proofs.Lists.{Among, all-among, all-from, list_any-one}
-use Rattle.ndc_fair_lanes.proofs.FrameLemmas.{WroteAlike, arrivals-alike, beats-alike, cells_in, copies-alike, handovers-alike, letter-alike, messages-alike, numbers-alike, queues_in, ranges-alike, records-alike, reports-alike, reports_in, tables_in, writers-alike, writing-alike}
+use Rattle.ndc_fair_lanes.proofs.FrameLemmas.{beats-alike, cells_in, handovers-alike, letter-alike, queues_in, ranges-alike, reports-alike, reports_in, tables_in}
 use Rattle.ndc_fair_lanes.proofs.LaneLemmas.{flight-put, renewed-all}
 use Rattle.ndc_fair_lanes.proofs.LinkLemmas.{IsLinkFit, links-fit}
 

@@ -1,11 +1,10 @@
 -- Many messages that arrive at a cluster: what is in flight, and what is due.
-use Rattle.std.proofs.Common.{◌≡◌, ◌≢◌, ℕ, zero, suc, ◌+◌, ◌<◌, Bool, true, false, if◌then◌else◌, List, [], ◌∷◌, ◌++◌, map, drop, ◌⊎◌, inl, inr, refl, sym, ◌∙◌, subst, ap, arith}
-use Rattle.std.specs.List.{AllByRecursion, IsAmong, filter, flat_map, range_with_len}
+use Rattle.std.proofs.Common.{◌≡◌, ℕ, zero, suc, ◌+◌, ◌<◌, Bool, true, false, if◌then◌else◌, List, [], ◌∷◌, map, drop, inl, inr, refl, sym, subst, arith}
+use Rattle.std.specs.List.{AllByRecursion, IsAmong, flat_map, range_with_len}
 use Rattle.std.proofs.lemmas.Bool.{eqb-true}
 use Rattle.ndc_act.specs.WellFormed.{IsCluster}
 use Rattle.ndc_act.specs.declared.script.Header.{Header}
 use Rattle.ndc_cells.specs.declared.job.Job.TheVariants.{Arrive}
-use Rattle.ndc_cells.specs.declared.job.Job.{Job}
 use Rattle.ndc_cells.specs.declared.job.ShardJob.{ShardJob}
 use Rattle.ndc_cells.specs.declared.message.Message.{Message}
 use Rattle.ndc_cells.specs.Jobs.{cells_after}
@@ -13,10 +12,10 @@ use Rattle.ndc_cells.specs.Writing.{same_cluster}
 use Rattle.ndc_domain.specs.declared.clusters.ClusterNo.{ClusterNo}
 use Rattle.ndc_model.specs.Facts.{IsReached}
 use Rattle.ndc_model.specs.Fair.{IsMessageTrue, is_named}
-use Rattle.ndc_model.specs.Moves.{all_arrive, arrives, by_link, due, in_flight, without_flights_to}
+use Rattle.ndc_model.specs.Moves.{all_arrive, arrives, by_link, due, in_flight}
 use Rattle.ndc_model.specs.Queues.{is_addressed}
 use Rattle.ndc_model.specs.World.{Link, World, cluster_at, lane_in, queue_at, shards_of}
-use Rattle.ndc_model.proofs.ListLemmas.{all-append, all-drop, all-filter, all-flat, all-self, all-weaker, filter-passes, is-among}
+use Rattle.ndc_model.proofs.ListLemmas.{all-drop, all-flat, all-self, all-weaker, is-among}
 use Rattle.ndc_model.proofs.WorldLemmas.{same-cells}
 use Rattle.ndc_sets.proofs.ForkLemmas.{among-left, among-right}
 use Rattle.ndc_sets.proofs.Lists.{Among, all-among, all-from, among-map, filter-among}

@@ -1,31 +1,26 @@
 -- Messages of what a cell has learned, and those that are sent again.
-use Rattle.std.proofs.Common.{◌≡◌, ℕ, ◌<◌, Bool, true, false, ◌&&◌, cond, if◌then◌else◌, List, [], ◌∷◌, Option, Some, None, ◌⊎◌, inl, inr, refl, sym, ◌∙◌, subst, ap, true≢false}
-use Rattle.std.specs.List.{AllByRecursion, cons_option, filter, filter_map, flat_map, list_any}
+use Rattle.std.proofs.Common.{◌≡◌, ℕ, ◌<◌, Bool, true, false, cond, if◌then◌else◌, List, [], ◌∷◌, Option, Some, None, ◌⊎◌, inl, inr, refl, sym, ◌∙◌, subst, ap, true≢false}
+use Rattle.std.specs.List.{AllByRecursion, filter, flat_map}
 use Rattle.std.specs.Prelude.{find, is_some, not}
-use Rattle.std.specs.Str.{bytes_eq}
-use Rattle.std.proofs.lemmas.Bool.{and_from, and_parts}
-use Rattle.std.proofs.lemmas.Slice.Eq.{bytes_eq-Decides}
-use Rattle.ndc_act.specs.WellFormed.{AreTwoClusters, IsCluster}
+use Rattle.ndc_act.specs.WellFormed.{IsCluster}
 use Rattle.ndc_act.specs.declared.script.Header.{Header}
 use Rattle.ndc_cells.specs.declared.message.Message.{Message}
 use Rattle.ndc_cells.specs.Arrival.{has_arrived}
-use Rattle.ndc_cells.specs.Cells.{Cell, ancestors_down, ancestors_over, ancestry, arrived_of, carries, is_learned_in, learned_message, learned_of, message_of, own_message, put_off_in}
-use Rattle.ndc_cells.specs.Places.{batch_there, in_order, is_of, place_of, placed}
+use Rattle.ndc_cells.specs.Cells.{Cell, ancestors_down, arrived_of, carries, is_learned_in, learned_message, learned_of, own_message, put_off_in}
+use Rattle.ndc_cells.specs.Places.{batch_there, in_order, is_of, place_of}
 use Rattle.ndc_cells.proofs.PlaceLemmas.{set_of_workflow}
-use Rattle.ndc_domain.specs.Records.{record_of}
 use Rattle.ndc_domain.specs.declared.clusters.ClusterNo.{ClusterNo}
 use Rattle.ndc_event.specs.declared.batch.Batch.{Batch}
 use Rattle.ndc_event.specs.declared.batch.Event.{Event}
 use Rattle.ndc_event.specs.declared.name.Name.{Name}
 use Rattle.ndc_model.specs.Facts.{IsReached}
 use Rattle.ndc_model.specs.Fair.{IsMessageTrue, is_named}
-use Rattle.ndc_model.specs.Moves.{all_written, ancestors_of, learned_of_domains, messages_among, missing_ancestors, sent_again}
-use Rattle.ndc_model.specs.World.{World, cell_at, cluster_at, link_at}
+use Rattle.ndc_model.specs.Moves.{all_written, ancestors_of, missing_ancestors, sent_again}
+use Rattle.ndc_model.specs.World.{World, cell_at}
 use Rattle.ndc_model.proofs.ListLemmas.{among-is}
-use Rattle.ndc_sets.specs.Learned.{IsClosed, IsPart, has_key, learned}
+use Rattle.ndc_sets.specs.Learned.{IsPart}
 use Rattle.ndc_sets.specs.Paths.{Walk, events_to, is_wanted, path_to, versions_of}
-use Rattle.ndc_sets.specs.Sets.{Has, IsSet, batch_at, earlier}
-use Rattle.ndc_sets.specs.Sound.{IsSound}
+use Rattle.ndc_sets.specs.Sets.{Has, IsSet, earlier}
 use Rattle.ndc_sets.proofs.BranchLemmas.{among-has, has-among}
 use Rattle.ndc_sets.proofs.LearnedLemmas.{learned-reaches, learned_closed, reaches-has}
 use Rattle.ndc_sets.proofs.Lists.{Among, all-among, all-from, among-filter, filter-among, filter_map-among, find-among, find-only}

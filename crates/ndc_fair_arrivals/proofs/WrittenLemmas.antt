@@ -1,37 +1,34 @@
 -- What was written in a world that is as it should be.
-use Rattle.std.proofs.Common.{◌≡◌, ℕ, zero, suc, ◌+◌, ◌<◌, ◌≤◌, Bool, true, false, cond, ◌&&◌, if◌then◌else◌, List, [], ◌∷◌, length, Option, Some, None, ◌⊎◌, inl, inr, refl, sym, ◌∙◌, subst, ap, arith, true≢false}
-use Rattle.std.specs.List.{AllByRecursion, IsAmong, filter, flat_map, fold}
-use Rattle.std.specs.Prelude.{find, is_some}
+use Rattle.std.proofs.Common.{◌≡◌, ℕ, ◌<◌, Bool, true, false, if◌then◌else◌, List, [], ◌∷◌, length, Option, Some, None, ◌⊎◌, inl, inr, refl, sym, ◌∙◌, subst, ap, arith, true≢false}
+use Rattle.std.specs.List.{filter, flat_map, fold}
+use Rattle.std.specs.Prelude.{is_some}
 use Rattle.std.specs.Str.{bytes_eq}
 use Rattle.std.proofs.lemmas.Bool.{and_from, and_parts}
 use Rattle.std.proofs.lemmas.Slice.Eq.{bytes_eq-Decides}
 use Rattle.ndc_act.specs.WellFormed.{IsCluster}
 use Rattle.ndc_act.specs.declared.script.Header.{Header}
-use Rattle.ndc_cells.specs.declared.message.Message.{Message}
 use Rattle.ndc_cells.specs.declared.place.Place.{Place}
-use Rattle.ndc_cells.specs.Cells.{Cell, IsCell, arrived_of, both, carries, learned_of, own_message}
-use Rattle.ndc_cells.specs.Places.{AreInOrder, batch_there, in_order, is_at, is_of, place_lt, place_of, placed}
+use Rattle.ndc_cells.specs.Cells.{IsCell, both, carries}
+use Rattle.ndc_cells.specs.Places.{AreInOrder, batch_there, is_at, is_of, place_lt, place_of, placed}
 use Rattle.ndc_cells.specs.Shards.{shard_of}
 use Rattle.ndc_domain.specs.Clusters.{count_of}
 use Rattle.ndc_domain.specs.declared.clusters.ClusterNo.{ClusterNo}
-use Rattle.ndc_event.specs.Key.{key_eq}
 use Rattle.ndc_event.specs.declared.batch.Batch.{Batch}
 use Rattle.ndc_event.specs.declared.key.BatchKey.{BatchKey}
 use Rattle.ndc_event.specs.declared.name.Name.{Name}
 use Rattle.ndc_model.specs.Facts.{IsReached}
-use Rattle.ndc_model.specs.Fair.{IsMessageTrue, IsOwn, goes_on, written_of}
+use Rattle.ndc_model.specs.Fair.{IsOwn, goes_on, written_of}
 use Rattle.ndc_model.specs.Moves.{all_written}
 use Rattle.ndc_model.specs.World.{World, all_clusters, cell_at, cluster_at}
 use Rattle.ndc_model.proofs.FairLemmas.{clusters-among}
-use Rattle.ndc_model.proofs.ListLemmas.{among-is, is-among}
 use Rattle.ndc_sets.specs.Paths.{is_wanted}
-use Rattle.ndc_sets.specs.Sets.{Has, PointsBack, batch_at}
+use Rattle.ndc_sets.specs.Sets.{Has, PointsBack}
 use Rattle.ndc_sets.specs.Sound.{IsSound}
-use Rattle.ndc_sets.proofs.ForkLemmas.{among-cases, among-left, among-right}
+use Rattle.ndc_sets.proofs.ForkLemmas.{among-cases}
 use Rattle.ndc_sets.proofs.KeyLemmas.{same-keys}
-use Rattle.ndc_sets.proofs.Lists.{Among, all-among, all-from, among-filter, filter-among}
+use Rattle.ndc_sets.proofs.Lists.{Among, all-among, all-from, among-filter}
 use Rattle.ndc_sets.proofs.SoundLemmas.{faultless-back}
-use Rattle.ndc_fair_arrivals.proofs.FoundLemmas.{at-place, at-there, in_order-ordered, order-finds, placed-either, there-among, there-place}
+use Rattle.ndc_fair_arrivals.proofs.FoundLemmas.{at-there, in_order-ordered, order-finds, there-among}
 
 -- what stands in a flat map stands in one of its parts
 pub flat-among : {X Y : Type 0} (f : X → List Y) (xs : List X) (y : Y) → Among y (flat_map f xs) → (x : X) × Among x xs × Among y (f x)

@@ -1,5 +1,5 @@
 -- Worlds that differ in one part alone: what holds of all other parts stays.
-use Rattle.std.proofs.Common.{◌≡◌, ◌≢◌, ℕ, ◌<◌, ◌≤◌, Bool, true, false, ◌||◌, map, take, List, [], ◌∷◌, length, Option, Some, refl, sym, subst, if◌then◌else◌}
+use Rattle.std.proofs.Common.{◌≡◌, ◌≢◌, ℕ, ◌<◌, ◌≤◌, Bool, true, false, ◌||◌, map, take, List, [], ◌∷◌, length, Some, sym, subst, if◌then◌else◌}
 use Rattle.std.specs.List.{AllByRecursion, IsAmong, filter, flat_map, list_any}
 use Rattle.std.specs.Prelude.{AllPairs, IsSomeAnd, is_some, drop, not}
 use Rattle.ndc_act.specs.WellFormed.{IsCluster}
@@ -8,7 +8,7 @@ use Rattle.ndc_cells.specs.declared.message.Message.{Message}
 use Rattle.ndc_cells.specs.declared.place.Place.{Place}
 use Rattle.ndc_cells.specs.Cells.{Cell, both, carries, own_message, put_off_in}
 use Rattle.ndc_cells.specs.Arrival.{has_arrived}
-use Rattle.ndc_cells.specs.Places.{AreInOrder, batch_there, in_order, is_at, is_of, place_of}
+use Rattle.ndc_cells.specs.Places.{batch_there, in_order, is_at, is_of, place_of}
 use Rattle.ndc_cells.specs.Shards.{shard_of}
 use Rattle.ndc_domain.specs.Clusters.{writer_of}
 use Rattle.ndc_domain.specs.Laws.{DaysAgree}
@@ -21,12 +21,11 @@ use Rattle.ndc_graceful.specs.declared.handover.Handover.{Handover}
 use Rattle.ndc_letters.specs.declared.letter.Letter.{Letter}
 use Rattle.ndc_letters.specs.Letters.{place_of_letter}
 use Rattle.ndc_progress.specs.declared.report.Report.{Report}
-use Rattle.ndc_queue.specs.Levels.{AreLevels}
 use Rattle.ndc_sets.specs.Sets.{Has}
 use Rattle.ndc_sets.specs.Sound.{CopiesNamed, IsSound}
 use Rattle.ndc_text.specs.Ranges.{InRange}
 use Rattle.ndc_model.specs.Facts.{BeatsAreSmall, HandoversFit, IsHandoverFit, IsLetterFit, LettersFit, ReportsAgree, WritingIsInRange, is_old, place_in}
-use Rattle.ndc_model.specs.Fair.{AreMembersKnown, AreMessagesTrue, AreNumbersSmall, ArrivalsWereWritten, CopiesNameOriginals, HasRecordFrom, IsArrivedFit, IsFair, IsLaneTrue, IsConfigKnown, IsMessageTrue, IsOwn, IsRecordInRange, MessagesAreTrue, NumbersAreSmall, RecordsAgree, WritersUseOwnVersions, WritingIsSound, goes_on, is_named, places_written, primary}
+use Rattle.ndc_model.specs.Fair.{AreMembersKnown, AreMessagesTrue, AreNumbersSmall, ArrivalsWereWritten, CopiesNameOriginals, HasRecordFrom, IsArrivedFit, IsFair, IsLaneTrue, IsConfigKnown, IsOwn, IsRecordInRange, MessagesAreTrue, NumbersAreSmall, RecordsAgree, WritersUseOwnVersions, WritingIsSound, goes_on, is_named, places_written, primary}
 use Rattle.ndc_model.specs.Moves.{all_written, messages_among}
 use Rattle.ndc_model.specs.Queues.{Lane, names_cluster, needs_nothing}
 use Rattle.ndc_model.specs.World.{Link, World, all_clusters, cell_at, cluster_at, is_late_in, lane_in, queue_at, trimmed_at}

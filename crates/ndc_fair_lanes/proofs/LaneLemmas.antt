@@ -1,6 +1,6 @@
 -- Moves that change lanes alone.
-use Rattle.std.proofs.Common.{◌≡◌, ℕ, zero, suc, ◌+◌, ◌<◌, ◌≤◌, Bool, true, false, ◌||◌, nat_lt, if◌then◌else◌, List, [], ◌∷◌, ◌++◌, length, map, take, drop, insert, remove, slice_get, slice_index_or, slice_set, Option, Some, None, option_map, inl, inr, refl, sym, ◌∙◌, subst, ap, arith}
-use Rattle.std.specs.List.{AllByRecursion, IsAmong, filter, prefix_len}
+use Rattle.std.proofs.Common.{◌≡◌, ℕ, zero, suc, ◌+◌, ◌<◌, Bool, true, false, ◌||◌, nat_lt, if◌then◌else◌, List, [], ◌∷◌, ◌++◌, length, map, take, drop, insert, remove, slice_get, slice_set, Option, Some, None, option_map, inl, refl, sym, subst, ap, arith}
+use Rattle.std.specs.List.{AllByRecursion, IsAmong, prefix_len}
 use Rattle.std.proofs.lemmas.Bool.{ltb-false, ltb-true, or_left}
 use Rattle.ndc_act.specs.Below.{clusters_below}
 use Rattle.ndc_act.specs.WellFormed.{IsCluster}
@@ -16,14 +16,14 @@ use Rattle.ndc_model.specs.Fair.{ends_of, is_named}
 use Rattle.ndc_model.specs.Moves.{link_without_flights, map_from, pulled_all, pulled_lane, pulled_link, pulled_shard, renewed, renewed_lane, renewed_link, rewound, without_flight, without_flights, without_flights_to}
 use Rattle.ndc_model.specs.Queues.{Lane, after_rewind, is_addressed, names_cluster, needs_nothing, new_lane, put_in_flight, taken}
 use Rattle.ndc_model.specs.Sending.{flight_step, lose_step, move_step, repeat_step}
-use Rattle.ndc_model.specs.World.{Link, World, all_clusters, cell_at, cluster_at, flight_at, is_late_in, lane_at, lane_in, link_at, queue_at, with_flight, with_lane, with_link}
+use Rattle.ndc_model.specs.World.{Link, World, all_clusters, cell_at, cluster_at, flight_at, is_late_in, lane_at, lane_in, link_at, queue_at, with_flight, with_lane}
 use Rattle.ndc_model.proofs.LevelLemmas.{pull_keeps, renewal_keeps, rewind_keeps}
 use Rattle.ndc_model.proofs.ListLemmas.{all-append, all-drop, all-filter, all-got, all-remove, all-self, all-take, all-take-more, all-weaker, filter-passes, length-map_from, length-mapped, map-at, map_from-at, prefix-passes}
 use Rattle.ndc_model.proofs.WorldLemmas.{set-cases}
 use Rattle.ndc_queue.specs.Lists.{after_loss, after_move, after_repeat}
 use Rattle.ndc_sets.proofs.ForkLemmas.{among-left, among-right}
 use Rattle.ndc_sets.proofs.Lists.{Among, list_any-one}
-use Rattle.ndc_fair_lanes.proofs.LinkLemmas.{IsLaneFit, IsLinkFit, KeepsLinks, all-links, lanes-keep, one-link}
+use Rattle.ndc_fair_lanes.proofs.LinkLemmas.{IsLaneFit, IsLinkFit, all-links, lanes-keep, one-link}
 
 -- each cluster below a count is one of those
 pub below-among : (count : ℕ) (cluster : ClusterNo) → cluster.number < count → Among cluster (clusters_below count)

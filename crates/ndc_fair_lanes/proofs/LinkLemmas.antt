@@ -1,17 +1,16 @@
 -- Links of a world that is as it should be, and links that take their place.
-use Rattle.std.proofs.Common.{◌≡◌, ℕ, ◌<◌, Bool, true, false, ◌||◌, if◌then◌else◌, List, [], ◌∷◌, length, map, Option, Some, None, refl, sym, ◌∙◌, subst, ap}
+use Rattle.std.proofs.Common.{◌≡◌, ℕ, ◌<◌, true, List, [], ◌∷◌, length, map, refl, sym, ◌∙◌, subst, ap}
 use Rattle.std.specs.List.{AllByRecursion}
 use Rattle.ndc_act.specs.WellFormed.{AreTwoClusters}
 use Rattle.ndc_act.specs.declared.script.Header.{Header}
-use Rattle.ndc_cells.specs.Writing.{same_cluster}
 use Rattle.ndc_domain.specs.Records.{record_of}
 use Rattle.ndc_domain.specs.declared.clusters.ClusterNo.{ClusterNo}
 use Rattle.ndc_model.specs.Facts.{IsReached}
-use Rattle.ndc_model.specs.Fair.{IsFair, IsLaneTrue, IsShaped, MembersAlone, ends_of, is_named}
+use Rattle.ndc_model.specs.Fair.{IsLaneTrue, ends_of, is_named}
 use Rattle.ndc_model.specs.Queues.{Lane, names_cluster}
-use Rattle.ndc_model.specs.World.{Link, World, changed_first, cluster_at, is_link, lane_in, link_at, link_found, opening_world, with_link}
+use Rattle.ndc_model.specs.World.{Link, World, changed_first, cluster_at, is_link, lane_in, link_at, link_found, with_link}
 use Rattle.ndc_fair_lanes.proofs.FrameLemmas.{WroteAlike, arrivals-alike, copies-alike, handovers-alike, letters-alike, messages-alike, numbers-alike, records-alike, reports-alike, writing-alike}
-use Rattle.ndc_model.proofs.ListLemmas.{all-changed, all-map, map-alike, map-changed}
+use Rattle.ndc_model.proofs.ListLemmas.{all-changed, map-alike, map-changed}
 
 -- a lane as it should be
 pub record IsLaneFit (header : Header) (w : World) (link : Link) (shard : ℕ) (lane : Lane) : Type 0 where

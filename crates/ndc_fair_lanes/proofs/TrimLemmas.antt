@@ -1,19 +1,18 @@
 -- Trimming keeps a world as it should be.
-use Rattle.std.proofs.Common.{◌≡◌, ℕ, zero, suc, ◌+◌, ◌<◌, ◌≤◌, max, Bool, true, false, if◌then◌else◌, List, [], ◌∷◌, ◌++◌, length, map, slice_index_or, slice_set, inl, inr, refl, sym, ◌∙◌, subst, ap, arith}
-use Rattle.std.specs.List.{AllByRecursion, flat_map, range_with_len}
+use Rattle.std.proofs.Common.{◌≡◌, ℕ, zero, suc, ◌<◌, ◌≤◌, Bool, true, false, if◌then◌else◌, List, [], ◌∷◌, ◌++◌, length, map, slice_index_or, slice_set, inl, inr, refl, sym, ◌∙◌, subst, ap, arith}
+use Rattle.std.specs.List.{range_with_len}
 use Rattle.std.proofs.lemmas.Bool.Decides.{nat_tests}
 use Rattle.std.proofs.lemmas.List.FromFn.{get_or-map-range_with_len, length-map-range_with_len}
 use Rattle.ndc_act.specs.declared.script.Header.{Header}
 use Rattle.ndc_cells.specs.Writing.{same_cluster}
 use Rattle.ndc_domain.specs.declared.clusters.ClusterNo.{ClusterNo}
 use Rattle.ndc_model.specs.Facts.{IsReached}
-use Rattle.ndc_model.specs.Fair.{IsLaneTrue}
 use Rattle.ndc_model.specs.Moves.{done_levels, trimmed_all, trimmed_level}
 use Rattle.ndc_model.specs.World.{Link, World, lane_in, queue_at, shards_of, trimmed_at}
 use Rattle.ndc_model.proofs.ListLemmas.{all-set, least-most}
 use Rattle.ndc_model.proofs.WorldLemmas.{set-cases}
 use Rattle.ndc_queue.specs.Levels.{trim_level}
-use Rattle.ndc_sets.proofs.ForkLemmas.{among-left, among-right}
+use Rattle.ndc_sets.proofs.ForkLemmas.{among-right}
 use Rattle.ndc_sets.proofs.Lists.{Among, all-among, all-from}
 use Rattle.ndc_fair_lanes.proofs.FrameLemmas.{WroteAlike, arrivals-alike, copies-alike, handovers-alike, letters-alike, messages-alike, numbers-alike, records-alike, reports-alike, writing-alike}
 use Rattle.ndc_fair_lanes.proofs.LinkLemmas.{IsLinkFit, links-fit}

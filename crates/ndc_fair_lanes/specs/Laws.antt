@@ -1,6 +1,5 @@
 -- Words for the laws on lanes.
-use Rattle.std.specs.Prelude.{ℕ, ◌<◌, ◌≤◌}
-use Rattle.std.specs.List.{AllByRecursion}
+use Rattle.std.specs.Prelude.{ℕ, ◌≤◌}
 use Rattle.ndc_act.specs.declared.script.Header.{Header}
 use Rattle.ndc_model.specs.Fair.{EachLane}
 use Rattle.ndc_model.specs.World.{World, queue_at, trimmed_at}

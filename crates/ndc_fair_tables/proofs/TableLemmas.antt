@@ -1,9 +1,8 @@
 -- A table that takes the place of another keeps a world as it should be.
-use Rattle.std.proofs.Common.{◌≡◌, ◌≢◌, ℕ, zero, suc, ◌<◌, ◌≤◌, Bool, true, false, not, ◌&&◌, ◌||◌, cond, if◌then◌else◌, List, [], ◌∷◌, ◌++◌, length, map, take, slice_index_or, slice_set, Option, Some, None, ◌⊎◌, inl, inr, refl, sym, ◌∙◌, subst, ap, arith, true≢false}
+use Rattle.std.proofs.Common.{◌≡◌, ℕ, zero, suc, ◌<◌, ◌≤◌, Bool, true, false, not, ◌||◌, if◌then◌else◌, List, [], ◌∷◌, ◌++◌, length, map, take, slice_index_or, slice_set, Some, inl, inr, refl, sym, ◌∙◌, subst, ap, arith, true≢false}
 use Rattle.std.specs.List.{AllByRecursion, IsAmong, flat_map, list_any}
-use Rattle.std.specs.Prelude.{AllPairs}
 use Rattle.std.specs.Str.{bytes_eq}
-use Rattle.std.proofs.lemmas.Bool.{eqb-true, or_left, or_right}
+use Rattle.std.proofs.lemmas.Bool.{eqb-true}
 use Rattle.ndc_act.specs.WellFormed.{AreTwoClusters, IsCluster}
 use Rattle.ndc_act.specs.declared.script.Header.{Header}
 use Rattle.ndc_cells.specs.declared.message.Message.{Message}
@@ -11,7 +10,6 @@ use Rattle.ndc_cells.specs.Cells.{Cell, both, is_message_learned}
 use Rattle.ndc_cells.specs.Jobs.{cell_for}
 use Rattle.ndc_cells.specs.Places.{in_order, place_of}
 use Rattle.ndc_cells.specs.Writing.{same_cluster}
-use Rattle.ndc_domain.specs.Clusters.{count_of}
 use Rattle.ndc_domain.specs.Laws.{DaysAgree}
 use Rattle.ndc_domain.specs.Records.{IsTable, record_of}
 use Rattle.ndc_domain.specs.declared.clusters.ClusterNo.{ClusterNo}
@@ -27,14 +25,14 @@ use Rattle.ndc_letters.specs.Letters.{place_of_letter}
 use Rattle.ndc_model.specs.Facts.{IsHandoverFit, IsLetterFit, IsReached, is_old, place_in}
 use Rattle.ndc_model.specs.Fair.{AreMembersKnown, EachRecord, HasRecordFrom, IsConfigKnown, IsLaneTrue, IsOwn, IsRecordInRange, IsShaped, ends_of, is_named, primary}
 use Rattle.ndc_model.specs.Queues.{is_addressed, names_cluster, needs_nothing}
-use Rattle.ndc_model.specs.World.{Cluster, Link, World, all_clusters, cell_at, cluster_at, is_late_in, lane_in, new_cluster, newly_naming, queue_at, trimmed_at, with_late, with_table}
+use Rattle.ndc_model.specs.World.{Cluster, Link, World, all_clusters, cell_at, cluster_at, is_late_in, lane_in, new_cluster, newly_naming, queue_at, with_late, with_table}
 use Rattle.ndc_model.proofs.ListLemmas.{all-append, all-self, all-set, all-take, all-weaker, is-among, map-alike}
 use Rattle.ndc_model.proofs.WorldLemmas.{set-cases}
 use Rattle.ndc_sets.proofs.ForkLemmas.{among-left, among-right}
 use Rattle.std.proofs.lemmas.Bool.Decides.{nat_tests}
 use Rattle.ndc_sets.proofs.Lists.{Among, all-among, all-from, list_any-one}
 use Rattle.ndc_fair_lanes.proofs.FrameLemmas.{WroteAlike, arrivals-alike, beats-alike, cells_in, copies-alike, messages-alike, numbers-alike, queues_in, ranges-alike, reports-alike, reports_in, writing-alike}
-use Rattle.ndc_fair_tables.specs.Tables.{Grew, IsTableFit, TableGrows}
+use Rattle.ndc_fair_tables.specs.Tables.{IsTableFit, TableGrows}
 use Rattle.ndc_fair_tables.proofs.GrowLemmas.{grows-none, names-grow, newly-named, newly-there, record-grows}
 
 -- clusters of one number are one
