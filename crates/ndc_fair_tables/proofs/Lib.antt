@@ -1,2 +1,3 @@
 pub mod GrowLemmas
 pub mod TableLemmas
+pub mod MergeLemmas
