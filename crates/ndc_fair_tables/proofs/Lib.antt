@@ -1,3 +1,5 @@
 pub mod GrowLemmas
 pub mod TableLemmas
 pub mod MergeLemmas
+pub mod PutLemmas
+pub mod LineLemmas

@@ -52,12 +52,12 @@ all-both P Q R both [] p q = tt
 all-both P Q R both (x ∷ xs) p q = (both x p.0 q.0, all-both P Q R both xs p.1 q.1)
 
 -- what passes a test has what all have that pass it
-all-where : (P : ℕ → Type 0) (test : ℕ → Bool) → ((n : ℕ) → test n ≡ true → P n) → AllByRecursion P (numbers_where test)
+pub all-where : (P : ℕ → Type 0) (test : ℕ → Bool) → ((n : ℕ) → test n ≡ true → P n) → AllByRecursion P (numbers_where test)
 unfolding numbers_where
 all-where P test passes = all-weaker (λ n. test n ≡ true) P passes (filter test numbers) (filter-passes test numbers)
 
 -- a number among members has what they all have
-member-has : (P : ℕ → Type 0) (members : List ℕ) (n : ℕ) → AllByRecursion P members → has_member members n ≡ true → P n
+pub member-has : (P : ℕ → Type 0) (members : List ℕ) (n : ℕ) → AllByRecursion P members → has_member members n ≡ true → P n
 member-has P [] n all h = absurd (true≢false (sym h))
 member-has P (member ∷ members) n all h = by (member == n) refl h (member-has P members n all.1)
   where
@@ -77,7 +77,7 @@ abbrev AreWell : Header → DomainRecord → Type 0
 AreWell header one = AreMembers one.members × AreMembersKnown header one
 
 -- where a version's writer is one of some members, it is one of more
-names-more : (clusters : ClusterList) (version more_version : ℕ) (members more : List ℕ) → more_version ≡ version → ((k : ℕ) → has_member members k ≡ true → has_member more k ≡ true)
+pub names-more : (clusters : ClusterList) (version more_version : ℕ) (members more : List ℕ) → more_version ≡ version → ((k : ℕ) → has_member members k ≡ true → has_member more k ≡ true)
     → IsSomeAnd (writer_of clusters version) (λ active. IsTrue (has_member members active.number)) → IsSomeAnd (writer_of clusters more_version) (λ active. IsTrue (has_member more active.number))
 names-more clusters version more_version members more e grows h =
     let k = some-and (λ active. IsTrue (has_member members active.number)) (writer_of clusters version) h in

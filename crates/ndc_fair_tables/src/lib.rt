@@ -1,4 +1,4 @@
-//! Laws of fair worlds: a table that fits may take the place of a cluster's, and merged tables fit.
+//! Laws of fair worlds: lines on domains keep worlds as they should be.
 #![tactic(auto)]
 
 pub mod table_laws;
