@@ -3,3 +3,4 @@ pub mod TableLemmas
 pub mod MergeLemmas
 pub mod PutLemmas
 pub mod LineLemmas
+pub mod HandoverLemmas

@@ -1,7 +1,9 @@
 -- Two tables merged are a table that fits.
-use Rattle.std.proofs.Common.{◌≡◌, ℕ, ◌<◌, ◌≤◌, max, Bool, true, false, if◌then◌else◌, ◌||◌, List, [], ◌∷◌, slice_index_or, Option, Some, None, IsSomeAnd, IsTrue, inl, inr, refl, sym, ◌∙◌, subst, ap, arith, true≢false}
-use Rattle.std.specs.Prelude.{◌==◌, is_some, nat_lt}
+use Rattle.std.proofs.Common.{◌≡◌, ℕ, ◌<◌, ◌≤◌, max, Bool, true, false, cond, if◌then◌else◌, ◌||◌, List, [], ◌∷◌, slice_index_or, Option, Some, None, IsSomeAnd, IsTrue, inl, inr, refl, sym, ◌∙◌, subst, ap, arith, true≢false}
+use Rattle.std.specs.Prelude.{◌==◌, is_some, nat_lt, option_to_list}
 use Rattle.std.specs.List.{AllByRecursion, filter}
+use Rattle.std.specs.Str.{bytes_eq}
+use Rattle.std.proofs.lemmas.Slice.Eq.{bytes_eq-Decides}
 use Rattle.std.proofs.lemmas.Bool.{cases_lt, eqb-true, le-ltb, lt-ltb}
 use Rattle.ndc_act.specs.WellFormed.{IsCluster}
 use Rattle.ndc_act.specs.declared.script.Header.{Header}
@@ -10,13 +12,15 @@ use Rattle.ndc_domain.specs.Laws.{DaysAgree, Keeps, NamesActive}
 use Rattle.ndc_domain.specs.Flags.{where_AreMembers}
 use Rattle.ndc_domain.specs.Members.{AreMembers, has_member, numbers, numbers_where, union_of}
 use Rattle.ndc_domain.specs.Merge.{merged, merged_behind, merged_option, merged_record}
-use Rattle.ndc_domain.specs.Records.{IsRecord, IsTable, record_of}
+use Rattle.ndc_domain.specs.Records.{IsRecord, IsTable, only_of, record_of}
 use Rattle.ndc_domain.specs.declared.clusters.ClusterNo.{ClusterNo}
 use Rattle.ndc_domain.specs.declared.record.DomainRecord.{DomainRecord}
 use Rattle.ndc_domain.proofs.BothTables.{All-merged, IsTable-merged, merge_cases, record_of-merged}
 use Rattle.ndc_domain.proofs.MergeLaws.{merge_keeps_ours}
 use Rattle.ndc_domain.proofs.Order.{names_equal}
+use Rattle.ndc_domain.proofs.Tables.{found_has}
 use Rattle.ndc_domain.proofs.Unions.{union_has_ours, union_has_theirs}
+use Rattle.ndc_event.specs.declared.name.Name.{Name}
 use Rattle.ndc_fair_tables.specs.Tables.{IsTableFit}
 use Rattle.ndc_fair_tables.proofs.TableLemmas.{table_put}
 use Rattle.ndc_model.specs.Facts.{IsReached}
@@ -135,12 +139,52 @@ agree-merged ours theirs third table others p q name one other found there = by 
         subst (λ (r : DomainRecord). r.config ≡ other.config → r.days ≡ other.days) same
         (days-merged a b other (p name a other e there) (q name b other f there))
 
-module _ (header : Header) (lines : ℕ) (w : World) (is : IsReached header lines w) (to from : ClusterNo) (to_known : IsCluster header to) (from_known : IsCluster header from) where
+-- a table that a cluster may merge
+pub record IsOffered (header : Header) (lines : ℕ) (w : World) (table : List DomainRecord) : Type 0 where
+  pub is_table : IsTable table
+  pub ranges : AllByRecursion (IsRecordInRange header lines) table
+  pub members : AllByRecursion (AreMembersKnown header) table
+  pub known : AllByRecursion (IsConfigKnown (cluster_at primary w).table) table
+  pub days : (other : ClusterNo) → IsCluster header other → DaysAgree table (cluster_at other w).table
+
+-- such is the table of each cluster
+pub table-offered : (header : Header) (lines : ℕ) (w : World) (from : ClusterNo) → IsReached header lines w → IsCluster header from → IsOffered header lines w (cluster_at from w).table
+table-offered header lines w from is there = record {
+  is_table = is.fair.records.tables from there;
+  ranges = is.fair.records.ranges from there;
+  members = is.fair.members.members from there;
+  known = is.fair.records.known from there;
+  days = λ other known. is.fair.records.days from other there known;
+}
+
+-- and so is one record of it alone
+pub only-offered : (header : Header) (lines : ℕ) (w : World) (table : List DomainRecord) (domain : Name) → IsOffered header lines w table → IsOffered header lines w (only_of table domain)
+only-offered header lines w table domain offered = by (record_of table domain) refl
+  where
+    by : (o : Option DomainRecord) → record_of table domain ≡ o → IsOffered header lines w (option_to_list o)
+    by None e = record { is_table = record { ordered = tt; sound = tt }; ranges = tt; members = tt; known = tt; days = λ other there name ours theirs found other_found. absurd (cc) }
+    by (Some one) e =
+        let s = found_has IsRecord table domain one offered.is_table.sound e in
+        record {
+          is_table = record { ordered = (tt, tt); sound = (s.0, tt) };
+          ranges = ((found_has (IsRecordInRange header lines) table domain one offered.ranges e).0, tt);
+          members = ((found_has (AreMembersKnown header) table domain one offered.members e).0, tt);
+          known = ((found_has (IsConfigKnown (cluster_at primary w).table) table domain one offered.known e).0, tt);
+          days = λ other there name ours theirs found other_found. agree other there s.1 name ours theirs other_found (bytes_eq one.name name) refl found;
+        }
+      where
+        agree : (other : ClusterNo) → IsCluster header other → one.name ≡ domain → (name : List ℕ) (ours theirs : DomainRecord) → record_of (cluster_at other w).table name ≡ Some theirs → (t : Bool) → bytes_eq one.name name ≡ t
+            → cond t (Some one) None ≡ Some ours → ours.config ≡ theirs.config → ours.days ≡ theirs.days
+        agree other there named name ours theirs other_found true at found =
+            let same : one ≡ ours = cc in
+            let alike : one.name ≡ name = (bytes_eq-Decides one.name name).0 at in
+            subst (λ (r : DomainRecord). r.config ≡ theirs.config → r.days ≡ theirs.days) same
+            (offered.days other there name one theirs (ap (record_of table) (sym alike ∙ named) ∙ e) other_found)
+        agree other there named name ours theirs other_found false at found = absurd (cc)
+
+module _ (header : Header) (lines : ℕ) (w : World) (is : IsReached header lines w) (to : ClusterNo) (to_known : IsCluster header to) (theirs : List DomainRecord) (offered : IsOffered header lines w theirs) where
   abbrev ours : List DomainRecord
   ours = (cluster_at to w).table
-
-  abbrev theirs : List DomainRecord
-  theirs = (cluster_at from w).table
 
   abbrev first : List DomainRecord
   first = (cluster_at primary w).table
@@ -148,15 +192,15 @@ module _ (header : Header) (lines : ℕ) (w : World) (is : IsReached header line
   ours-table : IsTable ours
   ours-table = is.fair.records.tables to to_known
 
-  theirs-table : IsTable theirs
-  theirs-table = is.fair.records.tables from from_known
+  abbrev theirs-table : IsTable theirs
+  theirs-table = offered.is_table
 
   members-merged : AllByRecursion (AreMembersKnown header) (merged ours theirs)
   members-merged =
       all-weaker (AreWell header) (AreMembersKnown header) (λ one h. h.1) (merged ours theirs)
       (All-merged (AreWell header) (well-merged header) ours theirs
       (all-both IsRecord (AreMembersKnown header) (AreWell header) (λ one a b. (a.1, b)) ours ours-table.sound (is.fair.members.members to to_known))
-      (all-both IsRecord (AreMembersKnown header) (AreWell header) (λ one a b. (a.1, b)) theirs theirs-table.sound (is.fair.members.members from from_known)))
+      (all-both IsRecord (AreMembersKnown header) (AreWell header) (λ one a b. (a.1, b)) theirs theirs-table.sound offered.members))
 
   -- what the first cluster knows it still knows
   known-after : (one : DomainRecord) → IsConfigKnown first one → IsConfigKnown (cluster_at primary (with_table to (merged ours theirs) w)).table one
@@ -173,21 +217,26 @@ module _ (header : Header) (lines : ℕ) (w : World) (is : IsReached header line
   known-merged other there =
       set-cases (λ (c : Cluster). AllByRecursion (IsConfigKnown (cluster_at primary (with_table to (merged ours theirs) w)).table) c.table) w.clusters to.number other.number _ (new_cluster 0)
       (λ at. all-weaker (IsConfigKnown first) (IsConfigKnown (cluster_at primary (with_table to (merged ours theirs) w)).table) known-after (merged ours theirs)
-      (named-merged (IsConfigKnown first) (config-merged first) ours theirs (is.fair.records.known to to_known) (is.fair.records.known from from_known)))
+      (named-merged (IsConfigKnown first) (config-merged first) ours theirs (is.fair.records.known to to_known) offered.known))
       (all-weaker (IsConfigKnown first) (IsConfigKnown (cluster_at primary (with_table to (merged ours theirs) w)).table) known-after (cluster_at other w).table (is.fair.records.known other there))
 
-  merged-fits : IsTableFit header lines w to (merged ours theirs)
+  pub merged-fits : IsTableFit header lines w to (merged ours theirs)
   merged-fits = record {
     is_table = IsTable-merged ours theirs ours-table theirs-table;
     grows = λ domain old e. let k = some-and (Keeps old) (record_of (merged ours theirs) domain) (merge_keeps_ours ours theirs domain old ours-table theirs-table e) in
         (k.0, k.1, record { version = k.2.version; members = k.2.members });
-    ranges = All-merged (IsRecordInRange header lines) (range-merged header lines) ours theirs (is.fair.records.ranges to to_known) (is.fair.records.ranges from from_known);
+    ranges = All-merged (IsRecordInRange header lines) (range-merged header lines) ours theirs (is.fair.records.ranges to to_known) offered.ranges;
     members = members-merged;
     known = known-merged;
-    days = λ other there. agree-merged ours theirs (cluster_at other w).table ours-table theirs-table (is.fair.records.days to other to_known there) (is.fair.records.days from other from_known there);
+    days = λ other there. agree-merged ours theirs (cluster_at other w).table ours-table theirs-table (is.fair.records.days to other to_known there) (offered.days other there);
   }
+
+-- a cluster may merge such a table
+pub merged_kept : (header : Header) (lines : ℕ) (to : ClusterNo) (theirs : List DomainRecord) (w : World) → IsCluster header to → IsOffered header lines w theirs → IsReached header lines w
+    → IsReached header lines (with_table to (merged (cluster_at to w).table theirs) w)
+merged_kept header lines to theirs w to_known offered is = table_put header lines to (merged (cluster_at to w).table theirs) w is to_known (merged-fits header lines w is to to_known theirs offered)
 
 -- one cluster may merge the table of another
 pub domains_kept : (header : Header) (lines : ℕ) (to from : ClusterNo) (w : World) → IsCluster header to → IsCluster header from → IsReached header lines w
     → IsReached header lines (domains_step to from w).world
-domains_kept header lines to from w to_known from_known is = table_put header lines to (merged (cluster_at to w).table (cluster_at from w).table) w is to_known (merged-fits header lines w is to from to_known from_known)
+domains_kept header lines to from w to_known from_known is = merged_kept header lines to (cluster_at from w).table w to_known (table-offered header lines w from is from_known) is

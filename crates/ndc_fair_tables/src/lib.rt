@@ -1,4 +1,5 @@
-//! Laws of fair worlds: lines on domains keep worlds as they should be.
+//! Laws of fair worlds: lines on domains and handovers keep worlds as they should be.
 #![tactic(auto)]
 
+pub mod handover_laws;
 pub mod table_laws;
