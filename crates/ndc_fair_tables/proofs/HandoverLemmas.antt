@@ -30,7 +30,7 @@ use Rattle.ndc_graceful.specs.declared.handover.BeginError.TheVariants.{NotActiv
 use Rattle.ndc_graceful.specs.declared.handover.Handover.{Handover}
 use Rattle.ndc_graceful.specs.declared.handover.ReadyError.{ReadyError}
 use Rattle.ndc_graceful.specs.declared.handover.ReadyError.TheVariants.{BootstrapDue, NotYet, Overtaken}
-use Rattle.ndc_fair_lanes.proofs.FrameLemmas.{WroteAlike, arrivals-alike, copies-alike, letters-alike, messages-alike, numbers-alike, records-alike, reports-alike, writing-alike}
+use Rattle.ndc_fair_lanes.proofs.FrameLemmas.{fair-alike, letters-alike, reports-alike}
 use Rattle.ndc_fair_tables.proofs.LineLemmas.{failover_kept}
 use Rattle.ndc_fair_tables.proofs.MergeLemmas.{merged_kept, only-offered, table-offered}
 use Rattle.ndc_model.specs.Facts.{IsHandoverFit, IsReached, is_old, place_in}
@@ -70,22 +70,7 @@ handovers-put header lines w handovers one_each each is = record {
     sources = is.shaped.sources;
     trimmed = is.shaped.trimmed;
   };
-  fair = record {
-    writing = writing-alike header v w wrote is.fair.writing;
-    copies = copies-alike header v w refl is.fair.copies;
-    writers = is.fair.writers;
-    arrivals = arrivals-alike header v w refl refl is.fair.arrivals;
-    messages = messages-alike header v w refl refl is.fair.messages;
-    lanes = all-weaker _ _ (λ link f shard below. let t = f shard below in record { trimmed_most = t.trimmed_most; levels = t.levels; done = t.done; flight = t.flight }) w.links is.fair.lanes;
-    records = records-alike header v w lines refl is.fair.records;
-    numbers = numbers-alike header v w lines refl is.fair.numbers;
-    members = record {
-      members = is.fair.members.members;
-      arrived = is.fair.members.arrived;
-      flight = is.fair.members.flight;
-      late = is.fair.members.late;
-    };
-  };
+  fair = fair-alike header v w lines refl refl refl refl is.fair;
   ranges = is.ranges;
   handovers = record { one_each = one_each; each = all-weaker (IsHandoverFit header w) (IsHandoverFit header v) (fit-beside header w handovers) handovers each };
   letters = letters-alike header v w refl refl refl is.letters;
@@ -95,9 +80,6 @@ handovers-put header lines w handovers one_each each is = record {
   where
     v : World
     v = record w { handovers = handovers }
-
-    wrote : WroteAlike header v w
-    wrote = record { places = refl; batches = refl }
 
 -- the handover of a domain may end
 pub ended_kept : (header : Header) (lines : ℕ) (domain : Name) (w : World) → IsReached header lines w → IsReached header lines (without_handover domain w)
