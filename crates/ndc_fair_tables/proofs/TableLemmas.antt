@@ -293,9 +293,6 @@ module _ (header : Header) (lines : ℕ) (cluster : ClusterNo) (table : List Dom
     named = named-grows c letter.domain h.named;
   }
 
-  each-still : {X : Type 0} (P Q : X → Type 0) → ((x : X) → P x → Q x) → (xs : List X) → AllByRecursion P xs → AllByRecursion Q xs
-  each-still P Q change xs all = all-weaker P Q change xs all
-
   own-still : (o : ClusterNo) (shard : ℕ) (bs : List Batch) → AllByRecursion (IsOwn header o shard (cluster_at o w).table (cell_at o shard w)) bs → AllByRecursion (IsOwn header o shard (cluster_at o v).table (cell_at o shard w)) bs
   own-still o shard bs all = all-weaker _ _ (λ b own. record {
     lives = own.lives;
