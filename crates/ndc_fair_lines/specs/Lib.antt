@@ -1,0 +1,2 @@
+pub mod Sometime
+pub mod Trimmed
