@@ -1,0 +1,16 @@
+pub mod NamedLemmas
+pub mod AddLemmas
+pub mod MayLemmas
+pub mod FreshLemmas
+pub mod PlanLemmas
+pub mod KindLemmas
+pub mod RangeLemmas
+pub mod WriteLemmas
+pub mod EntryLemmas
+pub mod CommandLemmas
+pub mod CountLemmas
+pub mod StrayLemmas
+pub mod ReapplyLemmas
+pub mod ResetLemmas
+pub mod PastLemmas
+pub mod LawLemmas
