@@ -1,0 +1,15 @@
+pub mod OrderLemmas
+pub mod PairLemmas
+pub mod JoinedLemmas
+pub mod ApartLemmas
+pub mod LandLemmas
+pub mod WroteLemmas
+pub mod HeldLemmas
+pub mod FitLemmas
+pub mod OffLemmas
+pub mod SentLemmas
+pub mod RestLemmas
+pub mod WriterLemmas
+pub mod MoveLemmas
+pub mod ApplyLemmas
+pub mod OneWriterLemmas
