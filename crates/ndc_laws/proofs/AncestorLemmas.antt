@@ -1,0 +1,157 @@
+-- What is put off is what lacks an ancestor.
+use Rattle.std.proofs.Common.{◌≡◌, ◌<◌, ℕ, Bool, true, false, not, List, ◌⊎◌, inl, inr, Option, Some, None, refl, sym, ◌∙◌, subst, ap, true≢false}
+use Rattle.std.specs.Prelude.{is_some}
+use Rattle.std.specs.List.{IsAmong}
+use Rattle.ndc_act.specs.WellFormed.{IsCluster}
+use Rattle.ndc_act.specs.declared.script.Header.{Header}
+use Rattle.ndc_cells.specs.Arrival.{has_arrived}
+use Rattle.ndc_cells.specs.Cells.{Cell, arrived_of, is_learned_in, put_off_in}
+use Rattle.ndc_cells.specs.Places.{batch_there, is_of, place_of}
+use Rattle.ndc_cells.proofs.PlaceLemmas.{set_of_workflow}
+use Rattle.ndc_domain.specs.declared.clusters.ClusterNo.{ClusterNo}
+use Rattle.ndc_event.specs.declared.batch.Batch.{Batch}
+use Rattle.ndc_event.specs.declared.key.BatchKey.{BatchKey}
+use Rattle.ndc_event.specs.declared.name.Name.{Name}
+use Rattle.ndc_fair_arrivals.proofs.FoundLemmas.{at-there}
+use Rattle.ndc_fair_arrivals.proofs.WrittenLemmas.{arrived-written, cell-is, has-written, names-of, own-names}
+use Rattle.ndc_laws.specs.Promised.{LacksAncestor, WaitsForAncestors}
+use Rattle.ndc_model.specs.Facts.{IsReached}
+use Rattle.ndc_model.specs.Fair.{written_of}
+use Rattle.ndc_model.specs.World.{World, cell_at}
+use Rattle.ndc_model.proofs.ListLemmas.{among-is, is-among}
+use Rattle.ndc_sets.specs.Learned.{IsPart, ReachesTop, WaitsFor, behind, itself, learned, top, up}
+use Rattle.ndc_sets.specs.Sets.{Has, IsSet, batch_at, earlier}
+use Rattle.ndc_sets.proofs.BranchLemmas.{among-has, has-among, same-batch}
+use Rattle.ndc_sets.proofs.LearnedLemmas.{closed_whole, learned-reaches, reaches-has, reaches-learned}
+use Rattle.ndc_sets.proofs.Lists.{Among, among-filter, filter-among}
+use Rattle.ndc_sets.proofs.SetLemmas.{found-has, found-key}
+
+-- some batch on the way up from one is not there
+record Lacks (all held : List Batch) (b : Batch) : Type 0 where
+  one : Batch
+  has : Has all one
+  above : WaitsFor all one b
+  gone : batch_at one.key held ≡ None
+
+module _ (all held : List Batch) (part : IsPart held all) where
+  -- from one that is there, all on the way up are there, or some is not
+  upwards : (b : Batch) → ReachesTop all b → Has held b → ReachesTop held b ⊎ Lacks all held b
+  upwards b (top _ has e) there = inl (top b there e)
+  upwards b (up _ before key has e at above) there = by (batch_at before.key held) refl (upwards before above)
+    where
+      further : ReachesTop held before ⊎ Lacks all held before → batch_at key held ≡ Some before → ReachesTop held b ⊎ Lacks all held b
+      further (inl r) found = inl (up b before key there e found r)
+      further (inr l) found = inr (record { one = l.one; has = l.has; above = behind b before key has e at l.above; gone = l.gone })
+
+      key_is : before.key ≡ key
+      key_is = found-key all key before at
+
+      by : (o : Option Batch) → batch_at before.key held ≡ o → (Has held before → ReachesTop held before ⊎ Lacks all held before) → ReachesTop held b ⊎ Lacks all held b
+      by None gone rest = inr (record { one = before; has = found-has all key before at; above = behind b before key has e at itself; gone = gone })
+      by (Some c) found rest =
+          let same : c ≡ before = same-batch all c before (part c (found-has held before.key c found)) (found-has all key before at) (found-key held before.key c found) in
+          let here : Has held before = found ∙ ap Some same in
+          further (rest here) (subst (λ (k : BatchKey). batch_at k held ≡ Some before) key_is here)
+
+  -- what is above one that reaches the top is there
+  above-there : (one b : Batch) → WaitsFor all one b → ReachesTop held b → Has held one
+  above-there one b itself reaches = reaches-has held b reaches
+  above-there one b (behind _ before key has e at above) reaches = by reaches (above-there one before above)
+    where
+      step : (other : Batch) (k : BatchKey) → earlier b ≡ Some k → batch_at k held ≡ Some other → ReachesTop held other → (ReachesTop held before → Has held one) → Has held one
+      step other k f found r rest =
+          let keys : key ≡ k = (let both : Some key ≡ Some k = sym e ∙ f in cc) in
+          let same : other ≡ before = same-batch all other before (part other (found-has held k other found)) (found-has all key before at) (found-key held k other found ∙ sym keys ∙ sym (found-key all key before at)) in
+          rest (subst (ReachesTop held) same r)
+
+      by : ReachesTop held b → (ReachesTop held before → Has held one) → Has held one
+      by (top _ there f) rest = absurd (cc)
+      by (up _ other k there f found r) rest = step other k f found r rest
+
+module _ (header : Header) (lines : ℕ) (w : World) (is : IsReached header lines w) (cluster : ClusterNo) (known : IsCluster header cluster) (shard : ℕ) (below : shard < header.shards) where
+  abbrev cell : Cell
+  cell = cell_at cluster shard w
+
+  abbrev held-of : Batch → List Batch
+  held-of b = arrived_of b.domain b.workflow cell
+
+  abbrev all-of : Batch → List Batch
+  all-of b = written_of header b.domain b.workflow w
+
+  -- what has arrived of a workflow is a set, and a part of what was written of it
+  pub arrived-set : (domain workflow : Name) → IsSet (arrived_of domain workflow cell)
+  arrived-set domain workflow = set_of_workflow domain workflow cell (cell-is header lines w is shard below cluster known)
+
+  pub arrived-part : (domain workflow : Name) → IsPart (arrived_of domain workflow cell) (written_of header domain workflow w)
+  arrived-part domain workflow x has =
+      let p = filter-among (is_of domain workflow) cell.arrived x (has-among (arrived_of domain workflow cell) x has) in
+      let n = names-of domain workflow x p.0 in
+      let there = has-written header lines w is shard below x (arrived-written header lines w is shard below cluster known x p.1) in
+      subst (λ d. Has (written_of header d workflow w) x) n.0 (subst (λ u. Has (written_of header x.domain u w) x) n.1 there)
+
+  held-set : (b : Batch) → IsSet (held-of b)
+  held-set b = arrived-set b.domain b.workflow
+
+  held-part : (b : Batch) → IsPart (held-of b) (all-of b)
+  held-part b = arrived-part b.domain b.workflow
+
+  held-has : (b : Batch) → Among b cell.arrived → Has (held-of b) b
+  held-has b among = among-has (held-of b) b (held-set b).ordered (among-filter (is_of b.domain b.workflow) cell.arrived b (own-names b) among)
+
+  -- the place of a batch of the workflow
+  found-there : (b x : Batch) → Has (all-of b) x → has_arrived x cell ≡ is_some (batch_at x.key (held-of b))
+  found-there b x has =
+      let p = filter-among (is_of b.domain b.workflow) _ x (has-among (all-of b) x has) in
+      let n = names-of b.domain b.workflow x p.0 in
+      ap is_some (subst (λ d. batch_there cell.arrived (place_of x) ≡ batch_at x.key (arrived_of d b.workflow cell)) n.0
+      (subst (λ u. batch_there cell.arrived (place_of x) ≡ batch_at x.key (arrived_of x.domain u cell)) n.1 (sym (at-there x.domain x.workflow x.key cell.arrived))))
+
+  learned-where : (b : Batch) → Has (held-of b) b → is_learned_in cell b ≡ true → ReachesTop (held-of b) b
+  learned-where b there h = by (batch_at b.key (learned (held-of b))) refl h
+    where
+      by : (o : Option Batch) → batch_at b.key (learned (held-of b)) ≡ o → is_some o ≡ true → ReachesTop (held-of b) b
+      by None e h = absurd (true≢false (sym h))
+      by (Some c) e h =
+          let has = found-has (learned (held-of b)) b.key c e in
+          let reaches = learned-reaches (held-of b) c (held-set b) has in
+          subst (ReachesTop (held-of b)) (same-batch (held-of b) c b (reaches-has (held-of b) c reaches) there (found-key (learned (held-of b)) b.key c e)) reaches
+
+  waits : WaitsForAncestors header cell w
+  waits b = (there, back)
+    where
+      negated : (t : Bool) → not t ≡ true → t ≡ false
+      negated true h = absurd (true≢false (sym h))
+      negated false h = refl
+
+      there : IsAmong (put_off_in cell) b → IsAmong cell.arrived b × LacksAncestor header cell b w
+      there put_off =
+          let p = filter-among (λ x. not (is_learned_in cell x)) cell.arrived b (is-among (put_off_in cell) b put_off) in
+          (among-is cell.arrived b p.1, by (upwards (all-of b) (held-of b) (held-part b) b reaches (held-has b p.1)) (negated (is_learned_in cell b) p.0))
+        where
+          arrives : Among b cell.arrived
+          arrives = (filter-among (λ x. not (is_learned_in cell x)) cell.arrived b (is-among (put_off_in cell) b put_off)).1
+
+          reaches : ReachesTop (all-of b) b
+          reaches =
+              let sound = is.fair.writing.sound b.domain b.workflow in
+              learned-reaches (all-of b) b sound.set (subst (λ l. Has l b) (sym (closed_whole (all-of b) sound.set sound.closed)) (held-part b b (held-has b arrives)))
+
+          by : ReachesTop (held-of b) b ⊎ Lacks (all-of b) (held-of b) b → is_learned_in cell b ≡ false → LacksAncestor header cell b w
+          by (inl r) unlearned = absurd (true≢false (sym (ap is_some (reaches-learned (held-of b) b (held-set b) r)) ∙ unlearned))
+          by (inr l) unlearned = record { ancestor = l.one; above = l.above; missing = found-there b l.one l.has ∙ ap is_some l.gone }
+
+      back : IsAmong cell.arrived b × LacksAncestor header cell b w → IsAmong (put_off_in cell) b
+      back (arrives, lacks) =
+          among-is (put_off_in cell) b (among-filter (λ x. not (is_learned_in cell x)) cell.arrived b (unlearned (is_learned_in cell b) refl) (is-among cell.arrived b arrives))
+        where
+          here : Has (held-of b) b
+          here = held-has b (is-among cell.arrived b arrives)
+
+          unlearned : (t : Bool) → is_learned_in cell b ≡ t → not (is_learned_in cell b) ≡ true
+          unlearned false e = ap not e
+          unlearned true e =
+              let has = above-there (all-of b) (held-of b) (held-part b) lacks.ancestor b lacks.above (learned-where b here e) in
+              absurd (true≢false (sym (found-there b lacks.ancestor (held-part b lacks.ancestor has) ∙ ap is_some has) ∙ lacks.missing))
+
+pub waits-for-ancestors : (header : Header) (lines : ℕ) (w : World) (cluster : ClusterNo) (shard : ℕ) → IsReached header lines w → IsCluster header cluster → shard < header.shards → WaitsForAncestors header (cell_at cluster shard w) w
+waits-for-ancestors header lines w cluster shard is known below = waits header lines w is cluster known shard below

@@ -1,0 +1,15 @@
+pub mod DumpLemmas
+pub mod HeadlineLemmas
+pub mod AncestorLemmas
+pub mod StrayLemmas
+pub mod SettlesLemmas
+pub mod LinesBefore
+pub mod SettlementLemmas
+pub mod DamageLemmas
+pub mod MergeLettersLemmas
+pub mod MissingLemmas
+pub mod AnswerLemmas
+pub mod HandoverLemmas
+pub mod ResetLemmas
+pub mod HeldLemmas
+pub mod ReachedLemmas
