@@ -107,6 +107,13 @@ module _ (run : RunId) (batches : List Batch) (new : Batch) (tree : IsTree run b
       by None e below g = absurd (none batches below (has-among batches one has))
       by (Some key) e below g = parent_is key e (key.version == new.key.version) refl (start key (key.version == new.key.version) g)
 
+  alone : new.parent ≡ None → batches ≡ []
+  alone e = by batches (subst (λ (o : Option BatchKey). is_below batches new o ≡ true) e placed.0)
+    where
+      by : (l : List Batch) → is_nil l ≡ true → l ≡ []
+      by [] t = refl
+      by (x ∷ l) t = absurd (cc)
+
   -- a batch without a fault that fits a tree, and whose parent is there, joins it
   pub fit-joins : has_key new.parent batches ≡ true → fault_of new ≡ None → Joins run batches new
   fit-joins reached faultless = record {
@@ -114,6 +121,7 @@ module _ (run : RunId) (batches : List Batch) (new : Batch) (tree : IsTree run b
     faultless = faultless;
     run_is = run-same new.run run mine.0;
     reached = reached;
+    first = alone;
     ids = ids;
     next = next;
   }

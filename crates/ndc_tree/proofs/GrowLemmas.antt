@@ -8,7 +8,7 @@ use Rattle.ndc_event.specs.declared.key.RunId.{RunId}
 use Rattle.ndc_event.specs.Batch.{is_parent_fit, fault_of}
 use Rattle.ndc_sets.specs.Sets.{batch_at, Has, arrived}
 use Rattle.ndc_sets.specs.Learned.{has_key, IsPart}
-use Rattle.ndc_sets.specs.Sound.{IsParentFit, ParentsFit}
+use Rattle.ndc_sets.specs.Sound.{AreFaultless, IsParentFit, ParentsFit}
 use Rattle.ndc_sets.proofs.ArrivalLemmas.{arrival_keeps_sets, stays, was_or_new}
 use Rattle.ndc_sets.proofs.FaultLemmas.{passes}
 use Rattle.ndc_sets.proofs.SetLemmas.{found-key, found-has, has-found}
@@ -16,7 +16,7 @@ use Rattle.ndc_sets.proofs.SoundLemmas.{faultless-back}
 use Rattle.ndc_tree.specs.Tree.{HaveParents, AreOfRun, IsNextOfVersion, VersionsFollow, IsTree, Joins}
 
 -- the parent of a batch without a fault has a smaller task
-parent-task : (b : Batch) (parent : BatchKey) → fault_of b ≡ None → b.parent ≡ Some parent → parent.task < b.key.task
+pub parent-task : (b : Batch) (parent : BatchKey) → fault_of b ≡ None → b.parent ≡ Some parent → parent.task < b.key.task
 parent-task b parent e at =
     let fit : is_parent_fit b.key (Some parent) ≡ true = subst (λ (o : Option BatchKey). is_parent_fit b.key o ≡ true) at (passes b e).parent in
     ltb-true parent.task b.key.task (and_parts (not (nat_lt b.key.version parent.version)) (nat_lt parent.task b.key.task) fit).1
@@ -54,6 +54,13 @@ module _ (run : RunId) (batches : List Batch) (new : Batch) (tree : IsTree run b
       by (inl same) = subst (λ (x : Batch). has_key x.parent (arrived new batches) ≡ true) (sym same) (key-there new.parent joins.reached)
       by (inr h) = key-there b.parent (tree.closed b h)
 
+  grown-faultless : AreFaultless (arrived new batches)
+  grown-faultless b has = by (which b has)
+    where
+      by : (b ≡ new) ⊎ Has batches b → fault_of b ≡ None
+      by (inl same) = subst (λ (x : Batch). fault_of x ≡ None) (sym same) joins.faultless
+      by (inr h) = tree.faultless b h
+
   grown-runs : AreOfRun run (arrived new batches)
   grown-runs b has = by (which b has)
     where
@@ -90,6 +97,7 @@ module _ (run : RunId) (batches : List Batch) (new : Batch) (tree : IsTree run b
   pub grown_is_tree : IsTree run (arrived new batches)
   grown_is_tree = record {
     set = arrival_keeps_sets new batches tree.set (faultless-back new joins.faultless);
+    faultless = grown-faultless;
     closed = grown-closed;
     runs = grown-runs;
     parents = grown-parents;

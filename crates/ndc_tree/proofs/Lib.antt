@@ -3,3 +3,7 @@ pub mod GrowLemmas
 pub mod EventLemmas
 pub mod FitLemmas
 pub mod TipLemmas
+pub mod PathLemmas
+pub mod LastLemmas
+pub mod VersionLemmas
+pub mod ReadingLemmas

@@ -86,7 +86,7 @@ keys-without key p (b ∷ batches) rise = by (p b) (key_eq b.key key) refl refl 
     by false false e f rest = rw e rest
 
 -- a test of some batch, with one batch more
-any-arrived : (g : Batch → Bool) (new : Batch) (batches : List Batch) → batch_at new.key batches ≡ None → list_any g (arrived new batches) ≡ (list_any g batches || g new)
+pub any-arrived : (g : Batch → Bool) (new : Batch) (batches : List Batch) → batch_at new.key batches ≡ None → list_any g (arrived new batches) ≡ (list_any g batches || g new)
 any-arrived g new [] none = by (g new) refl
   where
     by : (t : Bool) → g new ≡ t → list_any g (new ∷ []) ≡ (list_any g [] || g new)

@@ -3,6 +3,7 @@
 
 mod answer;
 mod batches;
+pub mod laws;
 mod tips;
 mod tree;
 

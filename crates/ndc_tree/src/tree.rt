@@ -1,15 +1,17 @@
-ghost use Rattle.std.specs.Prelude.{◌≡◌, ◌<◌, ◌↔◌, IfSome, IsTrue, Some};
+ghost use Rattle.std.specs.Prelude.{◌≡◌, ◌<◌, ◌↔◌, map, IfSome, IfOk, OnOk, IsTrue, Some, Ok};
+ghost use Rattle.ndc_history.specs.History.{rises, added};
 ghost use Rattle.ndc_sets.specs.Sets.{Has};
 ghost use Rattle.ndc_sets.specs.Paths.{first_id, last_id};
-ghost use Rattle.std.specs.Option.{option_copied};
+ghost use Rattle.std.specs.Option.{option_copied, option_map};
 ghost use Rattle.ndc_tree.specs.Fitting.{goes_on, key_behind};
+ghost use Rattle.ndc_tree.specs.Reading.{parent_of};
 ghost use Rattle.ndc_tree.specs.Inserting.{end_of};
 
 use crate::answer::{Inserted, TreeError};
 use crate::batches::Batches;
 use crate::tips::Tips;
 use ndc_event::{Batch, BatchKey, Event, RunId};
-use ndc_history::Item;
+use ndc_history::{Item, VersionHistory};
 use std::alloc::{AllocError, Global};
 use std::marker::Model;
 
@@ -43,18 +45,22 @@ impl Drop for Tree {
 }
 
 impl Tree {
-    ghost use Rattle.std.specs.Prelude.{◌≡◌, ◌<◌, ◌↔◌, ◌≢◌, [], None, Ok, IfSome, IfOk, OnOk, OnErr, IsTrue};
-    ghost use Rattle.std.specs.Option.{option_copied};
+    ghost use Rattle.std.specs.Prelude.{◌≡◌, ◌<◌, ◌↔◌, ◌≢◌, [], ◌∷◌, ◌++◌, map, None, Some, Ok, IfSome, IfOk, OnOk, OnErr, IsTrue};
+    ghost use Rattle.std.specs.Option.{option_copied, option_map};
     ghost use Rattle.ndc_sets.specs.Sets.{batch_at, arrived, Has};
     ghost use Rattle.ndc_event.specs.Outcome.{Gives};
     ghost use Rattle.ndc_event.specs.Batch.{fault_of};
     ghost use Rattle.ndc_tree.specs.declared.answer.Inserted.TheVariants.{Known};
     ghost use Rattle.ndc_tree.specs.declared.answer.TreeError.TheVariants.{Memory};
-    ghost use Rattle.ndc_tree.specs.Tree.{Joins};
+    ghost use Rattle.ndc_tree.specs.Tree.{IsTree, Joins};
     ghost use Rattle.ndc_sets.specs.Learned.{has_key};
     ghost use Rattle.ndc_tree.specs.Fitting.{is_below, splits_version, fits};
     ghost use Rattle.ndc_tree.specs.Inserting.{inserted, placed};
-    ghost use Rattle.ndc_tree.specs.Tips.{tip_keys};
+    ghost use Rattle.ndc_tree.specs.Tips.{is_key_among, tip_keys};
+    ghost use Rattle.ndc_sets.specs.Paths.{path_to};
+    ghost use Rattle.ndc_history.specs.History.{rises};
+    ghost use Rattle.ndc_tree.specs.Inserting.{end_of};
+    ghost use Rattle.ndc_tree.specs.Reading.{current_key, path_at, path_keys, history_at, elder_of, items_of, named};
 
     /// The tree of a run without a batch.
     pub fn new(alloc: Global, run: RunId) -> Tree
@@ -67,9 +73,10 @@ impl Tree {
         }
     }
 
-    /// The run.
+    /// The run; its batches are a tree.
     pub fn run(&self) -> RunId
-        ensures { result ≡ self.now.run }
+        ensures run { result ≡ self.now.run }
+        ensures tree { IsTree self.now.run self.now.batches }
     {
         self.run
     }
@@ -94,7 +101,7 @@ impl Tree {
         ensures same { result ≡ Ok Known → self.new ≡ self.old }
         ensures err { OnErr result (self.new ≡ self.old) }
     {
-        let inserted = self.judged(batch)?;
+        let inserted = self.judge(batch)?;
         match inserted {
             Inserted::Known => Ok(inserted),
             _ => {
@@ -104,8 +111,9 @@ impl Tree {
         }
     }
 
-    /// What becomes of the batch.
-    fn judged(&self, batch: &Batch) -> Result<Inserted, TreeError>
+    /// What [`Tree::insert`] would answer, with memory enough. In time of the logarithm of the batches, and of the
+    /// batch where one of its key is there; without memory.
+    pub fn judge(&self, batch: &Batch) -> Result<Inserted, TreeError>
         requires { fault_of batch.now ≡ None }
         ensures known { Has self.now.batches batch.now ↔ (result ≡ Ok Known) }
         ensures answer { result ≢ Ok Known → result ≡ inserted self.now.run self.now.batches batch.now }
@@ -124,8 +132,9 @@ impl Tree {
         Ok(self.placed(key, batch.parent))
     }
 
-    /// Takes in a batch that joins the tree.
-    fn join(&mut self, batch: &Batch) -> Result<(), AllocError>
+    /// Takes in a batch that joins the tree, as [`Tree::judge`] tells where it neither refuses nor knows it. For want
+    /// of memory the tree is as it was. In time of the logarithm of its batches, and of the batch's copy.
+    pub fn join(&mut self, batch: &Batch) -> Result<(), AllocError>
         requires { Joins self.old.run self.old.batches batch.now }
         ensures ok { OnOk result (self.new ≡ record self.old { batches = arrived batch.now self.old.batches }) }
         ensures err { OnErr result (self.new ≡ self.old) }
@@ -151,6 +160,118 @@ impl Tree {
         self.tips.to_vec(alloc)
     }
 
+    /// The key of the current branch's last batch; none exactly where there is no batch. In time of the logarithm of
+    /// the batches, without memory.
+    pub fn current(&self) -> Option<BatchKey>
+        ensures { result ≡ current_key self.now.run self.now.batches }
+    {
+        key_of(self.batches.last())
+    }
+
+    /// The batches of the path to the one of this key, from the run's first on; none exactly where it is not there.
+    /// A look-up for each batch of the path.
+    pub fn path_batches(
+        &self,
+        alloc: Global,
+        key: BatchKey,
+    ) -> Result<Option<Vec<&Batch>>, AllocError>
+        ensures { IfOk result (λ path. option_map (λ list. map (λ b. b.now) list.items) path ≡ path_at key self.now.batches) }
+    {
+        match self.get(key) {
+            None => Ok(None),
+            Some(batch) => Ok(Some(self.ancestors(alloc, batch)?)),
+        }
+    }
+
+    /// The keys of the path to the batch of this key, from the run's first on; none exactly where it is not there. A
+    /// look-up for each batch of the path.
+    pub fn path(&self, alloc: Global, key: BatchKey) -> Result<Option<Vec<BatchKey>>, AllocError>
+        ensures { IfOk result (λ path. option_map (λ list. list.items) path ≡ path_keys key self.now.batches) }
+    {
+        match self.path_batches(alloc, key)? {
+            None => Ok(None),
+            Some(path) => Ok(Some(keys_of(alloc, path.as_slice())?)),
+        }
+    }
+
+    /// The version history of the path to the batch of this key; none exactly where it is not there. Two look-ups for
+    /// each version on the path.
+    pub fn history_of(
+        &self,
+        alloc: Global,
+        key: BatchKey,
+    ) -> Result<Option<VersionHistory>, AllocError>
+        ensures { IfOk result (λ history. history ≡ history_at key self.now.batches) }
+    {
+        match self.get(key) {
+            None => Ok(None),
+            Some(batch) => {
+                let items = self.items_to(alloc, batch)?;
+                Ok(Some(history_from(alloc, items.as_slice())?))
+            }
+        }
+    }
+
+    /// The batches of the path to this one, from the run's first on.
+    fn ancestors(&self, alloc: Global, batch: &Batch) -> Result<Vec<&Batch>, AllocError>
+        requires { Has self.now.batches batch.now }
+        ensures { IfOk result (λ list. map (λ b. b.now) list.items ≡ path_to batch.now.key self.now.batches) }
+    {
+        let mut path = Vec::new(alloc);
+        let mut next = self.batches.get(batch.key);
+        while let Some(one) = next {
+            path.push(one)?;
+            next = self.named(one.parent);
+        }
+        path.reverse();
+        Ok(path)
+    }
+
+    /// The items of the path's version history to this batch, in order.
+    fn items_to(&self, alloc: Global, batch: &Batch) -> Result<Vec<Item>, AllocError>
+        requires { Has self.now.batches batch.now }
+        ensures items { IfOk result (λ list. list.items ≡ items_of (Some batch.now) self.now.batches) }
+        ensures rise { IfOk result (λ list. IsTrue (rises list.items)) }
+    {
+        let mut items = Vec::new(alloc);
+        let mut next = self.batches.get(batch.key);
+        while let Some(one) = next {
+            items.push(end_of(Some(one)))?;
+            next = self.elder(one);
+        }
+        items.reverse();
+        Ok(items)
+    }
+
+    /// The last batch of a smaller version on the path to this one, where there is one: the parent of the first batch
+    /// of its version.
+    fn elder(&self, batch: &Batch) -> Option<&Batch>
+        ensures { option_copied result ≡ elder_of batch.now self.now.batches }
+    {
+        let start = BatchKey {
+            version: batch.key.version,
+            task: 0,
+        };
+        self.named(parent_of(self.batches.first_from(start)))
+    }
+
+    /// The batch of the key, where there is one.
+    fn named(&self, key: Option<BatchKey>) -> Option<&Batch>
+        ensures { option_copied result ≡ named key self.now.batches }
+    {
+        match key {
+            None => None,
+            Some(key) => self.batches.get(key),
+        }
+    }
+
+    /// Whether the key is that of a branch's last batch. In time of the logarithm of the branches, without memory.
+    pub fn is_tip(&self, key: BatchKey) -> bool
+        ensures { result ≡ is_key_among key (tip_keys self.now.run self.now.batches) }
+    {
+        self.tips.has(key)
+    }
+
     /// Where a batch goes that fits the tree.
     fn placed(&self, key: BatchKey, parent: Option<BatchKey>) -> Inserted
         ensures { result ≡ placed self.now.run self.now.batches key parent }
@@ -158,7 +279,7 @@ impl Tree {
         match parent {
             None => Inserted::Extended { branch: key },
             Some(parent) => {
-                if self.tips.has(parent) {
+                if self.is_tip(parent) {
                     Inserted::Extended { branch: key }
                 } else {
                     let at = end_of(self.batches.get(parent));
@@ -282,4 +403,56 @@ fn key_behind(key: BatchKey, parent: Option<BatchKey>) -> BatchKey
         }
     };
     BatchKey { version, task }
+}
+
+/// The key of the batch, where there is one.
+fn key_of(batch: Option<&Batch>) -> Option<BatchKey>
+    ensures { result ≡ option_map (λ b. b.key) (option_copied batch.entry) }
+{
+    match batch {
+        None => None,
+        Some(batch) => Some(batch.key),
+    }
+}
+
+/// The parent's key of the batch, where there is one.
+fn parent_of(batch: Option<&Batch>) -> Option<BatchKey>
+    ensures { result ≡ parent_of (option_copied batch.entry) }
+{
+    match batch {
+        None => None,
+        Some(batch) => batch.parent,
+    }
+}
+
+/// The keys of the batches.
+fn keys_of(alloc: Global, batches: &[&Batch]) -> Result<Vec<BatchKey>, AllocError>
+    ensures { IfOk result (λ keys. keys.items ≡ map (λ b. b.now.key) batches.now) }
+{
+    batches.iter().map(|batch| batch.key).collect(alloc)
+}
+
+/// The version history of these items.
+fn history_from(alloc: Global, items: &[Item]) -> Result<VersionHistory, AllocError>
+    requires { IsTrue (rises items.now) }
+    ensures { IfOk result (λ history. history ≡ items.now) }
+{
+    let mut history = VersionHistory::new(alloc);
+    for item in items {
+        match add_to(&mut history, item) {
+            Ok(()) => {}
+            Err(error) => return Err(error),
+        }
+    }
+    Ok(history)
+}
+
+/// Adds the item to the history; it is never refused where the items rise.
+fn add_to(history: &mut VersionHistory, item: &Item) -> Result<(), AllocError>
+    ensures { OnOk result (added history.old item.now ≡ Ok history.new) }
+{
+    match history.add(*item) {
+        Ok(()) => Ok(()),
+        Err(_) => Err(AllocError),
+    }
 }

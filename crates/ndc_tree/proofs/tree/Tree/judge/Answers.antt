@@ -4,7 +4,7 @@ use Rattle.ndc_tree.specs.Fitting.{fits}
 use Rattle.ndc_tree.specs.Tree.{TreeValue, Joins}
 use Rattle.ndc_tree.proofs.FitLemmas.{fit-joins}
 use Rattle.ndc_tree.proofs.GrowLemmas.{parent-before}
-use Rattle.ndc_tree.proofs.tree.Tree.judged.Goals as goal
+use Rattle.ndc_tree.proofs.tree.Tree.judge.Goals as goal
 
 pub fits-requires : goal.fits-requires
 fits-requires c = parent-before c.args.batch.now c.requires
