@@ -1,0 +1,4 @@
+pub mod Learning
+pub mod Leading
+pub mod Run
+pub mod RunFields

@@ -1,0 +1,13 @@
+//! The batches of one run, with the state of its current branch.
+#![tactic(auto)]
+
+mod answer;
+mod growing;
+pub mod laws;
+mod run;
+
+pub use answer::{Learned, RunError};
+pub use run::Run;
+
+#[cfg(test)]
+mod tests;
