@@ -1,1 +1,4 @@
 pub mod CountLemmas
+pub mod SeatLemmas
+pub mod KindLemmas
+pub mod LawLemmas
