@@ -5,6 +5,7 @@
 #![tactic(auto)]
 
 mod fault;
+mod gate;
 mod memory;
 mod reading;
 mod standard;
@@ -13,6 +14,7 @@ mod tests;
 mod writing;
 
 pub use fault::Failed;
+pub use gate::{Gate, OpenGate, PairGate};
 pub use memory::{MemSink, MemSource};
 pub use reading::{ReadError, Source, read_all};
 pub use standard::{StdSink, StdSource};
