@@ -1,0 +1,5 @@
+pub mod ShardLemmas
+pub mod EachLemmas
+pub mod DealLemmas
+pub mod RoundLemmas
+pub mod WholeLemmas

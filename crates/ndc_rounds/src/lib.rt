@@ -1,0 +1,13 @@
+//! Rounds: jobs that the cells of a cluster do side by side, with the same outcome as one after the other.
+#![tactic(auto)]
+
+mod halves;
+mod piece;
+pub mod round_laws;
+mod rounds;
+#[cfg(test)]
+mod tests;
+
+pub use halves::{Work, work_all};
+pub use piece::{Desk, Works};
+pub use rounds::{Rounded, round};
