@@ -1,0 +1,4 @@
+pub mod Joining
+pub mod Apart
+pub mod PathKeys
+pub mod Trees

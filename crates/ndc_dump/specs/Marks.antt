@@ -1,0 +1,47 @@
+-- The tree of a view with its batches marked by the keys of a path.
+use Rattle.std.specs.Prelude.{Bool, ℕ, List, [], ◌∷◌, ◌++◌, codes, decimal, find, Option, Some, if◌then◌else◌}
+use Rattle.std.specs.List.{filter, flat_map, list_any}
+use Rattle.std.specs.Option.{option_map}
+use Rattle.ndc_event.specs.Key.{key_eq}
+use Rattle.ndc_event.specs.declared.batch.Batch.{Batch}
+use Rattle.ndc_event.specs.declared.key.BatchKey.{BatchKey}
+use Rattle.ndc_event.specs.declared.key.RunId.{RunId}
+use Rattle.ndc_sets.specs.Branches.{same_run}
+use Rattle.ndc_sets.specs.Learned.{has_key}
+use Rattle.ndc_sets.specs.Paths.{first_id, last_id, path_from}
+use Rattle.ndc_sets.specs.declared.view.BranchView.{BranchView}
+use Rattle.ndc_sets.specs.declared.view.RunView.{RunView}
+use Rattle.ndc_text.specs.Views.{branch_line, current_mark, key_text, parent_text, run_line}
+
+-- whether the key is listed
+abbrev pub is_listed : BatchKey → List BatchKey → Bool
+is_listed key keys = list_any (key_eq key) keys
+
+-- the key goes last, where it is not listed
+abbrev pub with_key : BatchKey → List BatchKey → List BatchKey
+with_key key keys = if is_listed key keys then keys else keys ++ key ∷ []
+
+-- `batch KEY after PARENT`
+abbrev pub batch_head : Batch → List ℕ
+batch_head b = codes "batch " ++ key_text b.key ++ codes " after " ++ parent_text b.parent
+
+-- the line of a batch, with a mark or without
+abbrev pub marked_line : Bool → Batch → List ℕ
+marked_line mark b = batch_head b ++ codes " events " ++ decimal (first_id b.events) ++ codes ".." ++ decimal (last_id b.events) ++ current_mark mark ++ codes "\n"
+
+-- the lines of a run's batches, those with a listed key marked
+abbrev pub marked_lines : List BatchKey → RunId → List Batch → List ℕ
+marked_lines keys run batches = flat_map (λ b. marked_line (is_listed b.key keys) b) (filter (λ b. same_run b.run run) batches)
+
+-- the lines of a run's batches, those on a path marked
+abbrev pub path_lines : List Batch → RunId → List Batch → List ℕ
+path_lines path run batches = flat_map (λ b. marked_line (has_key (Some b.key) path) b) (filter (λ b. same_run b.run run) batches)
+
+-- the tip of the branch that is the current one
+abbrev pub current_key : List BranchView → Option BatchKey
+current_key branches = option_map (λ branch. branch.tip) (find (λ branch. branch.is_current) branches)
+
+-- the tree of a run: its batches with those of the current branch marked, and its branches
+abbrev pub run_tree : List Batch → RunView → List ℕ
+run_tree batches run =
+    run_line run ++ path_lines (path_from (current_key run.branches) batches) run.run batches ++ flat_map branch_line run.branches

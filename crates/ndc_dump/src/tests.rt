@@ -1,0 +1,104 @@
+use crate::print::dump_text;
+use crate::tree::text_of;
+use ndc_event::{Batch, BatchKey, Name, RunId};
+use ndc_history::{Item, VersionHistory};
+use ndc_sets::{Batches, BranchView, BranchViews, RunStatus, RunView, RunViews, View};
+use ndc_state::{State, Steps};
+use ndc_text::read_batch;
+use std::alloc::{AllocError, Global};
+use std::test::Fail;
+
+// Marks the counter of these tests.
+struct Test;
+
+const STARTED: &str =
+    "{\"domain\":\"alpha\",\"events\":[{\"eventId\":1,\"eventType\":\"WorkflowExecutionStarted\",\"version\":1,\"workflowType\":\"order\"},{\"eventId\":2,\"eventType\":\"DecisionTaskScheduled\",\"version\":1}],\"parent\":null,\"run\":\"00000000-0000-0001-0000-000000000001\",\"task\":1,\"version\":1,\"workflow\":\"w1\"}";
+
+const SIGNALED: &str =
+    "{\"domain\":\"alpha\",\"events\":[{\"eventId\":3,\"eventType\":\"WorkflowExecutionSignaled\",\"input\":\"x\",\"signalName\":\"ping\",\"version\":1}],\"parent\":{\"task\":1,\"version\":1},\"run\":\"00000000-0000-0001-0000-000000000001\",\"task\":2,\"version\":1,\"workflow\":\"w1\"}";
+
+const DUMP: &str =
+    "dump 2 alpha w1\n{\"domain\":\"alpha\",\"events\":[{\"eventId\":1,\"eventType\":\"WorkflowExecutionStarted\",\"version\":1,\"workflowType\":\"order\"},{\"eventId\":2,\"eventType\":\"DecisionTaskScheduled\",\"version\":1}],\"parent\":null,\"run\":\"00000000-0000-0001-0000-000000000001\",\"task\":1,\"version\":1,\"workflow\":\"w1\"}\n{\"domain\":\"alpha\",\"events\":[{\"eventId\":3,\"eventType\":\"WorkflowExecutionSignaled\",\"input\":\"x\",\"signalName\":\"ping\",\"version\":1}],\"parent\":{\"task\":1,\"version\":1},\"run\":\"00000000-0000-0001-0000-000000000001\",\"task\":2,\"version\":1,\"workflow\":\"w1\"}\nrun 00000000-0000-0001-0000-000000000001 open current\nbranch 1.2 3@1 current\nstate next=4 decision=2 activities=- timers=- children=- signals=1 cancel=no\nend\n";
+
+const TREE: &str =
+    "workflow alpha w1\nrun 00000000-0000-0001-0000-000000000001 open current\nbatch 1.1 after - events 1..2 current\nbatch 1.2 after 1.1 events 3..3 current\nbranch 1.2 3@1 current\n";
+
+const RUN: RunId = RunId {
+    value: 18446744073709551617,
+};
+
+fn name(alloc: Global, text: &str) -> Result<Name, AllocError> {
+    Name::new(alloc, text.as_bytes()).map_err(|_| AllocError)
+}
+
+fn batch(alloc: Global, text: &str) -> Result<Batch, AllocError> {
+    read_batch(alloc, text.as_bytes()).map_err(|_| AllocError)
+}
+
+// A run that was started and signaled.
+fn batches(alloc: Global) -> Result<Vec<Batch>, AllocError> {
+    let mut batches = Vec::new(alloc);
+    batches.push(batch(alloc, STARTED)?)?;
+    batches.push(batch(alloc, SIGNALED)?)?;
+    Ok(batches)
+}
+
+fn state(alloc: Global, batches: &[Batch]) -> Result<State, AllocError> {
+    let mut state = State::new(alloc, RUN);
+    let mut steps: Steps<Test> = Steps::new();
+    for batch in batches {
+        for event in batch.events.as_slice() {
+            if event.id <= 1_000_000_000_000 {
+                state.apply(event, &mut steps).map_err(|_| AllocError)?;
+            }
+        }
+    }
+    Ok(state)
+}
+
+fn branches(alloc: Global, state: State) -> Result<BranchViews, AllocError> {
+    let mut history = VersionHistory::new(alloc);
+    history
+        .add(Item { id: 3, version: 1 })
+        .map_err(|_| AllocError)?;
+    let mut items = Vec::new(alloc);
+    items.push(BranchView {
+        tip: BatchKey {
+            version: 1,
+            task: 2,
+        },
+        history,
+        is_current: true,
+        state,
+    })?;
+    Ok(BranchViews::new(items))
+}
+
+fn view(alloc: Global) -> Result<View, AllocError> {
+    let batches = batches(alloc)?;
+    let state = state(alloc, batches.as_slice())?;
+    let branches = branches(alloc, state)?;
+    let mut runs = Vec::new(alloc);
+    runs.push(RunView {
+        run: RUN,
+        status: RunStatus::Running,
+        close: None,
+        is_current: true,
+        branches,
+    })?;
+    Ok(View {
+        batches: Batches::new(batches),
+        runs: RunViews::new(runs),
+    })
+}
+
+#[test]
+fn prints_a_dump_and_a_tree(rt: HostRuntime) -> Result<(), Fail> {
+    let alloc = rt.alloc();
+    let domain = name(alloc, "alpha")?;
+    let workflow = name(alloc, "w1")?;
+    let view = view(alloc)?;
+    assert!(rt; dump_text(alloc, &domain, &workflow, &view)?.as_slice() == DUMP.as_bytes());
+    assert!(rt; text_of(alloc, &domain, &workflow, &view)?.as_slice() == TREE.as_bytes());
+    Ok(())
+}
