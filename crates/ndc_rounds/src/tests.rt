@@ -1,3 +1,5 @@
+ghost use Rattle.std.specs.Prelude.{◌≡◌, length, IfOk};
+
 use super::*;
 use ndc_cells::{Job, JobReply, ShardJob};
 use ndc_domain::{ClusterNo, Clusters, DomainTable};
@@ -7,19 +9,19 @@ use std::alloc::{AllocError, Global};
 use std::sync::atomic::{AtomicBool, Ordering};
 use std::test::Fail;
 
-/// A cell that may do no job.
+/// A cell that finds no memory for any job.
 #[derive(Drop)]
-struct IdleCell {}
+struct FullCell {}
 
-impl Works for IdleCell {
+impl Works for FullCell {
     ghost use Rattle.ndc_cells.specs.Cells.{empty_cell};
 
     ghost cell = { λ _. empty_cell };
 
-    ghost allows = { λ _ _ _. ⊥ };
+    ghost allows = { λ _ _ _. Unit {0} };
 
     fn do_job(&mut self, _desk: &Desk, _job: &Job) -> Result<JobReply, AllocError> {
-        unreachable!()
+        Err(AllocError)
     }
 }
 
@@ -47,11 +49,13 @@ impl Gate for LateGate {
     }
 }
 
-/// Two idle cells.
-fn two_cells(alloc: Global) -> Result<Vec<IdleCell>, AllocError> {
+/// Two cells without memory.
+fn two_cells(alloc: Global) -> Result<Vec<FullCell>, AllocError>
+    ensures { IfOk result (λ cells. length cells.items ≡ 2) }
+{
     let mut cells = Vec::new(alloc);
-    cells.push(IdleCell {})?;
-    cells.push(IdleCell {})?;
+    cells.push(FullCell {})?;
+    cells.push(FullCell {})?;
     Ok(cells)
 }
 
@@ -99,5 +103,24 @@ fn both_workers_enter_at_once(rt: HostRuntime) -> Result<(), Fail> {
     assert!(rt; one.cells.len() == 2 && other.cells.len() == 2 && alone.cells.len() == 2);
     assert!(rt; one.replies.is_empty() && other.replies.is_empty() && alone.replies.is_empty());
     assert!(rt; pair.met() && late.met.load(Ordering::SeqCst));
+    Ok(())
+}
+
+#[test]
+fn want_of_memory_ends_a_round(rt: HostRuntime) -> Result<(), Fail> {
+    let alloc = rt.alloc();
+    let mut members = Vec::new(alloc);
+    members.push((Name::new(alloc, b"A".as_slice())?, 1))?;
+    let clusters = Clusters::build(10, members)?;
+    let table = DomainTable::new(alloc);
+    let desk = Desk::new(&clusters, ClusterNo { number: 0 }, 100, &table);
+    let mut jobs = Vec::new(alloc);
+    jobs.push(ShardJob {
+        shard: 1,
+        job: Job::Reapply,
+    })?;
+    let cells = two_cells(alloc)?;
+    let rounded = round(&rt, alloc, &OpenGate {}, 2, &desk, cells, jobs.as_slice());
+    assert!(rt; rounded.is_err());
     Ok(())
 }
