@@ -107,6 +107,17 @@ fn both_workers_enter_at_once(rt: HostRuntime) -> Result<(), Fail> {
 }
 
 #[test]
+fn the_first_worker_waits_for_the_second(rt: HostRuntime) -> Result<(), Fail> {
+    let alone = PairGate::new();
+    assert!(rt; !alone.enter(0) && !alone.met());
+    assert!(rt; alone.enter(1) && alone.enter(0) && !alone.met());
+    let pair = PairGate::new();
+    assert!(rt; pair.enter(2) && pair.enter(1) && !pair.met());
+    assert!(rt; pair.enter(0) && pair.met());
+    Ok(())
+}
+
+#[test]
 fn want_of_memory_ends_a_round(rt: HostRuntime) -> Result<(), Fail> {
     let alloc = rt.alloc();
     let mut members = Vec::new(alloc);
