@@ -1,0 +1,4 @@
+pub mod DoneLemmas
+pub mod IdleLemmas
+pub mod PlaceLemmas
+pub mod RestLemmas

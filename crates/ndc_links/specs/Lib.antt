@@ -1,0 +1,3 @@
+pub mod LinkFields
+pub mod Links
+pub mod Rest
