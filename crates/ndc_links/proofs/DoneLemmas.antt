@@ -1,5 +1,5 @@
 -- How many entries are done, over all lanes.
-use Rattle.std.proofs.Common.{◌≡◌, ◌≤◌, ◌<◌, ◌+◌, ℕ, zero, suc, List, [], ◌∷◌, map, take, length, get_or, replicate, set, sum, refl, ap, sym, ◌∙◌, arith}
+use Rattle.std.proofs.Common.{◌≡◌, ◌≤◌, ◌<◌, ◌+◌, ℕ, zero, suc, List, [], ◌∷◌, map, take, length, get_or, replicate, set, sum, sum_by, refl, ap, sym, ◌∙◌, arith}
 use Rattle.std.proofs.Math.Seq.{map-set_same}
 use Rattle.std.proofs.lemmas.List.{map-append, take_more_set}
 use Rattle.std.proofs.lemmas.List.Sums.{sum_by-cons, sum_by_push}
@@ -41,7 +41,7 @@ done_more lanes i count more new below so step =
     ∙ ap (λ n. n + done new) (sym so) ∙ ap (λ n. count + n) (sym step))
 
 -- no more is done than is written
-done-most : (queues : List QueueValue) (lanes : List Lane) → length queues ≡ length lanes → AreWithin queues lanes → done_of lanes ≤ sum (map queue_len queues)
+done-most : (queues : List QueueValue) (lanes : List Lane) → length queues ≡ length lanes → AreWithin queues lanes → done_of lanes ≤ sum_by queue_len queues
 done-most [] [] alike within = omega arith
 done-most [] (lane ∷ lanes) alike within = absurd (omega (arith, alike))
 done-most (queue ∷ queues) [] alike within = absurd (omega (arith, alike))
@@ -53,11 +53,11 @@ done-most (queue ∷ queues) (lane ∷ lanes) alike within =
       first.read_most,
       done-most queues lanes (omega (arith, alike)) (λ shard below. within (suc shard) (omega (arith, below))),
       done-more lane lanes,
-      sum_by-cons (λ n. n) (queue_len queue) (map queue_len queues),
+      sum_by-cons queue_len queue queues,
     )
 
 -- where as much is done as is written, each lane is done up to the end of its queue
-pub done_each : (queues : List QueueValue) (lanes : List Lane) → length queues ≡ length lanes → AreWithin queues lanes → done_of lanes ≡ sum (map queue_len queues)
+pub done_each : (queues : List QueueValue) (lanes : List Lane) → length queues ≡ length lanes → AreWithin queues lanes → done_of lanes ≡ sum_by queue_len queues
     → (shard : ℕ) → shard < length lanes → (lane_at lanes shard).levels.done ≡ queue_len (queue_at queues shard)
 done_each queues [] alike within all shard below = absurd (omega (arith, below))
 done_each [] (lane ∷ lanes) alike within all shard below = absurd (omega (arith, alike))
@@ -70,12 +70,12 @@ done_each (queue ∷ queues) (lane ∷ lanes) alike within all zero below =
       first.read_most,
       done-most queues lanes (omega (arith, alike)) (λ shard below. within (suc shard) (omega (arith, below))),
       done-more lane lanes,
-      sum_by-cons (λ n. n) (queue_len queue) (map queue_len queues),
+      sum_by-cons queue_len queue queues,
     )
 done_each (queue ∷ queues) (lane ∷ lanes) alike within all (suc shard) below =
     let first = within zero (omega arith) in
     let rest : AreWithin queues lanes = λ k less. within (suc k) (omega (arith, less)) in
-    let left : done_of lanes ≡ sum (map queue_len queues) =
+    let left : done_of lanes ≡ sum_by queue_len queues =
     omega (
       arith,
       all,
@@ -83,6 +83,6 @@ done_each (queue ∷ queues) (lane ∷ lanes) alike within all (suc shard) below
       first.read_most,
       done-most queues lanes (omega (arith, alike)) rest,
       done-more lane lanes,
-      sum_by-cons (λ n. n) (queue_len queue) (map queue_len queues),
+      sum_by-cons queue_len queue queues,
     ) in
     done_each queues lanes (omega (arith, alike)) rest left shard (omega (arith, below))

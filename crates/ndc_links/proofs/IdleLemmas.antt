@@ -1,5 +1,5 @@
 -- Renewing where all is done: nothing changes.
-use Rattle.std.proofs.Common.{◌≡◌, ◌≤◌, ◌<◌, ◌+◌, ℕ, zero, suc, List, [], ◌∷◌, max, map, length, get_or, sum, refl, ap, ◌∙◌, arith}
+use Rattle.std.proofs.Common.{◌≡◌, ◌≤◌, ◌<◌, ◌+◌, ℕ, zero, suc, List, [], ◌∷◌, max, length, get_or, sum_by, refl, ap, ◌∙◌, arith}
 use Rattle.std.proofs.lemmas.List.Sums.{prefix_len-drop_all}
 use Rattle.ndc_cells.specs.Cells.{Cell}
 use Rattle.ndc_cells.specs.declared.message.Message.{Message}
@@ -33,7 +33,7 @@ idle-lane reader table cell whole lane read all =
 
 -- and so all lanes, where as much is done as is written
 pub idle_lanes : (reader : ClusterNo) (table : List DomainRecord) (cells : ℕ → Cell) (queues : List QueueValue) (whole : ℕ → List Message) (lanes : List Lane)
-    → length queues ≡ length lanes → AreWithin queues lanes → AreRests queues whole → done_of lanes ≡ sum (map queue_len queues)
+    → length queues ≡ length lanes → AreWithin queues lanes → AreRests queues whole → done_of lanes ≡ sum_by queue_len queues
     → map_from (λ shard lane. after_renewal reader table (cells shard) (whole shard) lane) 0 lanes ≡ lanes
 idle_lanes reader table cells queues whole lanes alike within rests all =
     same-from (λ shard lane. after_renewal reader table (cells shard) (whole shard) lane) 0 lanes new_lane (λ k place below is.

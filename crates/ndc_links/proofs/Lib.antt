@@ -1,4 +1,5 @@
 pub mod DoneLemmas
 pub mod IdleLemmas
 pub mod PlaceLemmas
+pub mod QueueLemmas
 pub mod RestLemmas

@@ -36,12 +36,15 @@ within_there queues lanes old shard queue lane within alike below rest is at =
     let queue_is : queue ≡ queue_at queues shard = get_or_read queues shard queue below_too at new_queue in
     subst (λ (l : Lane). IsWithin queue l) (sym lane_is) (subst (λ (q : QueueValue). IsWithin q (lane_at old shard)) (sym queue_is) (within shard below))
 
+-- the queue of a shard
+pub queue_there : (queues : List QueueValue) (shard : ℕ) (queue : QueueValue) → shard < length queues → queue ≡ get_or queues shard queue → queue ≡ queue_at queues shard
+queue_there queues shard queue below at = get_or_read queues shard queue below at new_queue
+
 -- what is kept of the next shard's queue is the rest of the whole
 pub rest_there : (queues : List QueueValue) (whole : ℕ → List Message) (shard : ℕ) (queue : QueueValue) → AreRests queues whole → shard < length queues
     → queue ≡ get_or queues shard queue → IsRestOf queue (whole shard)
 rest_there queues whole shard queue rests below at =
-    let queue_is : queue ≡ queue_at queues shard = get_or_read queues shard queue below at new_queue in
-    subst (λ (q : QueueValue). IsRestOf q (whole shard)) (sym queue_is) (rests shard below)
+    subst (λ (q : QueueValue). IsRestOf q (whole shard)) (sym (queue_there queues shard queue below at)) (rests shard below)
 
 -- what is seen of the cell at a place
 pub cell_there : {X : Type 0} (view : X → Cell) (cells : List X) (shard : ℕ) (cell : X) → shard < length cells → cell ≡ get_or cells shard cell

@@ -7,19 +7,18 @@ ghost use Rattle.ndc_model.specs.Queues.{is_addressed, names_cluster, needs_noth
 use ndc_cells::Message;
 use ndc_domain::{ClusterNo, DomainTable};
 use ndc_event::{Batch, BatchKey, Name};
+use ndc_rounds::Works;
 use std::alloc::{AllocError, Global};
 
-/// A cell that tells which batches it has learned.
-pub trait Learns {
+/// Something that does the jobs of a cell, and tells which batches it has learned.
+pub trait Learns: Works {
     ghost use Rattle.std.specs.Prelude.{◌≡◌, Some};
-    ghost use Rattle.ndc_cells.specs.Cells.{Cell, learned_of};
+    ghost use Rattle.ndc_cells.specs.Cells.{learned_of};
     ghost use Rattle.ndc_sets.specs.Learned.{has_key};
-
-    ghost cell: { Self → Cell };
 
     /// Whether it has learned the batch of this key of a workflow. Takes no memory.
     fn has_learned(&self, domain: &Name, workflow: &Name, key: BatchKey) -> bool
-        ensures { result ≡ has_key (Some key) (learned_of domain.now workflow.now (cell self.now)) };
+        ensures { result ≡ has_key (Some key) (learned_of domain.now workflow.now (Self.cell self.now)) };
 }
 
 /// Whether the record of a domain names a cluster.

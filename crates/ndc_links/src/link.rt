@@ -9,6 +9,7 @@ ghost use Rattle.ndc_model.specs.World.{newly_naming};
 
 use crate::addressed::{Learns, is_named};
 use crate::lane::Lane;
+use crate::queues::Queues;
 use ndc_domain::{ClusterNo, DomainRecord, DomainTable};
 use ndc_event::Name;
 use ndc_queue::{FlightError, Message, NoSuchPlace, Queue};
@@ -127,7 +128,6 @@ impl Link {
     ghost use Rattle.ndc_model.specs.Queues.{after_pull, after_renewal, after_rewind, new_lane, put_in_flight};
     ghost use Rattle.ndc_model.specs.World.{is_link, lane_in, newly_naming};
     ghost use Rattle.ndc_queue.specs.Lists.{after_loss, after_move, after_repeat};
-    ghost use Rattle.ndc_queue.specs.Queues.{queue_len};
     ghost use Rattle.ndc_queue.specs.declared.flight.FlightError.TheVariants as error;
 
     /// What a reader has of a source in the beginning, for so many shards, at most 64.
@@ -196,7 +196,7 @@ impl Link {
         &mut self,
         alloc: Global,
         table: &DomainTable,
-        queues: &[Queue],
+        queues: &Queues,
     ) -> Result<u64, AllocError>
         requires alike { length queues.now ≡ length self.old.lanes }
         requires within { AreWithin queues.now self.old.lanes }
@@ -205,6 +205,7 @@ impl Link {
         ensures count { IfOk result (λ sent. (whole : ℕ → List Sent) → AreRests queues.now whole
             → sent ≡ sum (map_from (λ shard lane. length (put_in_flight self.old.reader table.now None (whole shard) lane)) 0 self.old.lanes)) }
     {
+        let queues = queues.as_slice();
         let count = pull_lanes(alloc, &mut self.lanes, table, self.reader, queues)?;
         Ok(count)
     }
@@ -233,25 +234,19 @@ impl Link {
     }
 
     /// Renews the levels of each shard, by what the reader's cells have learned. There is a cell and a queue for each
-    /// shard, and what is kept of the queue reaches from the lane's `done` or before it to its end. The number of entries
-    /// of all queues is given; where so many are done, there is nothing to look at. Takes no memory.
-    pub fn renew<C: Learns>(
-        &mut self,
-        table: &DomainTable,
-        cells: &[C],
-        queues: &[Queue],
-        written: u64,
-    )
-        requires written { written ≡ sum (map queue_len queues.now) }
+    /// shard, and what is kept of the queue reaches from the lane's `done` or before it to its end. Where all entries are
+    /// done, none is looked at. Takes no memory.
+    pub fn renew<C: Learns>(&mut self, table: &DomainTable, cells: &[C], queues: &Queues)
         requires cells { length cells.now ≡ length self.old.lanes }
         requires alike { length queues.now ≡ length self.old.lanes }
         requires within { AreWithin queues.now self.old.lanes }
         ensures { (whole : ℕ → List Sent) → AreRests queues.now whole
             → self.new ≡ record self.old { lanes = map_from (λ shard lane. after_renewal self.old.reader table.now (cell_for shard (map C.cell cells.now)) (whole shard) lane) 0 self.old.lanes } }
     {
-        if self.done == written {
+        if self.done == queues.written() {
             return;
         }
+        let queues = queues.as_slice();
         self.done = renew_lanes(&mut self.lanes, table, self.reader, cells, queues);
     }
 

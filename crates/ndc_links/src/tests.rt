@@ -2,25 +2,46 @@ ghost use Rattle.std.specs.Prelude.{◌≡◌, ◌≤◌, IfOk, length};
 ghost use Rattle.ndc_queue.specs.Queues.{queue_len};
 
 use super::*;
-use ndc_cells::Message;
+use ndc_cells::{Job, JobReply, Message};
 use ndc_domain::{ClusterNo, Clusters, DomainTable, Members};
 use ndc_event::{Batch, BatchKey, Events, Name, RunId};
 use ndc_history::VersionHistory;
 use ndc_queue::Queue;
+use ndc_rounds::{Desk, Works};
 use std::alloc::{AllocError, Global};
 use std::test::Fail;
 
-/// A cell that has learned nothing.
+/// A cell that has written one message and learned nothing, and finds no memory for any job.
 #[derive(Drop)]
-struct NewCell {}
+struct OneCell {
+    message: Message,
+}
 
-impl Learns for NewCell {
-    ghost use Rattle.ndc_cells.specs.Cells.{empty_cell};
+impl Works for OneCell {
+    ghost use Rattle.std.specs.Prelude.{[], ◌∷◌};
 
-    ghost cell = { λ _. empty_cell };
+    ghost cell = { λ one. record { arrived = []; written = one.message ∷ []; waiting = [] } };
 
+    ghost allows = { λ _ _ _. Unit {0} };
+
+    fn do_job(&mut self, _desk: &Desk, _job: &Job) -> Result<JobReply, AllocError> {
+        Err(AllocError)
+    }
+}
+
+impl Learns for OneCell {
     fn has_learned(&self, _domain: &Name, _workflow: &Name, _key: BatchKey) -> bool {
         false
+    }
+}
+
+impl Writes for OneCell {
+    fn written_len(&self) -> u64 {
+        1
+    }
+
+    fn written_at(&self, _place: u64) -> Result<Message, AllocError> {
+        self.message.try_copy()
     }
 }
 
@@ -65,12 +86,12 @@ fn pull(
 }
 
 /// How far a lane is done behind renewing, where its levels lie in the queue.
-fn renew(lane: &mut Lane, table: &DomainTable, queue: &Queue) -> Option<u64> {
+fn renew(lane: &mut Lane, table: &DomainTable, cell: &OneCell, queue: &Queue) -> Option<u64> {
     let done = lane.levels().done;
     if done < queue.first() || queue.len() < done {
         return None;
     }
-    Some(lane.renew(table, cluster(1), &NewCell {}, queue))
+    Some(lane.renew(table, cluster(1), cell, queue))
 }
 
 /// A table with a record of `alpha` that names these clusters of two.
@@ -110,7 +131,10 @@ fn a_lane_is_pulled_and_renewed(rt: HostRuntime) -> Result<(), Fail> {
     assert!(rt; lane.levels().read == 1 && lane.flight().is_empty());
     assert!(rt; pull(&mut lane, alloc, &table, None, &queue)? == Some(1));
     assert!(rt; lane.levels().read == 3 && lane.levels().done == 0);
-    assert!(rt; renew(&mut lane, &table, &queue) == Some(1));
+    let cell = OneCell {
+        message: message(alloc, "alpha", 1)?,
+    };
+    assert!(rt; renew(&mut lane, &table, &cell, &queue) == Some(1));
     lane.rewind();
     assert!(rt; lane.levels().read == 1 && lane.levels().done == 1);
     assert!(rt; lane.repeat(0).is_ok() && lane.repeat(2).is_err());
@@ -132,5 +156,24 @@ fn a_link_notes_late_domains(rt: HostRuntime) -> Result<(), Fail> {
     assert!(rt; link.late().len() == 1);
     link.clear_late();
     assert!(rt; link.late().is_empty());
+    Ok(())
+}
+
+#[test]
+fn queues_grow_with_their_cells(rt: HostRuntime) -> Result<(), Fail> {
+    let alloc = rt.alloc();
+    let mut cells = Vec::new(alloc);
+    cells.push(OneCell {
+        message: message(alloc, "alpha", 1)?,
+    })?;
+    let mut queues = Queues::new(alloc, 1)?;
+    queues.extend(cells.as_slice())?;
+    assert!(rt; queues.written() == 1 && queues.as_slice().len() == 1);
+    assert!(rt;
+        queues
+            .as_slice()
+            .iter()
+            .all(|queue| queue.len() == 1 && queue.kept().len() == 1)
+    );
     Ok(())
 }
