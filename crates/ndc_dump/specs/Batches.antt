@@ -1,5 +1,5 @@
 -- The batches of a dump, read line by line.
-use Rattle.std.specs.Prelude.{ℕ, ◌+◌, Bool, false, not, ◌&&◌, List, [], ◌∷◌, Option, Some, None, Result, Ok, Err, if◌then◌else◌}
+use Rattle.std.specs.Prelude.{ℕ, suc, ◌+◌, Bool, false, not, ◌&&◌, List, [], ◌∷◌, ◌++◌, Option, Some, None, Result, Ok, Err, if◌then◌else◌}
 use Rattle.std.specs.Str.{bytes_eq}
 use Rattle.ndc_event.specs.Key.{key_eq, key_lt}
 use Rattle.ndc_event.specs.Outcome.{◌>>=◌}
@@ -10,8 +10,10 @@ use Rattle.ndc_text.specs.declared.error.TextError.{TextError}
 use Rattle.ndc_text.specs.declared.error.TextError.TheVariants as text
 use Rattle.ndc_dump.specs.declared.error.DumpError.{DumpError}
 use Rattle.ndc_dump.specs.declared.error.DumpError.TheVariants as dump
+use Rattle.ndc_dump.specs.declared.error.LineCause.{LineCause}
 use Rattle.ndc_dump.specs.declared.error.LineCause.TheVariants as cause
-use Rattle.ndc_dump.specs.Frame.{Heading, begins_batch}
+use Rattle.ndc_dump.specs.declared.frame.Heading.{Heading}
+use Rattle.ndc_dump.specs.Frame.{begins_batch}
 use Rattle.ndc_dump.specs.Lines.{without_end}
 
 -- why the text of a line is that of no batch, as the fault of the line with this number
@@ -43,29 +45,44 @@ abbrev pub is_behind : BatchKey → Option BatchKey → Bool
 is_behind key None = false
 is_behind key (Some last) = key_lt key last
 
--- a batch that was read, where it is of the workflow and comes after the one before
-abbrev pub in_order : Heading → ℕ → Option BatchKey → Batch → Result Batch DumpError
-in_order heading number last b =
-    if not (is_own heading b) then Err (dump.Line number cause.Foreign)
-    else if is_same_as b.key last then Err (dump.Line number cause.SameKey)
-    else if is_behind b.key last then Err (dump.Line number cause.BadOrder)
-    else Ok b
+-- what is wrong with a batch that was read, where something is: it is of another workflow, or does not come after the one before
+abbrev pub out_of_order : Heading → Option BatchKey → Batch → Option LineCause
+out_of_order heading last b =
+    if not (is_own heading b) then Some cause.Foreign
+    else if is_same_as b.key last then Some cause.SameKey
+    else if is_behind b.key last then Some cause.BadOrder
+    else None
+
+-- the batch, or the fault of the line with this number
+abbrev pub placed_or : ℕ → Batch → Option LineCause → Result Batch DumpError
+placed_or number b None = Ok b
+placed_or number b (Some fault) = Err (dump.Line number fault)
 
 -- the batch of the line with this number, behind the batch with the last key
 unfoldable pub batch_on : Heading → ℕ → Option BatchKey → List ℕ → Result Batch DumpError
 batch_on heading number last line = do
   b ← on_line number (read_of heading.form (without_end line))
-  in_order heading number last b
+  placed_or number b (out_of_order heading last b)
+
+-- the batches behind the first ones
+abbrev pub behind : List Batch → Result (List Batch) DumpError → Result (List Batch) DumpError
+behind front (Ok batches) = Ok (front ++ batches)
+behind front (Err error) = Err error
 
 -- the batches of the lines, up to the first line that is none of a batch
-unfoldable pub batches_on : Heading → ℕ → Option BatchKey → List (List ℕ) → Result (List Batch) DumpError
+abbrev pub batches_on : Heading → ℕ → Option BatchKey → List (List ℕ) → Result (List Batch) DumpError
 batches_on heading number last [] = Ok []
 batches_on heading number last (line ∷ lines) =
     if begins_batch line
-    then batch_on heading number last line >>= (λ b. batches_on heading (number + 1) (Some b.key) lines >>= (λ batches. Ok (b ∷ batches)))
+    then batch_on heading number last line >>= (λ b. behind (b ∷ []) (batches_on heading (number + 1) (Some b.key) lines))
     else Ok []
 
 -- the lines behind those of batches
 abbrev pub view_lines : List (List ℕ) → List (List ℕ)
 view_lines [] = []
 view_lines (line ∷ lines) = if begins_batch line then view_lines lines else line ∷ lines
+
+-- how many lines stand in front of the first that is none of a batch
+abbrev pub batch_count : List (List ℕ) → ℕ
+batch_count [] = 0
+batch_count (line ∷ lines) = if begins_batch line then suc (batch_count lines) else 0

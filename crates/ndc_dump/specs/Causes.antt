@@ -11,22 +11,18 @@ use Rattle.ndc_event.specs.declared.key.RunId.{RunId}
 use Rattle.ndc_event.specs.declared.kind.EventKind.{EventKind}
 use Rattle.ndc_event.specs.declared.kind.EventKind.TheVariants.{WorkflowExecutionSignaled, WorkflowExecutionContinuedAsNew}
 use Rattle.ndc_event.specs.declared.name.Name.{Name}
-use Rattle.ndc_state.specs.Origins.{is_among}
+use Rattle.ndc_state.specs.Origins.{is_among, with_origin}
 use Rattle.ndc_state.specs.Replay.{replay_of, history_of}
 use Rattle.ndc_sets.specs.Branches.{same_run}
 use Rattle.ndc_sets.specs.Learned.{has_key}
 use Rattle.ndc_sets.specs.Origins.{origins_in}
 use Rattle.ndc_sets.specs.Paths.{events_to, first_id, last_event, last_id, path_from, path_to}
 use Rattle.ndc_sets.specs.Sets.{batch_at}
+use Rattle.ndc_tree.specs.Reading.{named}
 use Rattle.ndc_dump.specs.declared.error.DumpError.{DumpError}
 use Rattle.ndc_dump.specs.declared.error.DumpError.TheVariants.{Key}
 use Rattle.ndc_dump.specs.declared.error.KeyCause.{KeyCause}
 use Rattle.ndc_dump.specs.declared.error.KeyCause.TheVariants as cause
-
--- the batch of a key, where there is a key and such a batch
-abbrev pub named_by : Option BatchKey → List Batch → Option Batch
-named_by None batches = None
-named_by (Some key) batches = batch_at key batches
 
 -- ---- the parent
 
@@ -41,7 +37,7 @@ is_unfit_parent b (Some parent) = not (same_run parent.run b.run && (last_id par
 
 -- whether a batch does not go on from its parent
 abbrev pub is_ill_formed : List Batch → Batch → Bool
-is_ill_formed batches b = is_unfit_parent b (named_by b.parent batches)
+is_ill_formed batches b = is_unfit_parent b (named b.parent batches)
 
 -- ---- the path
 
@@ -53,10 +49,14 @@ comes_before other b = same_run other.run b.run && ((other.key.version == b.key.
 abbrev pub is_split : List Batch → Batch → Bool
 is_split batches b = list_any (λ other. comes_before other b && not (has_key (Some other.key) (path_to b.key batches))) batches
 
+-- whether one of these origins is one of those seen, or stands twice
+abbrev pub comes_again : List Origin → List Origin → Bool
+comes_again seen [] = false
+comes_again seen (origin ∷ origins) = is_among origin seen || comes_again (with_origin origin seen) origins
+
 -- whether an origin stands twice
 abbrev pub has_twice : List Origin → Bool
-has_twice [] = false
-has_twice (origin ∷ origins) = is_among origin origins || has_twice origins
+has_twice origins = comes_again [] origins
 
 -- whether two signals on the path to a batch have one origin
 abbrev pub has_origin_twice : List Batch → Batch → Bool

@@ -1,7 +1,11 @@
 pub mod Lines
 pub mod Frame
 pub mod Batches
+pub mod Given
 pub mod Causes
+pub mod Originals
 pub mod Migrated
+pub mod Showing
+pub mod Chains
 pub mod Read
 pub mod Marks

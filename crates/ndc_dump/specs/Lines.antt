@@ -1,5 +1,5 @@
 -- The lines of a text, each with its line end.
-use Rattle.std.specs.Prelude.{ℕ, ◌+◌, ◌==◌, List, [], ◌∷◌, Option, Some, None, if◌then◌else◌}
+use Rattle.std.specs.Prelude.{ℕ, suc, ◌+◌, ◌==◌, List, [], ◌∷◌, Option, Some, None, if◌then◌else◌}
 use Rattle.std.specs.Str.{bytes_eq}
 
 -- a byte in front of the first line
@@ -10,7 +10,12 @@ onto_line byte (line ∷ lines) = (byte ∷ line) ∷ lines
 -- the lines of a text: each ends with its line end, but for the last one, which may lack it
 abbrev pub lines_of : List ℕ → List (List ℕ)
 lines_of [] = []
-lines_of (byte ∷ bytes) = if byte == 10 then (10 ∷ []) ∷ lines_of bytes else onto_line byte (lines_of bytes)
+lines_of (byte ∷ bytes) = if byte == 10 then (byte ∷ []) ∷ lines_of bytes else onto_line byte (lines_of bytes)
+
+-- the length of the first line, its line end included
+abbrev pub line_len : List ℕ → ℕ
+line_len [] = 0
+line_len (byte ∷ bytes) = if byte == 10 then 1 else suc (line_len bytes)
 
 -- a line without its line end
 abbrev pub without_end : List ℕ → List ℕ

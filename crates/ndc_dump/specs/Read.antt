@@ -11,7 +11,8 @@ use Rattle.ndc_dump.specs.declared.error.DumpError.TheVariants.{Line}
 use Rattle.ndc_dump.specs.declared.error.LineCause.TheVariants.{BadView}
 use Rattle.ndc_dump.specs.Batches.{batches_on, view_lines}
 use Rattle.ndc_dump.specs.Causes.{sound_or}
-use Rattle.ndc_dump.specs.Frame.{Heading, heading_of, body_of}
+use Rattle.ndc_dump.specs.declared.frame.Heading.{Heading}
+use Rattle.ndc_dump.specs.Frame.{heading_of, body_of}
 use Rattle.ndc_dump.specs.Lines.{differ_at, lines_of}
 use Rattle.ndc_dump.specs.Migrated.{standing_for}
 

@@ -1,14 +1,39 @@
 // What holds of all dump texts.
-ghost use Rattle.std.specs.Prelude.{◌≡◌, ◌↔◌, List};
+ghost use Rattle.std.specs.Prelude.{◌≡◌, ◌↔◌, ℕ, List, Ok};
 ghost use Rattle.std.specs.List.{AllByRecursion};
 ghost use Rattle.ndc_event.specs.declared.batch.Batch.{Batch};
 ghost use Rattle.ndc_event.specs.declared.name.Name.{Name};
+ghost use Rattle.ndc_sets.specs.Sound.{IsSound};
 ghost use Rattle.ndc_sets.specs.View.{view_of};
 ghost use Rattle.ndc_text.specs.Ranges.{InRange};
 ghost use Rattle.ndc_text.specs.Views.{dump_text};
+ghost use Rattle.ndc_text.specs.declared.form.TextForm.TheVariants.{Two};
+ghost use Rattle.ndc_dump.specs.declared.dump.Dump.{Dump as Read};
+ghost use Rattle.ndc_dump.specs.Causes.{sound_or};
+ghost use Rattle.ndc_dump.specs.Frame.{IsHeaded};
+ghost use Rattle.ndc_dump.specs.Given.{AreRead};
+ghost use Rattle.ndc_dump.specs.Lines.{lines_of};
+ghost use Rattle.ndc_dump.specs.Read.{dump_of};
 
 /// Two sets of batches whose numbers are in range have one dump text exactly where they are equal.
 pub fn equal_dumps_are_of_equal_sets()
     ensures { (domain workflow : Name) (one two : List Batch) → AllByRecursion InRange one → AllByRecursion InRange two
         → (dump_text domain workflow (view_of one) ≡ dump_text domain workflow (view_of two)) ↔ (one ≡ two) }
+{}
+
+/// Batches that were read line by line and that none of the causes over the set holds of are a sound set.
+pub fn a_set_without_a_cause_is_sound()
+    ensures { (batches : List Batch) → AreRead batches → sound_or batches ≡ Ok tt → IsSound batches }
+{}
+
+/// Bytes that are read as a dump, and whose first line says the form with carriers, are what is printed of it.
+pub fn what_is_read_is_printed_again()
+    ensures { (bytes : List ℕ) (dump : Read) → IsHeaded Two (lines_of bytes) → dump_of bytes ≡ Ok dump
+        → bytes ≡ dump_text dump.domain dump.workflow dump.view }
+{}
+
+/// The batches of such a dump are a sound set, without faults and in range.
+pub fn what_is_read_is_sound()
+    ensures { (bytes : List ℕ) (dump : Read) → IsHeaded Two (lines_of bytes) → dump_of bytes ≡ Ok dump
+        → AreRead dump.view.batches × IsSound dump.view.batches }
 {}

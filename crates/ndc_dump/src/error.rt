@@ -1,4 +1,5 @@
 use ndc_event::{BatchFault, BatchKey};
+use std::alloc::{AllocError, AllocFailed};
 use thiserror::Error;
 
 /// What is wrong with a line of a dump.
@@ -79,4 +80,26 @@ pub enum DumpError {
     Key { key: BatchKey, cause: KeyCause },
     #[error("out of memory")]
     Memory,
+}
+
+impl From<AllocError> for DumpError {
+    ghost use Rattle.std.specs.Prelude.{◌≡◌};
+    ghost use Rattle.ndc_dump.specs.declared.error.DumpError.TheVariants.{Memory};
+
+    ghost from_gives = { λ _ e. e ≡ Memory };
+
+    fn from(_error: AllocError) -> DumpError {
+        DumpError::Memory
+    }
+}
+
+impl<T: Drop> From<AllocFailed<T>> for DumpError {
+    ghost use Rattle.std.specs.Prelude.{◌≡◌};
+    ghost use Rattle.ndc_dump.specs.declared.error.DumpError.TheVariants.{Memory};
+
+    ghost from_gives = { λ _ e. e ≡ Memory };
+
+    fn from(_failed: AllocFailed<T>) -> DumpError {
+        DumpError::Memory
+    }
 }

@@ -1,4 +1,6 @@
 ghost use Rattle.std.specs.Prelude.{◌≡◌, IfOk, Some};
+ghost use Rattle.ndc_event.specs.declared.batch.Batch.{Batch as Child};
+ghost use Rattle.ndc_sets.specs.Branches.{has_child};
 ghost use Rattle.ndc_event.specs.declared.key.BatchKey.{BatchKey};
 ghost use Rattle.ndc_sets.specs.Learned.{has_key};
 ghost use Rattle.ndc_sets.specs.Paths.{path_from};
@@ -9,30 +11,30 @@ use ndc_event::{Batch, BatchKey};
 use std::alloc::{AllocError, Global};
 use std::marker::Model;
 
-/// The keys of the batches on a path, in any order. The set finds a key without going over the others.
+/// Keys of batches, in any order. The set finds a key without going over the others.
 #[derive(Drop)]
-pub(crate) struct PathKeys {
+pub(crate) struct KeySet {
     keys: IndexSet<BatchKey>,
 }
 
-impl Model for PathKeys {
+impl Model for KeySet {
     ghost use Rattle.std.specs.Prelude.{List};
     ghost use Rattle.ndc_event.specs.declared.key.BatchKey.{BatchKey};
 
     ghost Value = { List BatchKey };
 
-    ghost view = { λ path. path.keys.keys };
+    ghost view = { λ set. set.keys.keys };
 }
 
-impl PathKeys {
+impl KeySet {
     ghost use Rattle.std.specs.Prelude.{◌≡◌, [], OnOk};
     ghost use Rattle.ndc_dump.specs.Marks.{is_listed, with_key};
 
     /// No key.
-    fn new(alloc: Global) -> PathKeys
+    fn new(alloc: Global) -> KeySet
         ensures { result ≡ [] }
     {
-        PathKeys {
+        KeySet {
             keys: IndexSet::new(alloc),
         }
     }
@@ -59,10 +61,10 @@ pub(crate) fn path_keys(
     alloc: Global,
     batches: &[Batch],
     tip: Option<BatchKey>,
-) -> Result<PathKeys, AllocError>
+) -> Result<KeySet, AllocError>
     ensures { IfOk result (λ keys. (key : BatchKey) → is_listed key keys ≡ has_key (Some key) (path_from tip batches.now)) }
 {
-    let mut keys = PathKeys::new(alloc);
+    let mut keys = KeySet::new(alloc);
     let mut wanted = tip;
     let mut place = batches.len();
     while place > 0 {
@@ -71,6 +73,19 @@ pub(crate) fn path_keys(
         if wanted == Some(batch.key) {
             keys.insert(batch.key)?;
             wanted = batch.parent;
+        }
+    }
+    Ok(keys)
+}
+
+/// The keys of the parents of these batches.
+pub(crate) fn parent_keys(alloc: Global, batches: &[Batch]) -> Result<KeySet, AllocError>
+    ensures { IfOk result (λ keys. (b : Child) → is_listed b.key keys ≡ has_child b batches.now) }
+{
+    let mut keys = KeySet::new(alloc);
+    for batch in batches {
+        if let Some(parent) = batch.parent {
+            keys.insert(parent)?;
         }
     }
     Ok(keys)

@@ -1,6 +1,8 @@
+use crate::error::{DumpError, KeyCause, LineCause};
 use crate::print::dump_text;
+use crate::read::read_dump;
 use crate::tree::text_of;
-use ndc_event::{Batch, BatchKey, Name, RunId};
+use ndc_event::{Batch, BatchFault, BatchKey, Name, RunId};
 use ndc_history::{Item, VersionHistory};
 use ndc_sets::{Batches, BranchView, BranchViews, RunStatus, RunView, RunViews, View};
 use ndc_state::{State, Steps};
@@ -100,5 +102,69 @@ fn prints_a_dump_and_a_tree(rt: HostRuntime) -> Result<(), Fail> {
     let view = view(alloc)?;
     assert!(rt; dump_text(alloc, &domain, &workflow, &view)?.as_slice() == DUMP.as_bytes());
     assert!(rt; text_of(alloc, &domain, &workflow, &view)?.as_slice() == TREE.as_bytes());
+    Ok(())
+}
+
+// What reading answers: the bytes that the dump prints again, or the refusal.
+fn again(alloc: Global, bytes: &[u8]) -> Result<Vec<u8>, DumpError> {
+    let dump = read_dump(alloc, bytes)?;
+    Ok(dump_text(alloc, &dump.domain, &dump.workflow, &dump.view)?)
+}
+
+fn line(line: u64, cause: LineCause) -> DumpError {
+    DumpError::Line { line, cause }
+}
+
+fn key(task: u64, cause: KeyCause) -> DumpError {
+    DumpError::Key {
+        key: BatchKey { version: 1, task },
+        cause,
+    }
+}
+
+// The dump with the first of these texts exchanged for the second wherever it stands.
+fn with(alloc: Global, old: &str, new: &str) -> Result<String, AllocError> {
+    DUMP.replace(alloc, old, new)
+}
+
+#[test]
+fn reads_what_was_printed(rt: HostRuntime) -> Result<(), Fail> {
+    let alloc = rt.alloc();
+    assert!(rt; again(alloc, DUMP.as_bytes()).is_ok_and(|text| text.as_slice() == DUMP.as_bytes()));
+    assert!(rt; read_dump(alloc, DUMP.as_bytes())?.domain.as_bytes() == b"alpha".as_slice());
+    let older = with(alloc, "dump 2", "dump 1")?;
+    assert!(rt;
+        again(alloc, older.as_bytes()).is_ok_and(|text| text.as_slice() == DUMP.as_bytes())
+    );
+    Ok(())
+}
+
+#[test]
+fn refuses_damaged_dumps(rt: HostRuntime) -> Result<(), Fail> {
+    let alloc = rt.alloc();
+    for (old, new, expected) in [
+        ("dump 2", "dump 3", line(1, LineCause::BadFrame)),
+        ("alpha w1", "beta w1", line(2, LineCause::Foreign)),
+        (
+            "\"task\":2",
+            "\"task\":1",
+            line(3, LineCause::Check(BatchFault::BadParent)),
+        ),
+        (
+            "\"eventId\":3",
+            "\"eventId\":4",
+            key(2, KeyCause::NotWellFormed),
+        ),
+        (
+            "\"task\":1,\"version\":1},\"run\"",
+            "\"task\":0,\"version\":1},\"run\"",
+            line(3, LineCause::Range),
+        ),
+        ("decision=2", "decision=-", line(6, LineCause::BadView)),
+        ("end\n", "", line(7, LineCause::BadView)),
+    ] {
+        let text = with(alloc, old, new)?;
+        assert!(rt; again(alloc, text.as_bytes()).is_err_and(|error| error == expected));
+    }
     Ok(())
 }

@@ -6,14 +6,14 @@ ghost use Rattle.ndc_text.specs.Views.{branch_line, current_mark, parent_text, t
 ghost use Rattle.ndc_dump.specs.Marks.{batch_head, current_key, marked_line, marked_lines, run_tree};
 
 use crate::line::{push_branch_line, push_key, push_mark, push_number, push_run_line};
-use crate::path::{PathKeys, path_keys};
+use crate::path::{KeySet, path_keys};
 use crate::print::push_heading;
 use ndc_event::{Batch, BatchKey, Event, Name, RunId};
 use ndc_sets::{BranchView, RunView, View};
 use std::alloc::{AllocError, Global};
 
 /// The id of the first event, 0 where there is none.
-fn first_id(events: &[Event]) -> u64
+pub(crate) fn first_id(events: &[Event]) -> u64
     ensures { result ≡ first_id events.now }
 {
     match events.first() {
@@ -23,7 +23,7 @@ fn first_id(events: &[Event]) -> u64
 }
 
 /// The id of the last event, 0 where there is none.
-fn last_id(events: &[Event]) -> u64
+pub(crate) fn last_id(events: &[Event]) -> u64
     ensures { result ≡ last_id events.now }
 {
     match events.last() {
@@ -79,7 +79,7 @@ fn push_batch_lines(
     text: &mut Vec<u8>,
     batches: &[Batch],
     run: RunId,
-    keys: &PathKeys,
+    keys: &KeySet,
 ) -> Result<(), AllocError>
     ensures { OnOk result (text.new.items ≡ text.old.items ++ marked_lines keys.now run batches.now) }
 {

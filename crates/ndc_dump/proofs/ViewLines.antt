@@ -1,0 +1,73 @@
+-- The lines behind those of batches, and where they differ from what is shown.
+use Rattle.std.proofs.Common.{◌≡◌, ℕ, zero, suc, ◌<◌, ◌≤◌, Bool, true, false, List, [], ◌∷◌, ◌++◌, map, length, drop, codes, if◌then◌else◌, Option, Some, None, Ok, Err, refl, sym, ap, ◌∙◌, arith}
+use Rattle.std.specs.List.{flat_map}
+use Rattle.std.proofs.lemmas.List.{length-map, length-drop}
+use Rattle.ndc_event.specs.declared.batch.Batch.{Batch}
+use Rattle.ndc_sets.specs.View.{view_of}
+use Rattle.ndc_sets.specs.declared.view.RunView.{RunView}
+use Rattle.ndc_text.specs.Views.{run_state_lines}
+use Rattle.ndc_text.specs.declared.form.TextForm.{TextForm}
+use Rattle.ndc_dump.specs.declared.error.DumpError.TheVariants.{Line}
+use Rattle.ndc_dump.specs.declared.error.LineCause.TheVariants.{BadView}
+use Rattle.ndc_dump.specs.Batches.{batch_count, view_lines}
+use Rattle.ndc_dump.specs.Frame.{begins_batch}
+use Rattle.ndc_dump.specs.Lines.{differ_at, lines_of}
+use Rattle.ndc_dump.specs.Migrated.{standing_for}
+use Rattle.ndc_dump.specs.Read.{shown_or, view_on, view_text}
+use Rattle.ndc_dump.proofs.Carriers.{standing-runs}
+
+pub count-within : (lines : List (List ℕ)) → batch_count lines ≤ length lines
+count-within [] = omega arith
+count-within (line ∷ lines) =
+    elim (begins_batch line) as (λ (t : Bool). (if t then suc (batch_count lines) else 0) ≤ length (line ∷ lines)) [ true ↦ omega (arith, count-within lines) | false ↦ omega arith ]
+
+drop-count : (lines : List (List ℕ)) → drop (batch_count lines) lines ≡ view_lines lines
+drop-count [] = refl
+drop-count (line ∷ lines) =
+    elim (begins_batch line) as (λ (t : Bool). drop (if t then suc (batch_count lines) else 0) (line ∷ lines) ≡ (if t then view_lines lines else line ∷ lines)) [ true ↦ drop-count lines | false ↦ refl ]
+
+map-dropped : {X Y : Type 0} (f : X → Y) (xs : List X) (n : ℕ) → map f (drop n xs) ≡ drop n (map f xs)
+map-dropped f [] n = by n
+  where
+    by : (n : ℕ) → map f (drop n []) ≡ drop n []
+    by zero = refl
+    by (suc n) = refl
+map-dropped f (x ∷ xs) zero = refl
+map-dropped f (x ∷ xs) (suc n) = map-dropped f xs n
+
+pub behind-batches : {X : Type 0} (f : X → List ℕ) (xs : List X) (n : ℕ) → n ≡ batch_count (map f xs) → map f (drop n xs) ≡ view_lines (map f xs)
+behind-batches f xs n e = map-dropped f xs n ∙ ap (λ k. drop k (map f xs)) e ∙ drop-count (map f xs)
+
+pub few-batches : {X : Type 0} (f : X → List ℕ) (xs : List X) (n : ℕ) → n ≡ batch_count (map f xs) → n ≤ length xs
+few-batches f xs n e = let within : batch_count (map f xs) ≤ length (map f xs) = count-within (map f xs) in omega (arith, e, within, length-map xs f)
+
+one-too-many : (number : ℕ) (lines : List (List ℕ)) → 0 < length lines → differ_at number lines [] ≡ Some number
+one-too-many number [] some = absurd (omega (arith, some))
+one-too-many number (line ∷ lines) some = refl
+
+-- where nothing is wanted any more, a line is one too many
+pub too-many : {X : Type 0} (f : X → List ℕ) (number : ℕ) (xs ys : List X) (i : ℕ) (all : Option ℕ) → i < length xs → length ys < 1 → differ_at number (map f (drop i xs)) (map f ys) ≡ all → Some number ≡ all
+too-many f number xs [] i all below none e =
+    let some : 0 < length (map f (drop i xs)) = omega (arith, length-map (drop i xs) f, length-drop i xs, below) in
+    sym (one-too-many number (map f (drop i xs)) some) ∙ e
+too-many f number xs (y ∷ ys) i all below none e = absurd (omega (arith, none))
+
+-- ---- what is shown
+
+differs : (number : ℕ) (lines : List (List ℕ)) (form : TextForm) (batches : List Batch) (runs : List RunView) (o : Option ℕ) → runs ≡ (view_of batches).runs
+    → o ≡ differ_at number lines (lines_of (flat_map run_state_lines runs ++ codes "end\n")) → differ_at number lines (lines_of (view_text (view_of (standing_for form batches)))) ≡ o
+differs number lines form batches runs o same e =
+    sym (e ∙ ap (λ (rs : List RunView). differ_at number lines (lines_of (flat_map run_state_lines rs ++ codes "end\n"))) (same ∙ sym (standing-runs form batches)))
+
+pub shown-other : (number other : ℕ) (lines : List (List ℕ)) (form : TextForm) (batches : List Batch) (runs : List RunView) (o : Option ℕ) → runs ≡ (view_of batches).runs
+    → o ≡ differ_at number lines (lines_of (flat_map run_state_lines runs ++ codes "end\n")) → o ≡ Some other → view_on number lines (view_of (standing_for form batches)) ≡ Err (Line other BadView)
+unfolding view_on
+shown-other number other lines form batches runs o same e f = ap (shown_or (view_of (standing_for form batches))) (differs number lines form batches runs o same e ∙ f)
+
+pub shown-same : (number : ℕ) (lines : List (List ℕ)) (form : TextForm) (batches stands : List Batch) (runs : List RunView) (o : Option ℕ) → runs ≡ (view_of batches).runs
+    → o ≡ differ_at number lines (lines_of (flat_map run_state_lines runs ++ codes "end\n")) → o ≡ None → stands ≡ standing_for form batches
+    → view_on number lines (view_of (standing_for form batches)) ≡ Ok (record { batches = stands; runs = runs })
+unfolding view_on
+shown-same number lines form batches stands runs o same e f g =
+    ap (shown_or (view_of (standing_for form batches))) (differs number lines form batches runs o same e ∙ f)
+    ∙ ap (λ rs. Ok (record { batches = standing_for form batches; runs = rs })) (standing-runs form batches ∙ sym same) ∙ ap (λ bs. Ok (record { batches = bs; runs = runs })) (sym g)
