@@ -1,0 +1,17 @@
+pub mod ArrivedLemmas
+pub mod PlaceLemmas
+pub mod RunMapLemmas
+pub mod LearnLemmas
+pub mod AllLemmas
+pub mod PartLemmas
+pub mod ReadLemmas
+pub mod TipLemmas
+pub mod InsideLemmas
+pub mod StrayLemmas
+pub mod ViewLemmas
+pub mod UnlistedLemmas
+pub mod FollowLemmas
+pub mod TakenLemmas
+pub mod BesideLemmas
+pub mod ExampleLemmas
+pub mod LawProofs

@@ -1,0 +1,6 @@
+pub mod Places
+pub mod RunMap
+pub mod Fields
+pub mod Settled
+pub mod View
+pub mod Kept

@@ -1,0 +1,16 @@
+//! All that a cell has learned of one workflow: its runs, with their states.
+#![tactic(auto)]
+
+mod kept;
+pub mod laws;
+mod places;
+mod reading;
+mod run_map;
+mod runs;
+mod stray;
+mod views;
+
+pub use runs::Runs;
+
+#[cfg(test)]
+mod tests;
