@@ -1,0 +1,45 @@
+ghost use Rattle.std.specs.Prelude.{◌≡◌, None, position, sum, IfOk, OnOk};
+ghost use Rattle.ndc_act.specs.WellFormed.{IsCluster};
+ghost use Rattle.ndc_model.specs.Fair.{IsShaped, LanesAreTrue};
+ghost use Rattle.ndc_model.specs.Moves.{map_from, pulled_all};
+ghost use Rattle.ndc_model.specs.Sending.{pull_count};
+ghost use Rattle.ndc_model.specs.World.{is_link, link_at};
+
+use crate::network::Network;
+use ndc_act::Header;
+use ndc_domain::ClusterNo;
+use ndc_links::{Link, Writes};
+use std::alloc::{AllocError, Global};
+
+/// Where what a reader has of a source stands among the links.
+pub(crate) fn link_place(links: &[Link], reader: ClusterNo, source: ClusterNo) -> Option<usize>
+    ensures { result ≡ position (is_link reader source) links.now }
+{
+    links.iter().position(|link| link.is(reader, source))
+}
+
+impl<C: Writes + Drop> Network<C> {
+    /// A reader takes all entries of each queue of a source from `read` on; those that are addressed to it go last in
+    /// flight, and are counted. After want of memory some shards were pulled.
+    pub fn pull(
+        &mut self,
+        alloc: Global,
+        header: &Header,
+        reader: ClusterNo,
+        source: ClusterNo,
+    ) -> Result<u64, AllocError>
+        requires source { IsCluster header.now source }
+        requires shaped { IsShaped header.now self.old }
+        requires lanes { LanesAreTrue header.now self.old }
+        ensures pulled { OnOk result (self.new ≡ pulled_all reader source self.old) }
+        ensures count { IfOk result (λ sent. sent ≡ sum (map_from (pull_count self.old None (link_at reader source self.old)) 0 (link_at reader source self.old).lanes)) }
+    {
+        let Some(place) = link_place(self.links.as_slice(), reader, source) else {
+            return Ok(0);
+        };
+        let site = &self.sites[source.number as usize];
+        let link = &mut self.links[place];
+        let sent = link.pull(alloc, site.table(), site.queues())?;
+        Ok(sent)
+    }
+}

@@ -1,0 +1,147 @@
+ghost use Rattle.std.specs.Prelude.{◌≡◌, length, IfOk};
+ghost use Rattle.ndc_domain.specs.Clusters.{count_of};
+ghost use Rattle.ndc_model.specs.Facts.{IsReached};
+ghost use Rattle.ndc_network.specs.Networks.{opening_site};
+
+use super::*;
+use ndc_act::Header;
+use ndc_cells::{Job, JobReply, Message};
+use ndc_domain::{ClusterNo, Clusters};
+use ndc_event::{BatchKey, Name};
+use ndc_links::{Learns, Writes};
+use ndc_port::OpenGate;
+use ndc_queue::{FlightError, NoSuchPlace};
+use ndc_rounds::{Desk, Works};
+use ndc_sites::Site;
+use std::alloc::{AllocError, Global};
+use std::test::Fail;
+
+/// A cell that has written nothing and learned nothing, and finds no memory for any job.
+#[derive(Drop)]
+struct EmptyCell {}
+
+impl Works for EmptyCell {
+    ghost use Rattle.ndc_cells.specs.Cells.{empty_cell};
+
+    ghost cell = { λ _. empty_cell };
+
+    ghost allows = { λ _ _ _. Unit {0} };
+
+    fn do_job(&mut self, _desk: &Desk, _job: &Job) -> Result<JobReply, AllocError> {
+        Err(AllocError)
+    }
+}
+
+impl Learns for EmptyCell {
+    fn has_learned(&self, _domain: &Name, _workflow: &Name, _key: BatchKey) -> bool {
+        false
+    }
+}
+
+impl Writes for EmptyCell {
+    fn written_len(&self) -> u64 {
+        0
+    }
+
+    fn written_at(&self, _place: u64) -> Result<Message, AllocError> {
+        Err(AllocError)
+    }
+}
+
+/// A cluster with one cell.
+fn site(alloc: Global) -> Result<Site<EmptyCell>, AllocError>
+    ensures { IfOk result (λ site. site ≡ opening_site 1) }
+{
+    let mut cells = Vec::new(alloc);
+    cells.push(EmptyCell {})?;
+    Site::new(alloc, cells, 1)
+}
+
+/// Two clusters with one shard, in the beginning.
+#[derive(Drop)]
+struct Opened {
+    header: Header,
+    network: Network<EmptyCell>,
+}
+
+/// Two clusters with one shard, in the beginning.
+fn in_the_beginning(alloc: Global) -> Result<Opened, Fail>
+    ensures clusters { IfOk result (λ opened. length opened.network.clusters ≡ 2) }
+    ensures members { IfOk result (λ opened. count_of opened.header.clusters ≡ 2) }
+    ensures reached { IfOk result (λ opened. IsReached opened.header 0 opened.network) }
+{
+    let mut members = Vec::new(alloc);
+    members.push((Name::new(alloc, b"A".as_slice())?, 1))?;
+    members.push((Name::new(alloc, b"B".as_slice())?, 2))?;
+    let header = Header {
+        clusters: Clusters::build(10, members)?,
+        shards: 1,
+        limit: 100,
+    };
+    let mut sites = Vec::new(alloc);
+    sites.push(site(alloc)?)?;
+    sites.push(site(alloc)?)?;
+    let network = Network::new(alloc, &header, sites)?;
+    Ok(Opened { header, network })
+}
+
+#[test]
+fn nothing_is_in_flight_in_the_beginning(rt: HostRuntime) -> Result<(), Fail> {
+    let alloc = rt.alloc();
+    let Opened {
+        header,
+        mut network,
+    } = in_the_beginning(alloc)?;
+    let reader = ClusterNo { number: 0 };
+    let source = ClusterNo { number: 1 };
+    assert!(rt; network.links().len() == 2 && network.handovers().is_empty());
+    assert!(rt; network.lose(reader, source, 0, 0) == Err(NoSuchPlace));
+    assert!(rt; network.repeat(reader, source, 0, 0) == Err(FlightError::NoSuchPlace));
+    assert!(rt; network.move_to(reader, source, 0, 0, 0) == Err(NoSuchPlace));
+    network.renew(&header, reader);
+    network.rewind(reader, source);
+    Ok(())
+}
+
+#[test]
+fn nothing_is_pulled_in_the_beginning(rt: HostRuntime) -> Result<(), Fail> {
+    let alloc = rt.alloc();
+    let Opened {
+        header,
+        mut network,
+    } = in_the_beginning(alloc)?;
+    let reader = ClusterNo { number: 0 };
+    let source = ClusterNo { number: 1 };
+    assert!(rt; network.pull(alloc, &header, reader, source)? == 0);
+    Ok(())
+}
+
+#[test]
+fn nothing_arrives_in_the_beginning(rt: HostRuntime) -> Result<(), Fail> {
+    let alloc = rt.alloc();
+    let Opened {
+        header,
+        mut network,
+    } = in_the_beginning(alloc)?;
+    let reader = ClusterNo { number: 0 };
+    let done = network.arrive(&rt, alloc, &OpenGate {}, 2, &header, reader)?;
+    assert!(rt; done.jobs.is_empty() && done.replies.is_empty());
+    assert!(rt; network.sites().len() == 2);
+    Ok(())
+}
+
+#[test]
+fn a_cluster_without_memory_reapplies_nothing(rt: HostRuntime) -> Result<(), Fail> {
+    let alloc = rt.alloc();
+    let Opened {
+        header,
+        mut network,
+    } = in_the_beginning(alloc)?;
+    let cluster = ClusterNo { number: 1 };
+    assert!(rt;
+        network
+            .reapply(&rt, alloc, &OpenGate {}, 2, &header, cluster)
+            .is_err()
+    );
+    Ok(())
+}
