@@ -25,12 +25,13 @@ use crate::verdict::{Counts, Verdict, verdict_of};
 use std::{fs, io};
 
 /// The files of transcripts.
-const FILES: [&str; 5] = [
+const FILES: [&str; 6] = [
     "faults.cases",
     "first.cases",
     "worked.cases",
     "printed.cases",
     "batches.cases",
+    "dumps.cases",
 ];
 
 /// Runs a case that is whole and counts what comes of it. What has no name is none.

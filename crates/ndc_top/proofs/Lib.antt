@@ -1,4 +1,5 @@
 pub mod Ends
 pub mod Endings
+pub mod ShowEndings
 pub mod Lines
 pub mod Pieces

@@ -1,7 +1,6 @@
--- The program as a whole: its words, the faults that end it, and what it tells of them.
-use Rattle.std.specs.Prelude.{◌≡◌, ◌⊎◌, ℕ, ◌<◌, ◌≤◌, ⊤, IsOkAnd, IfOk, IfSome, length, Some, None, Bool, true, false, ◌==◌, List, [], ◌∷◌, Option, codes, decimal, Err, if◌then◌else◌}
+-- The program as a whole: the faults that end it, what it tells of them, and the run of a script.
+use Rattle.std.specs.Prelude.{◌≡◌, ◌⊎◌, ℕ, ◌<◌, ◌≤◌, ⊤, IsOkAnd, IfOk, IfSome, length, Some, None, true, ◌==◌, List, [], ◌∷◌, Option, codes, decimal, Err, if◌then◌else◌}
 use Rattle.std.specs.List.{concat, list_any}
-use Rattle.std.specs.Str.{bytes_eq}
 use Rattle.ndc_port.specs.Bytes.{Appends, AppendsFront}
 use Rattle.ndc_port.specs.Fault.{Rose}
 use Rattle.ndc_act.specs.declared.script.ScriptCause.{ScriptCause}
@@ -11,16 +10,12 @@ use Rattle.ndc_top.specs.declared.built.Cause.{Cause}
 use Rattle.ndc_top.specs.declared.built.Cause.TheVariants.{Faulty, Unbuilt}
 use Rattle.ndc_top.specs.declared.built.StartError.{StartError}
 use Rattle.ndc_top.specs.declared.built.StartError.TheVariants.{Refused, Memory}
+use Rattle.ndc_top.specs.Faulty.{dump_line, dump_batch_line}
 use Rattle.ndc_top.specs.Report.{report_of}
 use Rattle.ndc_top.specs.declared.fault.Fault.{Fault}
 use Rattle.ndc_top.specs.declared.fault.Fault.TheVariants as fault
 
--- the words that the program takes: the one word `run`
-abbrev pub accepted : List (List ℕ) → Bool
-accepted (word ∷ []) = bytes_eq word (codes "run")
-accepted _ = false
-
--- how many bytes a script may have
+-- how many bytes the input may have
 abbrev pub most_bytes : ℕ
 most_bytes = 16777216
 
@@ -46,6 +41,8 @@ cause_name Unbuilt = codes "Unbuilt"
 abbrev pub status_of : Fault → ℕ
 status_of fault.Words = 2
 status_of (fault.Script line cause) = 3
+status_of (fault.DumpLine line cause) = 7
+status_of (fault.DumpBatch key cause) = 7
 status_of fault.Read = 4
 status_of fault.Write = 5
 status_of fault.Limit = 6
@@ -59,6 +56,8 @@ script_line line cause = concat (codes "ndc: script line " ∷ decimal line ∷ 
 abbrev pub fault_line : Fault → List ℕ
 fault_line fault.Words = codes "ndc: words: run [--workers N] [--index NAMES] [--late NAMES], rebuild, inspect, make N SEED, demo N\n"
 fault_line (fault.Script line cause) = script_line line cause
+fault_line (fault.DumpLine line cause) = dump_line line cause
+fault_line (fault.DumpBatch key cause) = dump_batch_line key cause
 fault_line fault.Read = codes "ndc: read fault\n"
 fault_line fault.Write = codes "ndc: write fault\n"
 fault_line fault.Limit = codes "ndc: input limit\n"
@@ -98,20 +97,24 @@ pub record Seen : Type 0 where
 abbrev pub ReadFault : Option (List ℕ) → ℕ → ℕ → Fault → Type 0
 ReadFault left before after fault.Words = ⊥
 ReadFault left before after (fault.Script line cause) = IfSome left (λ bytes. (length bytes ≤ most_bytes) × (built_script_of bytes ≡ Err (Refused line cause)))
+ReadFault left before after (fault.DumpLine line cause) = ⊥
+ReadFault left before after (fault.DumpBatch key cause) = ⊥
 ReadFault left before after fault.Read = Rose before after
 ReadFault left before after fault.Write = ⊥
 ReadFault left before after fault.Limit = IfSome left (λ bytes. most_bytes < length bytes)
 ReadFault left before after fault.Memory = ⊤
 
 -- why a run ends with a fault, between what was there and what is there
-abbrev pub RunFault : Bool → Seen → Seen → Fault → Type 0
-RunFault words old new fault.Words = (words ≡ false) × (new.written ≡ old.written)
-RunFault words old new (fault.Script line cause) =
-    (words ≡ true) × ReadFault old.left old.source_faults new.source_faults (fault.Script line cause) × (new.written ≡ old.written)
-RunFault words old new fault.Read = (words ≡ true) × Rose old.source_faults new.source_faults × (new.written ≡ old.written)
-RunFault words old new fault.Write = (words ≡ true) × Rose old.out_faults new.out_faults × StopsWithin old.left old.written new.written
-RunFault words old new fault.Limit = (words ≡ true) × IfSome old.left (λ bytes. most_bytes < length bytes) × (new.written ≡ old.written)
-RunFault words old new fault.Memory = (words ≡ true) × ReportsFront old.left old.written new.written
+abbrev pub RunFault : Seen → Seen → Fault → Type 0
+RunFault old new fault.Words = ⊥
+RunFault old new (fault.Script line cause) =
+    ReadFault old.left old.source_faults new.source_faults (fault.Script line cause) × (new.written ≡ old.written)
+RunFault old new (fault.DumpLine line cause) = ⊥
+RunFault old new (fault.DumpBatch key cause) = ⊥
+RunFault old new fault.Read = Rose old.source_faults new.source_faults × (new.written ≡ old.written)
+RunFault old new fault.Write = Rose old.out_faults new.out_faults × StopsWithin old.left old.written new.written
+RunFault old new fault.Limit = IfSome old.left (λ bytes. most_bytes < length bytes) × (new.written ≡ old.written)
+RunFault old new fault.Memory = ReportsFront old.left old.written new.written
 
 -- the line on a faulty script was written, or a front of it and a fault came
 abbrev pub TellsError : Option (List ℕ) → Option (List ℕ) → ℕ → ℕ → StartError → Type 0

@@ -5,6 +5,9 @@ ghost use Rattle.ndc_port.specs.Fault.{Rose};
 ghost use Rattle.ndc_top.specs.Top.{script_cause_name, cause_name, script_line};
 
 use crate::built::Cause;
+use crate::faulty::{tell_batch, tell_line};
+use ndc_dump::{KeyCause, LineCause};
+use ndc_event::BatchKey;
 use ndc_port::{Failed, Sink, write_all};
 use ndc_script::ScriptCause;
 
@@ -15,9 +18,13 @@ pub enum Fault {
     Words,
     /// The input is no script that runs: the first such line, from 1, and its cause.
     Script { line: u64, cause: Cause },
+    /// The input is no dump: the first faulty line, from 1, and its cause.
+    DumpLine { line: u64, cause: LineCause },
+    /// The input is no dump: the first batch that does not fit the others, and its cause.
+    DumpBatch { key: BatchKey, cause: KeyCause },
     /// Reading the input failed.
     Read,
-    /// Writing the report failed.
+    /// Writing the output failed.
     Write,
     /// The input is too long.
     Limit,
@@ -66,6 +73,7 @@ impl Fault {
         match self {
             Fault::Words => 2,
             Fault::Script { .. } => 3,
+            Fault::DumpLine { .. } | Fault::DumpBatch { .. } => 7,
             Fault::Read => 4,
             Fault::Write => 5,
             Fault::Limit => 6,
@@ -87,6 +95,8 @@ impl Fault {
                 b"ndc: words: run [--workers N] [--index NAMES] [--late NAMES], rebuild, inspect, make N SEED, demo N\n",
             ),
             Fault::Script { line, cause } => tell_script(err, line, cause),
+            Fault::DumpLine { line, cause } => tell_line(err, line, cause),
+            Fault::DumpBatch { key, cause } => tell_batch(err, key, cause),
             Fault::Read => write_all(err, b"ndc: read fault\n"),
             Fault::Write => write_all(err, b"ndc: write fault\n"),
             Fault::Limit => write_all(err, b"ndc: input limit\n"),
@@ -115,7 +125,7 @@ fn tell_script<E: Sink>(err: &mut E, line: u64, cause: Cause) -> Result<(), Fail
 }
 
 /// Writes pieces of bytes one after the other.
-fn write_pieces<E: Sink>(err: &mut E, pieces: &[&[u8]]) -> Result<(), Failed>
+pub fn write_pieces<E: Sink>(err: &mut E, pieces: &[&[u8]]) -> Result<(), Failed>
     ensures whole { OnOk result (Appends (E.written err.old) (E.written err.new) (concat (map (λ piece. piece.now) pieces.now))) }
     ensures front { OnErr result (AppendsFront (E.written err.old) (E.written err.new) (concat (map (λ piece. piece.now) pieces.now))) }
     ensures cause { OnErr result (Rose (E.faults err.old) (E.faults err.new)) }

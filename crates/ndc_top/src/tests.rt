@@ -80,3 +80,47 @@ fn runs_a_script_and_ends_with_the_fault_of_the_outside(rt: HostRuntime) -> Resu
     )?;
     Ok(())
 }
+
+const SIGNALED: &str =
+    "{\"domain\":\"alpha\",\"events\":[{\"eventId\":3,\"eventType\":\"WorkflowExecutionSignaled\",\"input\":\"x\",\"signalName\":\"ping\",\"version\":1}],\"parent\":{\"task\":1,\"version\":1},\"run\":\"00000000-0000-0001-0000-000000000001\",\"task\":2,\"version\":1,\"workflow\":\"w1\"}";
+
+const DUMP: &str =
+    "dump 2 alpha w1\n{\"domain\":\"alpha\",\"events\":[{\"eventId\":1,\"eventType\":\"WorkflowExecutionStarted\",\"version\":1,\"workflowType\":\"order\"},{\"eventId\":2,\"eventType\":\"DecisionTaskScheduled\",\"version\":1}],\"parent\":null,\"run\":\"00000000-0000-0001-0000-000000000001\",\"task\":1,\"version\":1,\"workflow\":\"w1\"}\n{\"domain\":\"alpha\",\"events\":[{\"eventId\":3,\"eventType\":\"WorkflowExecutionSignaled\",\"input\":\"x\",\"signalName\":\"ping\",\"version\":1}],\"parent\":{\"task\":1,\"version\":1},\"run\":\"00000000-0000-0001-0000-000000000001\",\"task\":2,\"version\":1,\"workflow\":\"w1\"}\nrun 00000000-0000-0001-0000-000000000001 open current\nbranch 1.2 3@1 current\nstate next=4 decision=2 activities=- timers=- children=- signals=1 cancel=no\nend\n";
+
+const TREE: &str =
+    "workflow alpha w1\nrun 00000000-0000-0001-0000-000000000001 open current\nbatch 1.1 after - events 1..2 current\nbatch 1.2 after 1.1 events 3..3 current\nbranch 1.2 3@1 current\n";
+
+#[test]
+fn shows_dumps_and_tells_why_bytes_are_none(rt: HostRuntime) -> Result<(), Fail> {
+    for (word, input, room, wanted) in [
+        ("rebuild", ("", DUMP), 1000, (0, DUMP, "")),
+        ("inspect", ("", DUMP), 1000, (0, TREE, "")),
+        (
+            "inspect",
+            ("", DUMP),
+            20,
+            (5, "workflow alpha w1\nru", "ndc: write fault\n"),
+        ),
+        (
+            "rebuild",
+            ("dump 2 alpha w1\n", SIGNALED),
+            1000,
+            (7, "", "ndc: dump batch 1.2: MissingParent\n"),
+        ),
+        (
+            "inspect",
+            (DUMP, "end\n"),
+            1000,
+            (7, "", "ndc: dump line 8: BadView\n"),
+        ),
+        (
+            "run",
+            ("", DUMP),
+            1000,
+            (3, "", "ndc: script line 1: BadHeader\n"),
+        ),
+    ] {
+        check(&rt, rt.alloc(), &[word], input, (&[], &[]), room, wanted)?;
+    }
+    Ok(())
+}

@@ -1,6 +1,5 @@
-use Rattle.std.proofs.Common.{refl, sym, ◌∙◌, map}
-use Rattle.std.specs.String.{string_bytes}
-use Rattle.ndc_top.specs.Top.{accepted, Seen}
+use Rattle.std.proofs.Common.{refl}
+use Rattle.ndc_top.specs.Top.{Seen}
 use Rattle.ndc_top.proofs.Endings.{read_fault}
 use Rattle.ndc_top.proofs.top.run.Goals as goal
 
@@ -11,5 +10,4 @@ returns-in-Err-clause-fault g c =
     let out = c.args.out.now in
     let old : Seen = record { left = source.left c.args.source.now; source_faults = source.faults c.args.source.now; written = g.K.Sink.written out; out_faults = g.K.Sink.faults out } in
     let new : Seen = record { left = source.left c.read_script.new.source; source_faults = source.faults c.read_script.new.source; written = g.K.Sink.written out; out_faults = g.K.Sink.faults out } in
-    read_fault (accepted (map string_bytes c.args.words.now)) old new c.in-Err.fault
-    (sym c.accepted.ensures ∙ c.if-not-accepted.false) refl c.in-Err.ensures.fault
+    read_fault old new c.in-Err.fault refl c.in-Err.ensures.fault

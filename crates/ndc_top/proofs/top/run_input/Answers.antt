@@ -1,8 +1,6 @@
-use Rattle.std.proofs.Common.{map}
-use Rattle.std.specs.String.{string_bytes}
-use Rattle.ndc_top.specs.Top.{accepted, Seen}
+use Rattle.ndc_top.specs.Top.{Seen}
 use Rattle.ndc_top.proofs.Endings.{front_end}
-use Rattle.ndc_top.proofs.top.ndc_top.Goals as goal
+use Rattle.ndc_top.proofs.top.run_input.Goals as goal
 
 pub returns-in-Err-clause-front : goal.returns-in-Err-clause-front
 returns-in-Err-clause-front g c = λ _.
@@ -10,4 +8,4 @@ returns-in-Err-clause-front g c = λ _.
     let sink = g.K.Sink in
     let old : Seen = record { left = source.left c.args.source.now; source_faults = source.faults c.args.source.now; written = sink.written c.args.out.now; out_faults = sink.faults c.args.out.now } in
     let new : Seen = record { left = source.left c.run.new.source; source_faults = source.faults c.run.new.source; written = sink.written c.run.new.out; out_faults = sink.faults c.run.new.out } in
-    front_end (accepted (map string_bytes c.args.words.now)) old new c.in-Err.fault c.in-Err.ensures.fault
+    front_end old new c.in-Err.fault c.in-Err.ensures.fault
