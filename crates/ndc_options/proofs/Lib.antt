@@ -1,0 +1,4 @@
+pub mod Digits
+pub mod Differ
+pub mod Asking
+pub mod Dashes

@@ -1,0 +1,6 @@
+pub mod Reads
+pub mod Numbers
+pub mod Names
+pub mod Options
+pub mod Words
+pub mod WellFormed

@@ -1,0 +1,15 @@
+//! The words that the program is called with, read into what they ask for.
+#![tactic(auto)]
+
+mod error;
+mod names;
+mod number;
+mod options;
+#[cfg(test)]
+mod tests;
+mod words;
+pub mod words_laws;
+
+pub use error::WordsError;
+pub use names::Names;
+pub use words::{Asked, read};
