@@ -1,0 +1,6 @@
+pub mod StayLemmas
+pub mod GrowLemmas
+pub mod SettleLemmas
+pub mod LineLemmas
+pub mod EndedLemmas
+pub mod ScriptLemmas

@@ -1,0 +1,5 @@
+//! Laws of fair worlds: versions of domain records only rise, and so what a handover has ended stays ended.
+#![tactic(auto)]
+
+pub mod ended_laws;
+pub mod version_laws;
