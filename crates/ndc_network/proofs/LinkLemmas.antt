@@ -14,9 +14,11 @@ use Rattle.ndc_domain.specs.declared.record.DomainRecord.{DomainRecord}
 use Rattle.ndc_graceful.specs.declared.handover.Handover.{Handover}
 use Rattle.ndc_links.proofs.PlaceLemmas.{still}
 use Rattle.ndc_links.proofs.RestLemmas.{len_kept}
-use Rattle.ndc_links.specs.Rest.{AreRests, AreWithin, queue_at}
+use Rattle.ndc_fair_lines.proofs.TrimmedLemmas.{link-there}
+use Rattle.ndc_links.specs.Links.{with_lane_in}
+use Rattle.ndc_links.specs.Rest.{AreRests, AreWithin, IsRestOf, IsWithin, queue_at}
 use Rattle.ndc_model.specs.Fair.{IsLaneTrue, IsShaped, LanesAreTrue}
-use Rattle.ndc_model.specs.Moves.{map_from, pulled_all, pulled_link, renewed, renewed_link}
+use Rattle.ndc_model.specs.Moves.{map_from, pulled_all, pulled_lane, pulled_link, pulled_shard, renewed, renewed_link}
 use Rattle.ndc_model.specs.Queues.{after_pull, after_renewal, put_in_flight}
 use Rattle.ndc_model.specs.Sending.{pull_count}
 use Rattle.ndc_model.specs.World.{Cluster, Link, World, changed_first, cluster_at, is_link, lane_in, link_at, link_found, new_cluster}
@@ -122,6 +124,34 @@ module _ (header : Header) (w : World) (place : ℕ) (link : Link) (site : SiteV
       ap (λ (t : List DomainRecord). map_from (λ shard lane. length (put_in_flight link.reader t None (cell_for shard site.cluster.cells).written lane)) 0 link.lanes) same
       ∙ ap (λ (cluster : Cluster). map_from (λ shard lane. length (put_in_flight link.reader cluster.table None (cell_for shard cluster.cells).written lane)) 0 link.lanes) (sym it.own.cluster_is)
 
+  -- the queue of a shard
+  queue-is : (shard : ℕ) (now : List QueueValue) (queue : QueueValue) → shard < header.shards → now ≡ queues → queue ≡ get_or now shard queue → queue_at queues shard ≡ queue
+  queue-is shard now queue below seen here =
+      sym (get_or_read queues shard queue (omega (arith, below, lanes_alike, lanes_many)) (here ∙ ap (λ (qs : List QueueValue). get_or qs shard queue) seen) new_queue)
+
+  -- the levels of its lane lie in what is kept of it
+  pub within_there : (shard : ℕ) (now : List QueueValue) (queue : QueueValue) → shard < header.shards → now ≡ queues → queue ≡ get_or now shard queue → IsWithin queue (lane_in link shard)
+  within_there shard now queue below seen here =
+      subst (λ (q : QueueValue). IsWithin q (lane_in link shard)) (queue-is shard now queue below seen here) (lanes_within shard (omega (arith, below, lanes_many)))
+
+  -- and this is the rest of what its cell has written
+  pub rest_there : (shard : ℕ) (now : List QueueValue) (queue : QueueValue) → shard < header.shards → now ≡ queues → queue ≡ get_or now shard queue → IsRestOf queue (cell_for shard site.cluster.cells).written
+  rest_there shard now queue below seen here =
+      subst (λ (q : QueueValue). IsRestOf q (cell_for shard site.cluster.cells).written) (queue-is shard now queue below seen here) (it.rests shard (omega (arith, below, lanes_alike, lanes_many)))
+
+  -- a pull for one shard
+  pub pulled_some_there : (shard count : ℕ) (table : List DomainRecord) → table ≡ site.cluster.table
+      → with_lane_in shard (after_pull link.reader table (Some count) (cell_for shard site.cluster.cells).written (lane_in link shard)) link ≡ with_lane_in shard (pulled_lane w (Some count) link shard (lane_in link shard)) link
+  pulled_some_there shard count table same =
+      ap (λ (t : List DomainRecord). with_lane_in shard (after_pull link.reader t (Some count) (cell_for shard site.cluster.cells).written (lane_in link shard)) link) same
+      ∙ ap (λ (cluster : Cluster). with_lane_in shard (after_pull link.reader cluster.table (Some count) (cell_for shard cluster.cells).written (lane_in link shard)) link) (sym it.own.cluster_is)
+
+  pub counted_some_there : (shard count : ℕ) (table : List DomainRecord) → table ≡ site.cluster.table
+      → length (put_in_flight link.reader table (Some count) (cell_for shard site.cluster.cells).written (lane_in link shard)) ≡ pull_count w (Some count) link shard (lane_in link shard)
+  counted_some_there shard count table same =
+      ap (λ (t : List DomainRecord). length (put_in_flight link.reader t (Some count) (cell_for shard site.cluster.cells).written (lane_in link shard))) same
+      ∙ ap (λ (cluster : Cluster). length (put_in_flight link.reader cluster.table (Some count) (cell_for shard cluster.cells).written (lane_in link shard))) (sym it.own.cluster_is)
+
   -- renewing by what a cluster has learned, where it is the link's reader
   pub renewed_there : (reader : ClusterNo) (mine : SiteValue) (table : List DomainRecord) (cells : List Cell) → same_cluster link.reader reader ≡ true → StandsAt w reader mine
       → table ≡ site.cluster.table → cells ≡ mine.cluster.cells
@@ -171,6 +201,15 @@ module _ (reader source : ClusterNo) (w : World) (place : ℕ) (link : Link) (it
   pulled_world new same =
       ap (λ (links : List Link). record w { links = links }) (ap (set w.links place) same ∙ sym (changed_there reader source w place link it (pulled_link w)))
 
+  -- the world behind a pull for one shard
+  pub pulled_some_world : (shard count : ℕ) (new : Link) → new ≡ with_lane_in shard (pulled_lane w (Some count) link shard (lane_in link shard)) link
+      → record w { links = set w.links place new } ≡ pulled_shard reader source shard count w
+  unfolding pulled_shard
+  pulled_some_world shard count new same =
+      ap (λ (links : List Link). record w { links = links })
+      (ap (set w.links place) (same ∙ ap (λ (l : Link). with_lane_in shard (pulled_lane w (Some count) l shard (lane_in l shard)) link) (sym (link_is reader source w place link it)))
+      ∙ sym (changed_there reader source w place link it (λ (l : Link). record l { lanes = set l.lanes shard (pulled_lane w (Some count) (link_at reader source w) shard (lane_in (link_at reader source w) shard)) })))
+
 -- where a reader has nothing of a source, a pull changes nothing and counts nothing
 pub pulled_nowhere : (reader source : ClusterNo) (w : World) → position (is_link reader source) w.links ≡ None → w ≡ pulled_all reader source w
 unfolding pulled_all
@@ -207,12 +246,23 @@ held_there header w sites handovers change now place link site queues same shape
     }
 
 -- a cluster of the world, by the clusters that are held
-pub stands_in : (header : Header) (w : World) (sites : List SiteValue) (handovers : List Handover) (cluster : ClusterNo) (site : SiteValue) → world_of sites w.links handovers ≡ w → IsShaped header w → IsCluster header cluster
-    → site ≡ get_or sites cluster.number site → StandsAt w cluster site
-stands_in header w sites handovers cluster site same shaped known at =
+pub stands_by : (header : Header) (w : World) (sites : List SiteValue) (links : List Link) (handovers : List Handover) (cluster : ClusterNo) (site : SiteValue) → world_of sites links handovers ≡ w → IsShaped header w
+    → IsCluster header cluster → site ≡ get_or sites cluster.number site → StandsAt w cluster site
+stands_by header w sites links handovers cluster site same shaped known at =
     let inside : cluster.number < length sites =
     omega (arith, known, shaped.clusters, ap (λ (v : World). length v.clusters) same, length-map sites (λ (s : SiteValue). s.cluster)) in
-    subst (λ (v : World). StandsAt v cluster site) same (stands sites w.links handovers cluster site inside at)
+    subst (λ (v : World). StandsAt v cluster site) same (stands sites links handovers cluster site inside at)
+
+-- the same in a loop over the links
+pub stands_in : (header : Header) (w : World) (sites : List SiteValue) (handovers : List Handover) (cluster : ClusterNo) (site : SiteValue) → world_of sites w.links handovers ≡ w → IsShaped header w → IsCluster header cluster
+    → site ≡ get_or sites cluster.number site → StandsAt w cluster site
+stands_in header w sites handovers cluster site same shaped known at = stands_by header w sites w.links handovers cluster site same shaped known at
+
+-- a reader has something of each other cluster
+pub not_nowhere : {X : Type 0} (header : Header) (w : World) (reader source : ClusterNo) → IsShaped header w → AreTwoClusters header reader source → position (is_link reader source) w.links ≡ None → X
+not_nowhere header w reader source shaped two none =
+    let there = link-there header w reader source shaped two in
+    let some : Some there.0 ≡ None = sym there.1 ∙ none_found (is_link reader source) w.links none in absurd (cc)
 
 -- what another reader has stays
 pub other_link : (w : World) (reader : ClusterNo) (link : Link) → same_cluster link.reader reader ≡ false → renewed_link w reader link ≡ link

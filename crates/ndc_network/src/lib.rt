@@ -5,6 +5,7 @@ mod flights;
 mod network;
 mod opening;
 mod pulling;
+mod records;
 mod renewing;
 mod taking;
 mod working;

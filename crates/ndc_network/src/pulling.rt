@@ -1,9 +1,9 @@
-ghost use Rattle.std.specs.Prelude.{◌≡◌, None, position, sum, IfOk, OnOk};
-ghost use Rattle.ndc_act.specs.WellFormed.{IsCluster};
+ghost use Rattle.std.specs.Prelude.{◌≡◌, ◌<◌, None, Some, position, sum, IfOk, OnErr, OnOk};
+ghost use Rattle.ndc_act.specs.WellFormed.{AreTwoClusters, IsCluster};
 ghost use Rattle.ndc_model.specs.Fair.{IsShaped, LanesAreTrue};
-ghost use Rattle.ndc_model.specs.Moves.{map_from, pulled_all};
+ghost use Rattle.ndc_model.specs.Moves.{map_from, pulled_all, pulled_shard};
 ghost use Rattle.ndc_model.specs.Sending.{pull_count};
-ghost use Rattle.ndc_model.specs.World.{is_link, link_at};
+ghost use Rattle.ndc_model.specs.World.{is_link, lane_at, link_at};
 
 use crate::network::Network;
 use ndc_act::Header;
@@ -40,6 +40,35 @@ impl<C: Writes + Drop> Network<C> {
         let site = &self.sites[source.number as usize];
         let link = &mut self.links[place];
         let sent = link.pull(alloc, site.table(), site.queues())?;
+        Ok(sent)
+    }
+
+    /// The same for one shard, at most so many entries. Where memory runs out, all stays as it was.
+    pub fn pull_some(
+        &mut self,
+        alloc: Global,
+        header: &Header,
+        reader: ClusterNo,
+        source: ClusterNo,
+        shard: u32,
+        count: u64,
+    ) -> Result<u64, AllocError>
+        requires ends { AreTwoClusters header.now reader source }
+        requires shard { shard < header.now.shards }
+        requires shaped { IsShaped header.now self.old }
+        requires lanes { LanesAreTrue header.now self.old }
+        ensures pulled { OnOk result (self.new ≡ pulled_shard reader source shard count self.old) }
+        ensures count { IfOk result (λ sent. sent ≡ pull_count self.old (Some count) (link_at reader source self.old) shard (lane_at reader source shard self.old)) }
+        ensures unchanged { OnErr result (self.new ≡ self.old) }
+    {
+        let Some(place) = link_place(self.links.as_slice(), reader, source) else {
+            return Ok(0);
+        };
+        let site = &self.sites[source.number as usize];
+        let queues = site.queues().as_slice();
+        let queue = &queues[shard as usize];
+        let link = &mut self.links[place];
+        let sent = link.pull_some(alloc, site.table(), shard as usize, count, queue)?;
         Ok(sent)
     }
 }

@@ -6,7 +6,7 @@ ghost use Rattle.ndc_network.specs.Networks.{opening_site};
 use super::*;
 use ndc_act::Header;
 use ndc_cells::{Job, JobReply, Message};
-use ndc_domain::{ClusterNo, Clusters};
+use ndc_domain::{ClusterNo, Clusters, DomainTable, Members};
 use ndc_event::{BatchKey, Name};
 use ndc_links::{Learns, Writes};
 use ndc_port::OpenGate;
@@ -16,14 +16,16 @@ use ndc_sites::Site;
 use std::alloc::{AllocError, Global};
 use std::test::Fail;
 
-/// A cell that has written nothing and learned nothing, and finds no memory for any job.
+/// A cell that has written some messages and learned nothing, and finds no memory for any job.
 #[derive(Drop)]
-struct EmptyCell {}
+struct ListCell {
+    written: Vec<Message>,
+}
 
-impl Works for EmptyCell {
-    ghost use Rattle.ndc_cells.specs.Cells.{empty_cell};
+impl Works for ListCell {
+    ghost use Rattle.std.specs.Prelude.{[]};
 
-    ghost cell = { λ _. empty_cell };
+    ghost cell = { λ list. record { arrived = []; written = list.written.items; waiting = [] } };
 
     ghost allows = { λ _ _ _. Unit {0} };
 
@@ -32,28 +34,31 @@ impl Works for EmptyCell {
     }
 }
 
-impl Learns for EmptyCell {
+impl Learns for ListCell {
     fn has_learned(&self, _domain: &Name, _workflow: &Name, _key: BatchKey) -> bool {
         false
     }
 }
 
-impl Writes for EmptyCell {
+impl Writes for ListCell {
     fn written_len(&self) -> u64 {
-        0
+        self.written.len() as u64
     }
 
-    fn written_at(&self, _place: u64) -> Result<Message, AllocError> {
-        Err(AllocError)
+    fn written_at(&self, place: u64) -> Result<Message, AllocError> {
+        let message = &self.written[place as usize];
+        message.try_copy()
     }
 }
 
 /// A cluster with one cell.
-fn site(alloc: Global) -> Result<Site<EmptyCell>, AllocError>
+fn site(alloc: Global) -> Result<Site<ListCell>, AllocError>
     ensures { IfOk result (λ site. site ≡ opening_site 1) }
 {
     let mut cells = Vec::new(alloc);
-    cells.push(EmptyCell {})?;
+    cells.push(ListCell {
+        written: Vec::new(alloc),
+    })?;
     Site::new(alloc, cells, 1)
 }
 
@@ -61,13 +66,14 @@ fn site(alloc: Global) -> Result<Site<EmptyCell>, AllocError>
 #[derive(Drop)]
 struct Opened {
     header: Header,
-    network: Network<EmptyCell>,
+    network: Network<ListCell>,
 }
 
 /// Two clusters with one shard, in the beginning.
 fn in_the_beginning(alloc: Global) -> Result<Opened, Fail>
     ensures clusters { IfOk result (λ opened. length opened.network.clusters ≡ 2) }
     ensures members { IfOk result (λ opened. count_of opened.header.clusters ≡ 2) }
+    ensures shards { IfOk result (λ opened. opened.header.shards ≡ 1) }
     ensures reached { IfOk result (λ opened. IsReached opened.header 0 opened.network) }
 {
     let mut members = Vec::new(alloc);
@@ -117,6 +123,19 @@ fn nothing_is_pulled_in_the_beginning(rt: HostRuntime) -> Result<(), Fail> {
 }
 
 #[test]
+fn nothing_is_pulled_for_a_shard_in_the_beginning(rt: HostRuntime) -> Result<(), Fail> {
+    let alloc = rt.alloc();
+    let Opened {
+        header,
+        mut network,
+    } = in_the_beginning(alloc)?;
+    let reader = ClusterNo { number: 0 };
+    let source = ClusterNo { number: 1 };
+    assert!(rt; network.pull_some(alloc, &header, reader, source, 0, 5)? == 0);
+    Ok(())
+}
+
+#[test]
 fn nothing_arrives_in_the_beginning(rt: HostRuntime) -> Result<(), Fail> {
     let alloc = rt.alloc();
     let Opened {
@@ -143,5 +162,45 @@ fn a_cluster_without_memory_reapplies_nothing(rt: HostRuntime) -> Result<(), Fai
             .reapply(&rt, alloc, &OpenGate {}, 2, &header, cluster)
             .is_err()
     );
+    Ok(())
+}
+
+/// A table with a record of `alpha` that names these clusters.
+fn table_naming(
+    alloc: Global,
+    clusters: &Clusters,
+    members: &[ClusterNo],
+) -> Result<DomainTable, Fail> {
+    let mut table = DomainTable::new(alloc);
+    let primary = ClusterNo { number: 0 };
+    let alpha = Name::new(alloc, b"alpha".as_slice())?;
+    if members
+        .iter()
+        .all(|member| member.number < clusters.count())
+    {
+        table.register(clusters, primary, &alpha, primary, 7, Members::of(members))?;
+    }
+    Ok(table)
+}
+
+#[test]
+fn no_reader_is_late_where_a_domain_is_new(rt: HostRuntime) -> Result<(), Fail> {
+    let alloc = rt.alloc();
+    let Opened {
+        header,
+        mut network,
+    } = in_the_beginning(alloc)?;
+    let source = ClusterNo { number: 0 };
+    let reader = ClusterNo { number: 1 };
+    let table = table_naming(alloc, &header.clusters, &[source, reader])?;
+    let before = network.replace_table(alloc, source, table)?;
+    assert!(rt; before.records().is_empty());
+    assert!(rt;
+        network
+            .sites()
+            .iter()
+            .any(|site| site.table().records().len() == 1)
+    );
+    assert!(rt; network.links().iter().all(|link| link.late().is_empty()));
     Ok(())
 }
