@@ -1,17 +1,21 @@
--- Every line lets tables grow.
+-- Every line lets tables grow, and writes nothing below the versions of records.
 use Rattle.std.proofs.Common.{ℕ}
 use Rattle.ndc_act.specs.WellFormed.{IsWellFormedAct, IsWellFormedHeader}
 use Rattle.ndc_act.specs.declared.script.Act.{Act}
 use Rattle.ndc_act.specs.declared.script.Act.TheVariants as act
 use Rattle.ndc_act.specs.declared.script.Header.{Header}
+use Rattle.ndc_domain.specs.Merge.{merged}
+use Rattle.ndc_domain.specs.Records.{failover_of, join_of, register_of, retain_of}
 use Rattle.ndc_fair_tables.proofs.GrowLemmas.{grows-none}
 use Rattle.ndc_fair_versions.specs.Grown.{TablesGrow}
 use Rattle.ndc_fair_versions.proofs.GrowLemmas.{complete-grow, failover-grow, handover-grow, join-grow, merge-grow, register-grow, retain-grow, stay-grow}
-use Rattle.ndc_fair_versions.proofs.SettleLemmas.{settle-grow}
+use Rattle.ndc_fair_versions.proofs.SettleLemmas.{settle-above, settle-grow}
 use Rattle.ndc_fair_versions.proofs.StayLemmas.{AreTables, beat-stay, bootstrap-stay, command-stay, damage-stay, flight-stay, mergeletters-stay, pull-some-stay, pull-stay, purge-stay, resend-stay, reset-stay, rewound-stay, sync-stay, trim-stay, work-stay}
+use Rattle.ndc_fair_versions.proofs.WriteLemmas.{WritesAbove, above-none, beat-above, bootstrap-above, command-above, complete-above, damage-above, flight-above, handover-above, join-above, mergeletters-above, pull-above, pull-some-above, purge-above, resend-above, reset-above, rewound-above, sync-above, table-above, table-step-above, trim-above, work-above}
 use Rattle.ndc_model.specs.Facts.{IsReached}
 use Rattle.ndc_model.specs.Lines.{act_step}
 use Rattle.ndc_model.specs.Moves.{from_world}
+use Rattle.ndc_model.specs.Tables.{failover_words, register_words, retain_words}
 use Rattle.ndc_model.specs.World.{World, cluster_at, flight_at}
 use Rattle.ndc_queue.specs.Lists.{after_loss, after_move, after_repeat}
 
@@ -64,3 +68,48 @@ line-grows header lines line w sound asked is = by line asked
     by (act.Beat cluster domain workflow id details) fit = stay-grow w (act_step header (act.Beat cluster domain workflow id details) w).world (beat-stay header cluster domain workflow id details w)
     by (act.Sync to from) fit = stay-grow w (act_step header (act.Sync to from) w).world (sync-stay to from w)
     by (act.ProgressOf cluster domain workflow id) fit = same
+
+-- every line writes nothing below the versions of records
+pub line-above : (header : Header) (lines : ℕ) (line : Act) (w : World) → IsReached header lines w → WritesAbove w (act_step header line w).world
+unfolding act_step
+line-above header lines line w is = by line
+  where
+    by : (line : Act) → WritesAbove w (act_step header line w).world
+    by (act.Command cluster domain workflow command) = command-above header cluster domain workflow command w
+    by (act.Burst cluster jobs) = above-none w
+    by (act.Register at domain target days members) = table-step-above register_words at w (register_of header.clusters at domain target days members (cluster_at at w).table)
+    by (act.Retain at domain days) = table-step-above retain_words at w (retain_of at domain days (cluster_at at w).table)
+    by (act.Join at domain member) = join-above at w (join_of at domain member (cluster_at at w).table)
+    by (act.Failover at domain target) = table-step-above failover_words at w (failover_of header.clusters domain target (cluster_at at w).table)
+    by (act.Domains to from) = table-above to (merged (cluster_at to w).table (cluster_at from w).table) w
+    by (act.Domain at domain) = above-none w
+    by (act.MembersOf at domain) = above-none w
+    by (act.Pull reader source) = pull-above reader source w
+    by (act.PullSome reader source shard count) = pull-some-above reader source shard count w
+    by (act.Lose reader source shard place) = flight-above reader source shard w (after_loss place (flight_at reader source shard w))
+    by (act.Repeat reader source shard place) = flight-above reader source shard w (after_repeat place (flight_at reader source shard w))
+    by (act.Move reader source shard place to) = flight-above reader source shard w (after_move place to (flight_at reader source shard w))
+    by (act.Work cluster) = work-above header cluster w
+    by (act.Rewind reader source) = rewound-above reader source w
+    by (act.Trim source) = trim-above header source w
+    by (act.LevelsOf reader source shard) = above-none w
+    by (act.Gaps cluster) = above-none w
+    by (act.Resend cluster) = resend-above header cluster w
+    by (act.Bootstrap reader source) = bootstrap-above header reader (from_world w) source
+    by act.Settle = settle-above header w is.fair.records.tables
+    by (act.History cluster domain workflow) = above-none w
+    by (act.Branches cluster domain workflow) = above-none w
+    by (act.Current cluster domain workflow) = above-none w
+    by (act.StateOf cluster domain workflow) = above-none w
+    by (act.Dump cluster domain workflow) = above-none w
+    by (act.Compare one two domain workflow) = above-none w
+    by (act.Handover at domain target) = handover-above header at target domain w
+    by (act.Complete at domain) = complete-above at domain w
+    by (act.Reset cluster domain workflow event) = reset-above header cluster domain workflow event w
+    by (act.Damage reader source shard place cut) = damage-above reader source shard place cut w
+    by (act.LettersOf reader) = above-none w
+    by (act.Purge reader) = purge-above reader w
+    by (act.MergeLetters reader) = mergeletters-above header reader w
+    by (act.Beat cluster domain workflow id details) = beat-above header cluster domain workflow id details w
+    by (act.Sync to from) = sync-above to from w
+    by (act.ProgressOf cluster domain workflow id) = above-none w

@@ -10,22 +10,26 @@ use Rattle.ndc_act.specs.declared.script.Header.{Header}
 use Rattle.ndc_act.specs.declared.script.Line.{Line}
 use Rattle.ndc_cells.specs.Writing.{may_write}
 use Rattle.ndc_domain.specs.declared.clusters.ClusterNo.{ClusterNo}
+use Rattle.ndc_event.specs.declared.batch.Batch.{Batch}
 use Rattle.ndc_event.specs.declared.name.Name.{Name}
 use Rattle.ndc_fair_lines.specs.Sometime.{IsReachedSometime}
 use Rattle.ndc_fair_tables.proofs.GrowLemmas.{grows-none}
 use Rattle.ndc_fair_versions.specs.Grown.{TablesGrow, world_after}
-use Rattle.ndc_fair_versions.proofs.EndedLemmas.{stays-ended}
+use Rattle.ndc_fair_versions.proofs.EndedLemmas.{nothing-more, stays-ended}
 use Rattle.ndc_fair_versions.proofs.GrowLemmas.{stay-grow, tables-then}
-use Rattle.ndc_fair_versions.proofs.LineLemmas.{line-grows}
+use Rattle.ndc_fair_versions.proofs.LineLemmas.{line-above, line-grows}
 use Rattle.ndc_fair_versions.proofs.StayLemmas.{TablesStay, command-stay}
+use Rattle.ndc_fair_versions.proofs.WriteLemmas.{WritesAbove, above-none, above-then, command-above}
 use Rattle.ndc_graceful.specs.declared.handover.Handover.{Handover}
 use Rattle.ndc_laws.specs.Promised.{RunsReached, world_before}
 use Rattle.ndc_laws.proofs.LinesBefore.{runs-reached}
 use Rattle.ndc_laws.proofs.ReachedLemmas.{worlds_reached}
 use Rattle.ndc_model.specs.Facts.{IsReached}
+use Rattle.ndc_model.specs.Fair.{written_of}
 use Rattle.ndc_model.specs.Laws.{script_of}
 use Rattle.ndc_model.specs.Lines.{act_step, job_line, lines_of_act, plain_lines, ran_from}
 use Rattle.ndc_model.specs.World.{World, cell_of, cluster_at, home_at, opening_world}
+use Rattle.ndc_sets.specs.Sets.{Has}
 
 -- lines behind others run in the world that these left
 after-both : (header : Header) (one two : List Line) (w : World) → world_after header (one ++ two) w ≡ world_after header two (world_after header one w)
@@ -89,3 +93,46 @@ pub ended-in-script : (header : Header) (front back : List Line) (handover : Han
 ended-in-script header front back handover is opened =
     let at = front-reached header front back is in
     stays-ended header at.lines (world_before header front) (world_before header (front ++ back)) handover at.reached opened (script-grows header back front is)
+
+-- a burst writes nothing below the versions of records
+burst-above : (header : Header) (cluster : ClusterNo) (jobs : List BurstJob) (w : World) → WritesAbove w (world_after header (map (job_line cluster) jobs) w)
+unfolding act_step
+burst-above header cluster [] w = above-none w
+burst-above header cluster (job ∷ jobs) w =
+    above-then w (act_step header (act.Command cluster job.domain job.workflow job.command) w).world (world_after header (map (job_line cluster) (job ∷ jobs)) w)
+    (stay-grow w (act_step header (act.Command cluster job.domain job.workflow job.command) w).world (command-stay header cluster job.domain job.workflow job.command w))
+    (command-above header cluster job.domain job.workflow job.command w)
+    (burst-above header cluster jobs (act_step header (act.Command cluster job.domain job.workflow job.command) w).world)
+
+act-above : (header : Header) (lines number : ℕ) (asked : Act) (w : World) → IsReached header lines w → WritesAbove w (world_after header (lines_of_act number asked) w)
+act-above header lines number (act.Burst cluster jobs) w is = burst-above header cluster jobs w
+act-above header lines number other w is = line-above header lines other w is
+
+-- so do the lines of a script between two of its worlds
+script-above : (header : Header) (back front : List Line) → IsWellFormed (script_of header (front ++ back)) → WritesAbove (world_before header front) (world_before header (front ++ back))
+script-above header [] front is = subst (λ (list : List Line). WritesAbove (world_before header front) (world_before header list)) (sym (append-nil front)) (above-none (world_before header front))
+script-above header (line ∷ back) front is =
+    above-then (world_before header front) (world_before header (front ++ line ∷ [])) (world_before header (front ++ line ∷ back)) grown first
+    (subst (λ (list : List Line). WritesAbove (world_before header (front ++ line ∷ [])) (world_before header list)) behind
+    (script-above header back (front ++ line ∷ []) (subst (λ (list : List Line). IsWellFormed (script_of header list)) (sym behind) is)))
+  where
+    behind : (front ++ line ∷ []) ++ back ≡ front ++ line ∷ back
+    behind = append_assoc front (line ∷ []) back
+
+    runs : RunsReached header front line.act
+    runs = runs-reached header front back line is
+
+    grown : TablesGrow (world_before header front) (world_before header (front ++ line ∷ []))
+    grown = subst (TablesGrow (world_before header front)) (sym (before-next header front line)) (act-grows header runs.lines line.number line.act (world_before header front) is.header runs.fit runs.reached)
+
+    first : WritesAbove (world_before header front) (world_before header (front ++ line ∷ []))
+    first = subst (WritesAbove (world_before header front)) (sym (before-next header front line)) (act-above header runs.lines line.number line.act (world_before header front) runs.reached)
+
+-- in a script nothing more is written with an ended version
+pub nothing-in-script : (header : Header) (front back : List Line) (handover : Handover) → IsWellFormed (script_of header (front ++ back)) → IsAmong (world_before header front).handovers handover
+    → (workflow : Name) (b : Batch) → Has (written_of header handover.domain workflow (world_before header (front ++ back))) b → b.key.version ≡ handover.old
+    → Has (written_of header handover.domain workflow (world_before header front)) b
+nothing-in-script header front back handover is opened =
+    let at = front-reached header front back is in
+    let then = front-reached header (front ++ back) [] (subst (λ (list : List Line). IsWellFormed (script_of header list)) (sym (append-nil (front ++ back))) is) in
+    nothing-more header at.lines then.lines (world_before header front) (world_before header (front ++ back)) is.header at.reached then.reached handover opened (script-above header back front is)

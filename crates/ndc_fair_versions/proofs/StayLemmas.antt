@@ -89,7 +89,7 @@ pub trim-stay : (header : Header) (source : ClusterNo) (w : World) → TablesSta
 unfolding trimmed_all
 trim-stay header source w one = refl
 
-flights-stay : (header : Header) (reader : ClusterNo) (w : World) → TablesStay w (flights_arrived header reader w).world
+pub flights-stay : (header : Header) (reader : ClusterNo) (w : World) → TablesStay w (flights_arrived header reader w).world
 unfolding flights_arrived
 flights-stay header reader w = jobs-stay header reader _ (from_world (without_flights_to reader w))
 
