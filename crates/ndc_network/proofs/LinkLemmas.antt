@@ -1,7 +1,7 @@
 -- What a reader has of a source, in a world that is shaped and whose lanes are as they should be.
-use Rattle.std.proofs.Common.{◌≡◌, ◌≤◌, ◌<◌, ℕ, [], Bool, true, false, ◌&&◌, List, ◌++◌, Option, Some, None, map, take, drop, position, length, get_or, slice_index_or, set, sum, refl, ap, sym, subst, ◌∙◌, arith, length-take}
+use Rattle.std.proofs.Common.{◌≡◌, ◌≤◌, ◌<◌, ℕ, [], true, false, List, ◌++◌, Option, Some, None, map, take, drop, position, length, get_or, slice_index_or, set, sum, refl, ap, sym, subst, ◌∙◌, arith, length-take}
 use Rattle.std.proofs.Math.ListN.{get_or-map}
-use Rattle.std.proofs.lemmas.Bool.{eqb-true}
+use Rattle.std.proofs.lemmas.Bool.{and_parts}
 use Rattle.std.proofs.lemmas.List.{append-nil, drop_all, drop_at, get_or_read, length-map, take_all}
 use Rattle.std.proofs.lemmas.List.Quantifiers.{position-Some}
 use Rattle.ndc_act.specs.WellFormed.{AreTwoClusters, IsCluster}
@@ -11,6 +11,7 @@ use Rattle.ndc_cells.specs.Jobs.{cell_for}
 use Rattle.ndc_cells.specs.Writing.{same_cluster}
 use Rattle.ndc_domain.specs.declared.clusters.ClusterNo.{ClusterNo}
 use Rattle.ndc_domain.specs.declared.record.DomainRecord.{DomainRecord}
+use Rattle.ndc_fair_arrivals.proofs.ManyLemmas.{one-cluster}
 use Rattle.ndc_graceful.specs.declared.handover.Handover.{Handover}
 use Rattle.ndc_links.proofs.PlaceLemmas.{still}
 use Rattle.ndc_links.proofs.RestLemmas.{len_kept}
@@ -27,20 +28,8 @@ use Rattle.ndc_queue.specs.Queues.{QueueValue, new_queue, queue_len}
 use Rattle.ndc_rounds.proofs.EachLemmas.{all_there}
 use Rattle.ndc_sites.specs.Sites.{SiteValue}
 use Rattle.ndc_network.proofs.PlaceLemmas.{changed_at, found_at, none_changed, none_found}
+use Rattle.ndc_network.proofs.ShardLemmas.{cells_there}
 use Rattle.ndc_network.specs.Networks.{StandsAt, world_of}
-
--- clusters of one number are one
-one-cluster : (one two : ClusterNo) → same_cluster one two ≡ true → one ≡ two
-one-cluster one two e = let same : one.number ≡ two.number = eqb-true one.number two.number e in λ i. record { number = same i }
-
--- both tests of two
-first-true : (a b : Bool) → (a && b) ≡ true → a ≡ true
-first-true true b e = refl
-first-true false b e = absurd (cc)
-
-second-true : (a b : Bool) → (a && b) ≡ true → b ≡ true
-second-true true b e = e
-second-true false b e = absurd (cc)
 
 -- the cluster of a number
 pub stands : (sites : List SiteValue) (links : List Link) (handovers : List Handover) (cluster : ClusterNo) (site : SiteValue) → cluster.number < length sites → site ≡ get_or sites cluster.number site
@@ -80,7 +69,7 @@ pub record Holds (header : Header) (w : World) (place : ℕ) (link : Link) (site
 pub cells_many : (header : Header) (w : World) (cluster : ClusterNo) (site : SiteValue) → IsShaped header w → IsCluster header cluster → StandsAt w cluster site → length site.cluster.cells ≡ header.shards
 cells_many header w cluster site shaped known own =
     ap (λ (c : Cluster). length c.cells) (sym own.cluster_is)
-    ∙ all_there (λ (c : Cluster). length c.cells ≡ header.shards) w.clusters cluster.number (new_cluster 0) (omega (arith, known, shaped.clusters)) shaped.cells
+    ∙ cells_there header w cluster known shaped
 
 module _ (header : Header) (w : World) (place : ℕ) (link : Link) (site : SiteValue) (queues : List QueueValue) (it : Holds header w place link site queues) where
   pub lanes_many : length link.lanes ≡ header.shards
@@ -165,7 +154,7 @@ module _ (header : Header) (w : World) (place : ℕ) (link : Link) (site : SiteV
 
 module _ (reader source : ClusterNo) (w : World) (place : ℕ) (link : Link) (it : IsFound reader source w.links place link) where
   pub source_is : link.source ≡ source
-  source_is = one-cluster link.source source (second-true (same_cluster link.reader reader) (same_cluster link.source source) it.is)
+  source_is = one-cluster link.source source ((and_parts (same_cluster link.reader reader) (same_cluster link.source source) it.is).1)
 
   -- it is what the reader has of the source
   pub link_is : link_at reader source w ≡ link

@@ -13,7 +13,7 @@ map-same f y [] = refl
 map-same f y (x ∷ xs) = ap (λ zs. f y ∷ zs) (map-same f y xs)
 
 pub opening : (header : Header) (sites : List SiteValue) (links : List Link) (handovers : List Handover)
-    → sites ≡ map (λ _. opening_site header.shards) (all_clusters header) → links ≡ flat_map (links_of header.shards (all_clusters header)) (all_clusters header)
+    → sites ≡ map (λ _. opening_site header.shards) (all_clusters header) → links ≡ flat_map (links_of header (all_clusters header)) (all_clusters header)
     → handovers ≡ [] → world_of sites links handovers ≡ opening_world header
 opening header sites links handovers sites-are links-are none =
     rw (

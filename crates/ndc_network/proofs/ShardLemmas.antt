@@ -34,12 +34,12 @@ module _ (header : Header) (w : World) (cluster : ClusterNo) (known : IsCluster 
   pub cluster_there : cluster.number < length w.clusters
   cluster_there = omega (arith, known, shaped.clusters)
 
-  cells-many : length (cluster_at cluster w).cells ≡ header.shards
-  cells-many = all_there (λ (c : Cluster). length c.cells ≡ header.shards) w.clusters cluster.number (new_cluster 0) cluster_there shaped.cells
+  pub cells_there : length (cluster_at cluster w).cells ≡ header.shards
+  cells_there = all_there (λ (c : Cluster). length c.cells ≡ header.shards) w.clusters cluster.number (new_cluster 0) cluster_there shaped.cells
 
   -- messages arrive, and strays are applied, in cells of its own
   pub arriving_there : (messages : ℕ → List Message) → AreBelow (length (cluster_at cluster w).cells) (all_arrive messages (shards_of header))
-  arriving_there messages = arriving-below messages (length (cluster_at cluster w).cells) 0 header.shards (omega (arith, cells-many))
+  arriving_there messages = arriving-below messages (length (cluster_at cluster w).cells) 0 header.shards (omega (arith, cells_there))
 
   pub reapplying_there : AreBelow (length (cluster_at cluster w).cells) (all_reapply header)
-  reapplying_there = reapplying-below (length (cluster_at cluster w).cells) 0 header.shards (omega (arith, cells-many))
+  reapplying_there = reapplying-below (length (cluster_at cluster w).cells) 0 header.shards (omega (arith, cells_there))

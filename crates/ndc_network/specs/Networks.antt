@@ -1,11 +1,11 @@
 -- Clusters with the links between them.
 use Rattle.std.specs.Prelude.{◌≡◌, ℕ, [], List, map, not, replicate, slice_index_or}
 use Rattle.std.specs.List.{filter}
+use Rattle.ndc_act.specs.declared.script.Header.{Header}
 use Rattle.ndc_cells.specs.Writing.{same_cluster}
 use Rattle.ndc_domain.specs.declared.clusters.ClusterNo.{ClusterNo}
 use Rattle.ndc_graceful.specs.declared.handover.Handover.{Handover}
-use Rattle.ndc_model.specs.Queues.{new_lane}
-use Rattle.ndc_model.specs.World.{Link, World, cluster_at, new_cluster}
+use Rattle.ndc_model.specs.World.{Link, World, cluster_at, new_cluster, new_link}
 use Rattle.ndc_sites.specs.Sites.{SiteValue}
 
 -- the world of these clusters, links and handovers
@@ -21,13 +21,9 @@ world_of sites links handovers = record {
 abbrev pub opening_site : ℕ → SiteValue
 opening_site shards = record { cluster = new_cluster shards; trimmed = replicate shards 0 }
 
--- what a reader has of a source in the beginning, for so many shards
-abbrev pub opening_link : ℕ → ClusterNo → ClusterNo → Link
-opening_link shards reader source = record { reader = reader; source = source; lanes = replicate shards new_lane; late = [] }
-
 -- what a reader has of each other of these clusters in the beginning
-abbrev pub links_of : ℕ → List ClusterNo → ClusterNo → List Link
-links_of shards clusters reader = map (opening_link shards reader) (filter (λ other. not (same_cluster reader other)) clusters)
+abbrev pub links_of : Header → List ClusterNo → ClusterNo → List Link
+links_of header clusters reader = map (new_link header reader) (filter (λ other. not (same_cluster reader other)) clusters)
 
 -- a cluster of a world, with how far its queues are trimmed
 pub record StandsAt (w : World) (cluster : ClusterNo) (site : SiteValue) : Type 0 where

@@ -16,16 +16,16 @@ use std::alloc::{AllocError, Global};
 fn add_links(
     alloc: Global,
     links: &mut Vec<Link>,
-    reader: ClusterNo,
+    header: &Header,
     clusters: &[ClusterNo],
-    shards: u32,
+    reader: ClusterNo,
 ) -> Result<(), AllocError>
-    requires { shards ≤ 64 }
-    ensures { OnOk result (links.new.items ≡ links.old.items ++ links_of shards clusters.now reader) }
+    requires { header.now.shards ≤ 64 }
+    ensures { OnOk result (links.new.items ≡ links.old.items ++ links_of header.now clusters.now reader) }
 {
     for &source in clusters {
         if reader.number != source.number {
-            links.push(Link::new(alloc, reader, source, shards)?)?;
+            links.push(Link::new(alloc, reader, source, header.shards)?)?;
         }
     }
     Ok(())
@@ -34,15 +34,15 @@ fn add_links(
 /// What each of these clusters has of each other in the beginning.
 fn opening_links(
     alloc: Global,
+    header: &Header,
     clusters: &[ClusterNo],
-    shards: u32,
 ) -> Result<Vec<Link>, AllocError>
-    requires { shards ≤ 64 }
-    ensures { IfOk result (λ links. links.items ≡ flat_map (links_of shards clusters.now) clusters.now) }
+    requires { header.now.shards ≤ 64 }
+    ensures { IfOk result (λ links. links.items ≡ flat_map (links_of header.now clusters.now) clusters.now) }
 {
     let mut links = Vec::new(alloc);
     for &reader in clusters {
-        add_links(alloc, &mut links, reader, clusters, shards)?;
+        add_links(alloc, &mut links, header, clusters, reader)?;
     }
     Ok(links)
 }
@@ -59,7 +59,7 @@ impl<C: Writes + Drop> Network<C> {
         ensures { IfOk result (λ network. network ≡ opening_world header.now) }
     {
         let clusters = clusters_below(alloc, header.clusters.count())?;
-        let links = opening_links(alloc, clusters.as_slice(), header.shards)?;
+        let links = opening_links(alloc, header, clusters.as_slice())?;
         Ok(Network {
             sites,
             links,

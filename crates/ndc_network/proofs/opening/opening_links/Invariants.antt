@@ -5,4 +5,4 @@ use Rattle.ndc_network.proofs.opening.opening_links.Given as goal
 
 abbrev pub invariant-loop-reader : goal.invariant-loop-reader
 invariant-loop-reader l =
-    l.links.items ++ flat_map (links_of l.shards l.clusters) (drop l.reader-index l.clusters) ≡ flat_map (links_of l.shards l.clusters) l.clusters
+    l.links.items ++ flat_map (links_of l.header l.clusters) (drop l.reader-index l.clusters) ≡ flat_map (links_of l.header l.clusters) l.clusters

@@ -9,6 +9,6 @@ use Rattle.ndc_network.proofs.network.Network.new.Goals as goal
 pub returns : goal.returns
 returns g c =
     opening c.args.header.now c.args.sites.items c.in_ok-links.links.items c.new.result.items c.requires.sites
-    (c.in_ok-links.ensures ∙ ap (λ (clusters : List ClusterNo). flat_map (links_of c.args.header.now.shards clusters) clusters)
+    (c.in_ok-links.ensures ∙ ap (λ (clusters : List ClusterNo). flat_map (links_of c.args.header.now clusters) clusters)
     (c.as_slice.ensures.value ∙ c.in_ok-clusters.ensures.answer ∙ ap clusters_below c.count.ensures.count))
     c.new.ensures.items
