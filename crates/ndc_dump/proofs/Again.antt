@@ -9,7 +9,6 @@ use Rattle.ndc_event.specs.Outcome.{◌>>=◌}
 use Rattle.ndc_event.specs.declared.batch.Batch.{Batch}
 use Rattle.ndc_event.specs.declared.key.BatchKey.{BatchKey}
 use Rattle.ndc_event.specs.declared.name.Name.{Name}
-use Rattle.ndc_sets.specs.Sound.{IsSound}
 use Rattle.ndc_sets.specs.View.{view_of}
 use Rattle.ndc_sets.specs.declared.view.View.{View}
 use Rattle.ndc_text.specs.Read.{read_of}
@@ -27,10 +26,8 @@ use Rattle.ndc_dump.specs.Batches.{batch_on, batches_on, behind, on_line, out_of
 use Rattle.ndc_dump.specs.Causes.{sound_or}
 use Rattle.ndc_dump.specs.Migrated.{standing_for}
 use Rattle.ndc_dump.specs.Read.{dump_of, dump_on, dump_with, shown_or, view_on, view_text}
-use Rattle.ndc_dump.specs.Given.{AreRead}
-use Rattle.ndc_dump.proofs.NoCause.{went, has-none}
-use Rattle.ndc_dump.proofs.Soundness.{is-sound}
-use Rattle.ndc_dump.proofs.ReadLemmas.{are-read, line-read, placed}
+use Rattle.ndc_dump.proofs.NoCause.{went}
+use Rattle.ndc_dump.proofs.ReadLemmas.{line-read, placed}
 use Rattle.ndc_dump.specs.Frame.{IsHeaded, begins_batch, begins_first, body_of, form_of, framed, heading_by, heading_of, heading_in, named}
 use Rattle.ndc_dump.specs.Lines.{differ_at, lines_of, onto_line, without_end}
 
@@ -307,25 +304,3 @@ again (first ∷ lines) d ended two e =
 pub printed_again : (bytes : List ℕ) (d : Dump) → IsHeaded form.Two (lines_of bytes) → dump_of bytes ≡ Ok d → bytes ≡ dump_text d.domain d.workflow d.view
 unfolding dump_of
 printed_again bytes d two e = sym (lines-whole bytes) ∙ again (lines_of bytes) d (lines-ended bytes) two e
-
--- ---- the set
-
-set-read : (lines : List (List ℕ)) (d : Dump) → IsHeaded form.Two lines → dump_on lines ≡ Ok d → AreRead d.view.batches × IsSound d.view.batches
-unfolding dump_on
-set-read lines d two e =
-    let one = went (heading_of lines) _ d e in
-    let second = went (body_of lines) _ d one.2 in
-    let three = went (batches_on one.0 2 None second.0) _ d second.2 in
-    let four = went (sound_or three.0) _ d three.2 in
-    let five = went (view_on (2 + length three.0) (view_lines second.0) (view_of (standing_for one.0.form three.0))) _ d four.2 in
-    let last : dump_with one.0 five.0 ≡ d = cc in
-    let shown = view-same (2 + length three.0) (view_lines second.0) (view_of (standing_for one.0.form three.0)) five.0 five.1 in
-    let stands : three.0 ≡ d.view.batches =
-    sym (ap (λ f. standing_for f three.0) (two one.0 one.1)) ∙ sym (ap (λ (v : View). v.batches) shown.1) ∙ ap (λ (x : Dump). x.view.batches) last in
-    let read = are-read one.0 2 None second.0 three.0 three.1 in
-    (subst AreRead stands read, subst IsSound stands (is-sound three.0 read (has-none three.0 four.0 four.1)))
-
--- the batches of a dump in the second form are a sound set in range
-pub set_is_sound : (bytes : List ℕ) (d : Dump) → IsHeaded form.Two (lines_of bytes) → dump_of bytes ≡ Ok d → AreRead d.view.batches × IsSound d.view.batches
-unfolding dump_of
-set_is_sound bytes d two e = set-read (lines_of bytes) d two e

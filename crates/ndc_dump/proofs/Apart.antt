@@ -44,17 +44,17 @@ one_in_front b c x y h k e = one_of_fronts b c h k (goes_on (batch_text b) (batc
 
 -- ---- where the batches end
 
-text_begins : (b : Batch) (x : List ℕ) → begins_batch (batch_text b ++ x) ≡ true
+pub text_begins : (b : Batch) (x : List ℕ) → begins_batch (batch_text b ++ x) ≡ true
 unfolding batch_text
 text_begins b x = refl
 
-runs_begin : (runs : List RunView) → begins_batch (flat_map run_state_lines runs ++ codes "end\n") ≡ false
+pub runs_begin : (runs : List RunView) → begins_batch (flat_map run_state_lines runs ++ codes "end\n") ≡ false
 runs_begin [] = refl
 runs_begin (run ∷ runs) = refl
 
 -- ---- all batches
 
-abbrev batch_line : Batch → List ℕ
+abbrev pub batch_line : Batch → List ℕ
 batch_line b = batch_text b ++ codes "\n"
 
 apart : (b : Batch) (batches : List Batch) (x : List ℕ) → flat_map batch_line (b ∷ batches) ++ x ≡ batch_text b ++ (10 ∷ (flat_map batch_line batches ++ x))
@@ -86,10 +86,10 @@ same_batches (b ∷ one) (c ∷ two) x y h k p q e =
 in_parts : (heading batches runs end : List ℕ) → ((heading ++ batches) ++ runs) ++ end ≡ heading ++ (batches ++ (runs ++ end))
 in_parts heading batches runs end = simp append_assoc
 
-abbrev heading : Name → Name → List ℕ
+abbrev pub heading : Name → Name → List ℕ
 heading domain workflow = codes "dump 2 " ++ domain ++ codes " " ++ workflow ++ codes "\n"
 
-dump_apart : (domain workflow : Name) (batches : List Batch) → dump_text domain workflow (view_of batches) ≡ heading domain workflow ++ (flat_map batch_line batches ++ view_text (view_of batches))
+pub dump_apart : (domain workflow : Name) (batches : List Batch) → dump_text domain workflow (view_of batches) ≡ heading domain workflow ++ (flat_map batch_line batches ++ view_text (view_of batches))
 dump_apart domain workflow batches = in_parts (heading domain workflow) (flat_map batch_line batches) (flat_map run_state_lines (view_of batches).runs) (codes "end\n")
 
 -- sets in range that have one dump text are equal

@@ -31,7 +31,7 @@ filter-map-of f p q same (x ∷ xs) = rw (same x) (by (q x) (filter-map-of f p q
     by true rest = ap (λ l. f x ∷ l) rest
     by false rest = rest
 
-find-map-of : (f : Batch → Batch) (p q : Batch → Bool) → ((b : Batch) → p (f b) ≡ q b) → (xs : List Batch) → find p (map f xs) ≡ option_map f (find q xs)
+pub find-map-of : (f : Batch → Batch) (p q : Batch → Bool) → ((b : Batch) → p (f b) ≡ q b) → (xs : List Batch) → find p (map f xs) ≡ option_map f (find q xs)
 find-map-of f p q same [] = refl
 find-map-of f p q same (x ∷ xs) = rw (same x) (by (q x) (find-map-of f p q same xs))
   where
@@ -62,7 +62,7 @@ module _ (f : Batch → Batch) (keeps : Keeps f) where
   of-walk : Walk → Walk
   of-walk w = record { wanted = w.wanted; path = map f w.path }
 
-  walk-of : (batches : List Batch) (o : Option BatchKey) → ((walk_down (map f batches) (from o)).wanted ≡ (walk_down batches (from o)).wanted) × ((walk_down (map f batches) (from o)).path ≡ map f (walk_down batches (from o)).path)
+  pub walk-of : (batches : List Batch) (o : Option BatchKey) → ((walk_down (map f batches) (from o)).wanted ≡ (walk_down batches (from o)).wanted) × ((walk_down (map f batches) (from o)).path ≡ map f (walk_down batches (from o)).path)
   walk-of [] o = (refl, refl)
   walk-of (b ∷ bs) o = by (is_wanted (walk_down bs (from o)).wanted b) refl (walk-of bs o)
     where
@@ -80,7 +80,7 @@ module _ (f : Batch → Batch) (keeps : Keeps f) where
   history-of [] = refl
   history-of (b ∷ path) = ap (λ (l : List Event). l ++ history_of (map f path)) (keeps.events b) ∙ ap (λ (l : List Event). b.events ++ l) (history-of path)
 
-  events-of : (batches : List Batch) (key : BatchKey) → events_to key (map f batches) ≡ events_to key batches
+  pub events-of : (batches : List Batch) (key : BatchKey) → events_to key (map f batches) ≡ events_to key batches
   events-of batches key = ap history_of (walk-of batches (Some key)).1 ∙ history-of (path_to key batches)
 
   child-of : (batches : List Batch) (b : Batch) → has_child (f b) (map f batches) ≡ has_child b batches
@@ -182,7 +182,7 @@ module _ (f : Batch → Batch) (keeps : Keeps f) where
 
 -- ---- carriers
 
-carrier-keeps : (batches : List Batch) → Keeps (with_carrier_in batches)
+pub carrier-keeps : (batches : List Batch) → Keeps (with_carrier_in batches)
 carrier-keeps batches = record {
   key = λ b. elim (is_carried batches b) as (λ (t : Bool). (if t then record b { carrier = Some (key_before b.key) } else b).key ≡ b.key) [ true ↦ refl | false ↦ refl ];
   parent = λ b. elim (is_carried batches b) as (λ (t : Bool). (if t then record b { carrier = Some (key_before b.key) } else b).parent ≡ b.parent) [ true ↦ refl | false ↦ refl ];

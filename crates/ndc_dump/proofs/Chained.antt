@@ -23,7 +23,7 @@ use Rattle.ndc_sets.proofs.SetLemmas.{at-append, at-first}
 use Rattle.ndc_dump.specs.Causes.{comes_before, holds_of_none, is_split}
 use Rattle.ndc_dump.specs.Chains.{breaks_chain, is_loose, with_last}
 use Rattle.ndc_dump.specs.Given.{AreRead}
-use Rattle.ndc_dump.specs.Showing.{is_key}
+use Rattle.ndc_run.specs.Learning.{is_key}
 use Rattle.ndc_dump.specs.declared.error.KeyCause.TheVariants.{SplitVersion}
 use Rattle.ndc_dump.proofs.Finding.{rise-parts}
 use Rattle.ndc_dump.proofs.NoCause.{not-holds}

@@ -10,7 +10,7 @@ pub mod OnPaths
 pub mod KnownLemmas
 pub mod Firsts
 pub mod NoCause
-pub mod Shown
+pub mod Learning
 pub mod ReadLemmas
 pub mod Carriers
 pub mod ViewLines
@@ -20,3 +20,8 @@ pub mod ShownView
 pub mod Soundness
 pub mod Again
 pub mod Words
+pub mod Unbroken
+pub mod Causeless
+pub mod Printed
+pub mod Migration
+pub mod Dumped

@@ -33,7 +33,7 @@ use Rattle.ndc_tree.proofs.GrowLemmas.{parent-task}
 use Rattle.ndc_dump.specs.Causes.{comes_again, has_origin_twice, holds_of_none, is_forbidden, is_ill_formed}
 use Rattle.ndc_dump.specs.declared.error.KeyCause.TheVariants.{NotWellFormed, OriginTwice, BadReplay}
 use Rattle.ndc_dump.specs.Given.{AreRead}
-use Rattle.ndc_dump.specs.Showing.{replays_to, tips_replay}
+use Rattle.ndc_dump.specs.Replaying.{replays_to, tips_replay}
 use Rattle.ndc_dump.proofs.NoCause.{fit-from, holds-not, not-holds}
 
 -- ---- origins

@@ -33,7 +33,7 @@ use Rattle.ndc_state.proofs.OriginLemmas.{AreApart-collected, AreApart-none}
 use Rattle.ndc_tree.proofs.GrowLemmas.{parent-task}
 use Rattle.ndc_dump.specs.Causes.{closes_for, comes_again, continues, has_unfit_carrier, is_continued_by, is_original, is_unfit_copy, misnames, names, sound_or}
 use Rattle.ndc_dump.specs.Given.{AreRead}
-use Rattle.ndc_dump.specs.Showing.{replays_to}
+use Rattle.ndc_dump.specs.Replaying.{replays_to}
 use Rattle.ndc_dump.proofs.NoCause.{HasNone, has-none, is-closed, parents-fit, versions-are-chains}
 
 -- no item passes
@@ -97,7 +97,7 @@ continued : (run : RunId) (event : Event) (kind : EventKind) → event.kind ≡ 
 continued run event (WorkflowExecutionContinuedAsNew next type) e h = (type, e ∙ ap (λ r. WorkflowExecutionContinuedAsNew r type) (run-same next run h))
 continued run event _ e h = absurd (cc)
 
-ends-for : (run : RunId) (b : Batch) → is_continued_by run (last_event b.events) ≡ true → ContinuesAs run b.events
+pub ends-for : (run : RunId) (b : Batch) → is_continued_by run (last_event b.events) ≡ true → ContinuesAs run b.events
 ends-for run b h = by (last_event b.events) refl h
   where
     by : (o : Option Event) → last_event b.events ≡ o → is_continued_by run o ≡ true → ContinuesAs run b.events

@@ -5,14 +5,16 @@ use Rattle.std.proofs.lemmas.List.{length-map, length-drop}
 use Rattle.ndc_event.specs.declared.batch.Batch.{Batch}
 use Rattle.ndc_sets.specs.View.{view_of}
 use Rattle.ndc_sets.specs.declared.view.RunView.{RunView}
+use Rattle.ndc_sets.specs.declared.view.View.{View}
 use Rattle.ndc_text.specs.Views.{run_state_lines}
 use Rattle.ndc_text.specs.declared.form.TextForm.{TextForm}
+use Rattle.ndc_text.specs.declared.form.TextForm.TheVariants.{One}
 use Rattle.ndc_dump.specs.declared.error.DumpError.TheVariants.{Line}
 use Rattle.ndc_dump.specs.declared.error.LineCause.TheVariants.{BadView}
 use Rattle.ndc_dump.specs.Batches.{batch_count, view_lines}
 use Rattle.ndc_dump.specs.Frame.{begins_batch}
 use Rattle.ndc_dump.specs.Lines.{differ_at, lines_of}
-use Rattle.ndc_dump.specs.Migrated.{standing_for}
+use Rattle.ndc_dump.specs.Migrated.{migrated, standing_for}
 use Rattle.ndc_dump.specs.Read.{shown_or, view_on, view_text}
 use Rattle.ndc_dump.proofs.Carriers.{standing-runs}
 
@@ -64,10 +66,17 @@ pub shown-other : (number other : ℕ) (lines : List (List ℕ)) (form : TextFor
 unfolding view_on
 shown-other number other lines form batches runs o same e f = ap (shown_or (view_of (standing_for form batches))) (differs number lines form batches runs o same e ∙ f)
 
-pub shown-same : (number : ℕ) (lines : List (List ℕ)) (form : TextForm) (batches stands : List Batch) (runs : List RunView) (o : Option ℕ) → runs ≡ (view_of batches).runs
-    → o ≡ differ_at number lines (lines_of (flat_map run_state_lines runs ++ codes "end\n")) → o ≡ None → stands ≡ standing_for form batches
-    → view_on number lines (view_of (standing_for form batches)) ≡ Ok (record { batches = stands; runs = runs })
+pub shown-same : (number : ℕ) (lines : List (List ℕ)) (form : TextForm) (batches : List Batch) (runs : List RunView) (o : Option ℕ) (view : View) → runs ≡ (view_of batches).runs
+    → o ≡ differ_at number lines (lines_of (flat_map run_state_lines runs ++ codes "end\n")) → o ≡ None → view ≡ view_of (standing_for form batches)
+    → view_on number lines (view_of (standing_for form batches)) ≡ Ok view
 unfolding view_on
-shown-same number lines form batches stands runs o same e f g =
-    ap (shown_or (view_of (standing_for form batches))) (differs number lines form batches runs o same e ∙ f)
-    ∙ ap (λ rs. Ok (record { batches = standing_for form batches; runs = rs })) (standing-runs form batches ∙ sym same) ∙ ap (λ bs. Ok (record { batches = bs; runs = runs })) (sym g)
+shown-same number lines form batches runs o view same e f g =
+    ap (shown_or (view_of (standing_for form batches))) (differs number lines form batches runs o same e ∙ f) ∙ ap Ok (sym g)
+
+-- the view of the set with carriers has its batches, and the runs of the set without
+pub migrated-view : (form : TextForm) (batches stands : List Batch) (shown : View) → form ≡ One → stands ≡ migrated batches → shown ≡ view_of batches
+    → record { batches = stands; runs = shown.runs } ≡ view_of (standing_for form batches)
+migrated-view form batches stands shown is e f =
+    ap (λ (bs : List Batch). record { batches = bs; runs = shown.runs }) e
+    ∙ ap (λ (rs : List RunView). record { batches = migrated batches; runs = rs }) (ap (λ (v : View). v.runs) f ∙ sym (standing-runs One batches))
+    ∙ ap (λ t. view_of (standing_for t batches)) (sym is)

@@ -103,7 +103,7 @@ small-events : (events : List Event) → EventsFit events → All (λ event. eve
 small-events [] fit = All-nil (λ event. event.id ≤ 10 ^ 12)
 small-events (e ∷ es) fit = All-cons (λ event. event.id ≤ 10 ^ 12) e es (leb-true e.id (10 ^ 12) (and_parts (nat_le 1 e.id) (nat_le e.id (10 ^ 12)) fit.0.0).1) (small-events es fit.1)
 
-all-small : (batches : List Batch) → AllByRecursion InRange batches → AllByRecursion HasSmallIds batches
+pub all-small : (batches : List Batch) → AllByRecursion InRange batches → AllByRecursion HasSmallIds batches
 all-small [] all = tt
 all-small (b ∷ bs) all = (small-events b.events all.0.events, all-small bs all.1)
 

@@ -4,7 +4,7 @@ use Rattle.ndc_event.specs.declared.batch.Batch.{Batch}
 use Rattle.ndc_event.specs.declared.key.BatchKey.{BatchKey}
 use Rattle.ndc_event.specs.declared.key.RunId.{RunId}
 use Rattle.ndc_sets.specs.Branches.{same_run}
-use Rattle.ndc_dump.specs.Showing.{is_key}
+use Rattle.ndc_run.specs.Learning.{is_key}
 
 -- whether a batch comes behind one of its version that is not its parent
 abbrev pub is_loose : Option BatchKey → Batch → Bool

@@ -5,7 +5,8 @@ pub mod Given
 pub mod Causes
 pub mod Originals
 pub mod Migrated
-pub mod Showing
+pub mod Replaying
 pub mod Chains
 pub mod Read
 pub mod Marks
+pub mod Printed

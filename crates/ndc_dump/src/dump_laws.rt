@@ -13,6 +13,7 @@ ghost use Rattle.ndc_dump.specs.Causes.{sound_or};
 ghost use Rattle.ndc_dump.specs.Frame.{IsHeaded};
 ghost use Rattle.ndc_dump.specs.Given.{AreRead};
 ghost use Rattle.ndc_dump.specs.Lines.{lines_of};
+ghost use Rattle.ndc_dump.specs.Printed.{CanBeDumped};
 ghost use Rattle.ndc_dump.specs.Read.{dump_of};
 
 /// Two sets of batches whose numbers are in range have one dump text exactly where they are equal.
@@ -26,14 +27,21 @@ pub fn a_set_without_a_cause_is_sound()
     ensures { (batches : List Batch) → AreRead batches → sound_or batches ≡ Ok tt → IsSound batches }
 {}
 
-/// Bytes that are read as a dump, and whose first line says the form with carriers, are what is printed of it.
-pub fn what_is_read_is_printed_again()
-    ensures { (bytes : List ℕ) (dump : Read) → IsHeaded Two (lines_of bytes) → dump_of bytes ≡ Ok dump
-        → bytes ≡ dump_text dump.domain dump.workflow dump.view }
+/// What is printed of a sound set that is not empty, whose batches are of the domain and workflow and in range, is read
+/// as a dump of that set.
+pub fn what_is_printed_is_read()
+    ensures { (domain workflow : Name) (batches : List Batch) → CanBeDumped domain workflow batches
+        → dump_of (dump_text domain workflow (view_of batches)) ≡ Ok (record { domain = domain; workflow = workflow; view = view_of batches }) }
 {}
 
-/// The batches of such a dump are a sound set, without faults and in range.
-pub fn what_is_read_is_sound()
+/// Bytes that are read as a dump, in whatever form, stand for such a set; what is printed of it is read as the same dump.
+pub fn what_is_read_can_be_printed()
+    ensures set { (bytes : List ℕ) (dump : Read) → dump_of bytes ≡ Ok dump → CanBeDumped dump.domain dump.workflow dump.view.batches }
+    ensures again { (bytes : List ℕ) (dump : Read) → dump_of bytes ≡ Ok dump → dump_of (dump_text dump.domain dump.workflow dump.view) ≡ Ok dump }
+{}
+
+/// Bytes whose first line says the form with carriers are read only where they are what is printed of the set.
+pub fn only_what_is_printed_is_read()
     ensures { (bytes : List ℕ) (dump : Read) → IsHeaded Two (lines_of bytes) → dump_of bytes ≡ Ok dump
-        → AreRead dump.view.batches × IsSound dump.view.batches }
+        → bytes ≡ dump_text dump.domain dump.workflow (view_of dump.view.batches) }
 {}

@@ -11,7 +11,7 @@ pub mod dump_laws;
 mod error;
 mod found;
 mod frame;
-mod line;
+pub mod line;
 mod migrated;
 mod originals;
 mod path;

@@ -9,7 +9,7 @@ use ndc_state::{CloseKind, State};
 use std::alloc::{AllocError, Global};
 
 /// Appends a number.
-pub(crate) fn push_number(text: &mut Vec<u8>, number: u64) -> Result<(), AllocError>
+pub fn push_number(text: &mut Vec<u8>, number: u64) -> Result<(), AllocError>
     ensures { OnOk result (text.new.items ≡ text.old.items ++ decimal number) }
 {
     let mut buffer = itoa::Buffer::new();
@@ -17,7 +17,7 @@ pub(crate) fn push_number(text: &mut Vec<u8>, number: u64) -> Result<(), AllocEr
 }
 
 /// Appends `VERSION.TASK`.
-pub(crate) fn push_key(text: &mut Vec<u8>, key: BatchKey) -> Result<(), AllocError>
+pub fn push_key(text: &mut Vec<u8>, key: BatchKey) -> Result<(), AllocError>
     ensures { OnOk result (text.new.items ≡ text.old.items ++ key_text key) }
 {
     push_number(text, key.version)?;
@@ -26,7 +26,7 @@ pub(crate) fn push_key(text: &mut Vec<u8>, key: BatchKey) -> Result<(), AllocErr
 }
 
 /// Appends `ID@VERSION`.
-fn push_item(text: &mut Vec<u8>, item: Item) -> Result<(), AllocError>
+pub fn push_item(text: &mut Vec<u8>, item: Item) -> Result<(), AllocError>
     ensures { OnOk result (text.new.items ≡ text.old.items ++ item_text item) }
 {
     push_number(text, item.id)?;
@@ -92,7 +92,7 @@ fn closed_word(close: Option<CloseKind>) -> &'static str
 }
 
 /// How the status of a run is printed.
-fn status_word(status: RunStatus, close: Option<CloseKind>) -> &'static str
+pub fn status_word(status: RunStatus, close: Option<CloseKind>) -> &'static str
     ensures { result.now ≡ status_text status close }
 {
     match status {
@@ -103,11 +103,7 @@ fn status_word(status: RunStatus, close: Option<CloseKind>) -> &'static str
 }
 
 /// Appends the line of a run.
-pub(crate) fn push_run_line(
-    alloc: Global,
-    text: &mut Vec<u8>,
-    run: &RunView,
-) -> Result<(), AllocError>
+pub fn push_run_line(alloc: Global, text: &mut Vec<u8>, run: &RunView) -> Result<(), AllocError>
     ensures { OnOk result (text.new.items ≡ text.old.items ++ run_line run.now) }
 {
     text.extend_from_slice(b"run ")?;
@@ -119,7 +115,7 @@ pub(crate) fn push_run_line(
 }
 
 /// Appends the line of a branch.
-pub(crate) fn push_branch_line(text: &mut Vec<u8>, branch: &BranchView) -> Result<(), AllocError>
+pub fn push_branch_line(text: &mut Vec<u8>, branch: &BranchView) -> Result<(), AllocError>
     ensures { OnOk result (text.new.items ≡ text.old.items ++ branch_line branch.now) }
 {
     text.extend_from_slice(b"branch ")?;

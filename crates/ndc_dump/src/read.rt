@@ -18,10 +18,10 @@ use crate::error::{DumpError, LineCause};
 use crate::frame::{begins_batch, body_of, heading_of};
 use crate::migrated::migrated;
 use crate::print::push_runs;
-use crate::showing::run_views;
+use crate::showing::view_of;
 use crate::sound::sound_or;
 use ndc_event::Batch;
-use ndc_sets::{Batches, RunView, RunViews, View};
+use ndc_sets::{Batches, RunView, View};
 use ndc_text::TextForm;
 use std::alloc::{AllocError, Global};
 
@@ -96,18 +96,23 @@ fn first_other(
     Ok(differ_at(number, lines, wanted.as_slice()))
 }
 
-/// The batches that those of a text in this form stand for.
+/// The view of the set that batches in this form stand for, where this is the view of the batches.
 fn standing_for(
     alloc: Global,
     form: TextForm,
-    batches: Vec<Batch>,
-) -> Result<Vec<Batch>, AllocError>
-    requires { AreRead batches.items }
-    ensures { IfOk result (λ list. list.items ≡ standing_for form batches.items) }
+    batches: &[Batch],
+    shown: View,
+) -> Result<View, AllocError>
+    requires read { AreRead batches.now }
+    requires shown { shown ≡ view_of batches.now }
+    ensures { IfOk result (λ view. view ≡ view_of (standing_for form batches.now)) }
 {
     match form {
-        TextForm::One => migrated(alloc, batches.as_slice()),
-        TextForm::Two => Ok(batches),
+        TextForm::One => Ok(View {
+            batches: Batches::new(migrated(alloc, batches)?),
+            runs: shown.runs,
+        }),
+        TextForm::Two => Ok(shown),
     }
 }
 
@@ -118,22 +123,16 @@ fn view_on(
     number: u64,
     lines: &[&[u8]],
     form: TextForm,
-    batches: Vec<Batch>,
+    batches: &[Batch],
 ) -> Result<View, DumpError>
     requires count { number + length lines.now < 2 ^ 64 }
-    requires read { AreRead batches.items }
-    requires sound { sound_or batches.items ≡ Ok tt }
-    ensures { Gives Memory (λ view. view) result (view_on number (map (λ line. line.now) lines.now) (view_of (standing_for form batches.items))) }
+    requires read { AreRead batches.now }
+    requires sound { sound_or batches.now ≡ Ok tt }
+    ensures { Gives Memory (λ view. view) result (view_on number (map (λ line. line.now) lines.now) (view_of (standing_for form batches.now))) }
 {
-    let runs = run_views(alloc, batches.as_slice())?;
-    match first_other(alloc, number, lines, runs.as_slice())? {
-        None => {
-            let batches = standing_for(alloc, form, batches)?;
-            Ok(View {
-                batches: Batches::new(batches),
-                runs: RunViews::new(runs),
-            })
-        }
+    let shown = view_of(alloc, batches)?;
+    match first_other(alloc, number, lines, shown.runs.as_slice())? {
+        None => Ok(standing_for(alloc, form, batches, shown)?),
         Some(line) => Err(DumpError::Line {
             line,
             cause: LineCause::BadView,
@@ -151,7 +150,13 @@ fn dump_on(alloc: Global, lines: &[&[u8]]) -> Result<Dump, DumpError>
     let batches = batches_on(alloc, &heading, body)?;
     sound_or(alloc, batches.as_slice())?;
     let number = 2 + batches.len() as u64;
-    let view = view_on(alloc, number, view_lines(body), heading.form, batches)?;
+    let view = view_on(
+        alloc,
+        number,
+        view_lines(body),
+        heading.form,
+        batches.as_slice(),
+    )?;
     Ok(Dump {
         domain: heading.domain,
         workflow: heading.workflow,
@@ -171,9 +176,9 @@ fn dump_on(alloc: Global, lines: &[&[u8]]) -> Result<Dump, DumpError>
 /// that the cause holds of. Then the lines behind the batches are not what the batches show: [`LineCause::BadView`] at
 /// the first that differs, is missing or is one too many.
 ///
-/// A dump that is read takes time of its bytes, a look-up of the logarithm of its batches for each of them, the branches
-/// once from their tips up, and for each run a look at each branch's tip. A dump in which a cause stands that goes by
-/// paths (a split version, an origin twice, a bad replay) takes for that cause the paths of all batches.
+/// A dump that is read takes time of its bytes, a look-up of the logarithm of its batches for each of them, and the path
+/// of each branch. A dump in which a cause stands that goes by paths (a split version, an origin twice, a bad replay)
+/// takes for that cause the paths of all batches.
 ///
 /// [`dump_text`]: crate::dump_text
 /// [`KeyCause`]: crate::KeyCause

@@ -4,7 +4,7 @@ ghost use Rattle.ndc_event.specs.Outcome.{Gives};
 ghost use Rattle.ndc_sets.specs.Sets.{Rise};
 ghost use Rattle.ndc_dump.specs.Causes.{has_origin_twice, has_unfit_copy, holds_of_none, is_forbidden, is_ill_formed, is_split, is_unfit_carried, lacks_parent, sound_or};
 ghost use Rattle.ndc_dump.specs.Given.{AreRead};
-ghost use Rattle.ndc_dump.specs.Showing.{tips_replay};
+ghost use Rattle.ndc_dump.specs.Replaying.{tips_replay};
 ghost use Rattle.ndc_dump.specs.declared.error.DumpError.TheVariants.{Key, Memory};
 ghost use Rattle.ndc_dump.specs.declared.error.KeyCause.TheVariants.{MissingParent, NotWellFormed, SplitVersion, OriginTwice, OriginUnfit, BadReplay, CarrierUnfit};
 

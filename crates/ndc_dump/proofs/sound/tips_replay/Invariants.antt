@@ -1,5 +1,5 @@
 use Rattle.std.proofs.Common.{◌≡◌, drop}
-use Rattle.ndc_dump.specs.Showing.{tips_replay}
+use Rattle.ndc_dump.specs.Replaying.{tips_replay}
 use Rattle.ndc_dump.proofs.sound.tips_replay.Given as goal
 
 abbrev pub invariant-loop-batch : goal.invariant-loop-batch
