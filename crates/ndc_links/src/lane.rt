@@ -47,10 +47,11 @@ fn entries_of(queue: &Queue, level: u64, count: Option<u64>) -> &[Message]
 }
 
 impl Lane {
-    ghost use Rattle.std.specs.Prelude.{◌≡◌, ◌≢◌, ◌≤◌, ◌^◌, List, length, Some, None, Err, MatchResult, OnOk, OnErr, IfOk, IfErr};
+    ghost use Rattle.std.specs.List.{filter};
+    ghost use Rattle.std.specs.Prelude.{◌≡◌, ◌≢◌, ◌≤◌, ◌^◌, List, length, drop, Some, None, Err, MatchResult, OnOk, OnErr, IfOk, IfErr};
     ghost use Rattle.ndc_cells.specs.declared.message.Message.{Message as Sent};
     ghost use Rattle.ndc_links.specs.Rest.{IsRestOf};
-    ghost use Rattle.ndc_model.specs.Queues.{after_pull, after_renewal, after_rewind, new_lane, put_in_flight};
+    ghost use Rattle.ndc_model.specs.Queues.{after_pull, after_renewal, after_rewind, is_addressed, new_lane, put_in_flight};
     ghost use Rattle.ndc_model.specs.Moves.{without_flight};
     ghost use Rattle.ndc_queue.specs.Lists.{after_loss, after_move, after_repeat};
     ghost use Rattle.ndc_queue.specs.Queues.{queue_len};
@@ -131,6 +132,24 @@ impl Lane {
         let done = done + settled as u64;
         self.levels.advance(done);
         done
+    }
+
+    /// Copies of the entries from `done` on that are addressed to the reader, in order. What is kept of the queue reaches
+    /// from `done` or before it to its end.
+    pub fn due(
+        &self,
+        alloc: Global,
+        table: &DomainTable,
+        reader: ClusterNo,
+        queue: &Queue,
+    ) -> Result<Vec<Message>, AllocError>
+        requires first { queue.now.first ≤ self.now.levels.done }
+        requires last { self.now.levels.done ≤ queue_len queue.now }
+        ensures { IfOk result (λ list. (whole : List Sent) → IsRestOf queue.now whole → list.items ≡ filter (is_addressed reader table.now) (drop self.now.levels.done whole)) }
+    {
+        let entries = entries_of(queue, self.levels.done, None);
+        let list = addressed(alloc, table, reader, entries)?;
+        Ok(list)
     }
 
     /// What was read and is not done is to be read again. Takes no memory.

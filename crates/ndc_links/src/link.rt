@@ -3,7 +3,7 @@ ghost use Rattle.ndc_cells.specs.Jobs.{cell_for};
 ghost use Rattle.ndc_cells.specs.declared.message.Message.{Message as Sent};
 ghost use Rattle.ndc_links.specs.Links.{done_of};
 ghost use Rattle.ndc_links.specs.Rest.{AreRests, AreWithin};
-ghost use Rattle.ndc_model.specs.Moves.{map_from};
+ghost use Rattle.ndc_model.specs.Moves.{map_from, without_flight};
 ghost use Rattle.ndc_model.specs.Queues.{after_pull, after_renewal, after_rewind, put_in_flight};
 ghost use Rattle.ndc_model.specs.World.{newly_naming};
 
@@ -99,6 +99,15 @@ fn rewind_lanes(lanes: &mut Vec<Lane>)
     }
 }
 
+/// Takes out what is in flight for each shard.
+fn empty_lanes(lanes: &mut Vec<Lane>)
+    ensures { lanes.new.items ≡ map without_flight lanes.old.items }
+{
+    for lane in lanes.iter_mut() {
+        let _messages = lane.take();
+    }
+}
+
 /// The domains whose record did not name a reader before and comes to name it, in order of name.
 fn newly_naming(
     alloc: Global,
@@ -118,14 +127,15 @@ fn newly_naming(
 }
 
 impl Link {
-    ghost use Rattle.std.specs.Prelude.{◌≡◌, ◌≢◌, ◌<◌, ◌≤◌, ◌++◌, ℕ, [], List, None, Some, Err, length, map, replicate, slice_get, slice_set, sum, MatchResult, IfOk, IfErr, OnOk, OnErr};
+    ghost use Rattle.std.specs.List.{filter};
+    ghost use Rattle.std.specs.Prelude.{◌≡◌, ◌≢◌, ◌<◌, ◌≤◌, ◌++◌, ℕ, [], List, None, Some, Err, drop, length, map, replicate, slice_get, slice_set, sum, MatchResult, IfOk, IfErr, OnOk, OnErr};
     ghost use Rattle.std.specs.Option.{option_copied};
     ghost use Rattle.ndc_cells.specs.Jobs.{cell_for};
     ghost use Rattle.ndc_cells.specs.declared.message.Message.{Message as Sent};
     ghost use Rattle.ndc_links.specs.Links.{flight_in, with_flight_in, with_lane_in};
     ghost use Rattle.ndc_links.specs.Rest.{AreRests, AreWithin, IsRestOf, IsWithin};
-    ghost use Rattle.ndc_model.specs.Moves.{map_from};
-    ghost use Rattle.ndc_model.specs.Queues.{after_pull, after_renewal, after_rewind, new_lane, put_in_flight};
+    ghost use Rattle.ndc_model.specs.Moves.{link_without_flights, map_from};
+    ghost use Rattle.ndc_model.specs.Queues.{after_pull, after_renewal, after_rewind, is_addressed, new_lane, put_in_flight};
     ghost use Rattle.ndc_model.specs.World.{is_link, lane_in, newly_naming};
     ghost use Rattle.ndc_queue.specs.Lists.{after_loss, after_move, after_repeat};
     ghost use Rattle.ndc_queue.specs.declared.flight.FlightError.TheVariants as error;
@@ -233,6 +243,24 @@ impl Link {
         Ok(sent)
     }
 
+    /// Copies of the entries of a shard's queue from `done` on that are addressed to the reader, in order.
+    pub fn due(
+        &self,
+        alloc: Global,
+        table: &DomainTable,
+        shard: usize,
+        queue: &Queue,
+    ) -> Result<Vec<Message>, AllocError>
+        requires shard { shard < length self.now.lanes }
+        requires within { IsWithin queue.now (lane_in self.now shard) }
+        ensures { IfOk result (λ list. (whole : List Sent) → IsRestOf queue.now whole
+            → list.items ≡ filter (is_addressed self.now.reader table.now) (drop (lane_in self.now shard).levels.done whole)) }
+    {
+        let lane = &self.lanes[shard];
+        let list = lane.due(alloc, table, self.reader, queue)?;
+        Ok(list)
+    }
+
     /// Renews the levels of each shard, by what the reader's cells have learned. There is a cell and a queue for each
     /// shard, and what is kept of the queue reaches from the lane's `done` or before it to its end. Where all entries are
     /// done, none is looked at. Takes no memory.
@@ -307,6 +335,13 @@ impl Link {
     {
         let lane = &mut self.lanes[shard];
         lane.take()
+    }
+
+    /// Nothing is in flight, for any shard. Takes no memory.
+    pub fn empty(&mut self)
+        ensures { self.new ≡ link_without_flights self.old }
+    {
+        empty_lanes(&mut self.lanes);
     }
 
     /// Domains whose record did not name the reader and comes to name it go last among those of which it is a member

@@ -90,6 +90,14 @@ impl Queues {
         self.items.as_slice()
     }
 
+    /// How many queues there are, at most 64. Takes no memory.
+    pub fn len(&self) -> usize
+        ensures len { result ≡ length self.now }
+        ensures few { result ≤ 64 }
+    {
+        self.items.len()
+    }
+
     /// How many entries there are, over all queues, with those that were dropped. Takes no memory.
     pub fn written(&self) -> u64
         ensures { result ≡ sum_by queue_len self.now }

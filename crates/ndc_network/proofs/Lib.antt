@@ -2,7 +2,10 @@ pub mod AllowedLemmas
 pub mod FlightLemmas
 pub mod LinkLemmas
 pub mod OpeningLemmas
+pub mod OrderlyLemmas
 pub mod PlaceLemmas
 pub mod ShardLemmas
 pub mod TakeLemmas
+pub mod TraceLemmas
+pub mod TrimLemmas
 pub mod WorkLemmas

@@ -18,7 +18,7 @@ use Rattle.ndc_links.proofs.RestLemmas.{len_kept}
 use Rattle.ndc_fair_lines.proofs.TrimmedLemmas.{link-there}
 use Rattle.ndc_links.specs.Links.{with_lane_in}
 use Rattle.ndc_links.specs.Rest.{AreRests, AreWithin, IsRestOf, IsWithin, queue_at}
-use Rattle.ndc_model.specs.Fair.{IsLaneTrue, IsShaped, LanesAreTrue}
+use Rattle.ndc_model.specs.Fair.{EachLane, IsShaped}
 use Rattle.ndc_model.specs.Moves.{map_from, pulled_all, pulled_lane, pulled_link, pulled_shard, renewed, renewed_link}
 use Rattle.ndc_model.specs.Queues.{after_pull, after_renewal, put_in_flight}
 use Rattle.ndc_model.specs.Sending.{pull_count}
@@ -30,6 +30,7 @@ use Rattle.ndc_sites.specs.Sites.{SiteValue}
 use Rattle.ndc_network.proofs.PlaceLemmas.{changed_at, found_at, none_changed, none_found}
 use Rattle.ndc_network.proofs.ShardLemmas.{cells_there}
 use Rattle.ndc_network.specs.Networks.{StandsAt, world_of}
+use Rattle.ndc_network.specs.Orderly.{AreLevelsKept}
 
 -- the cluster of a number
 pub stands : (sites : List SiteValue) (links : List Link) (handovers : List Handover) (cluster : ClusterNo) (site : SiteValue) → cluster.number < length sites → site ≡ get_or sites cluster.number site
@@ -58,7 +59,7 @@ pub record Holds (header : Header) (w : World) (place : ℕ) (link : Link) (site
   pub below : place < length w.links
   pub at : link ≡ get_or w.links place link
   pub shaped : IsShaped header w
-  pub lanes : LanesAreTrue header w
+  pub lanes : EachLane header w (AreLevelsKept w)
   pub own : StandsAt w link.source site
   pub known : IsCluster header link.source
   pub alike : length queues ≡ length site.cluster.cells
@@ -85,9 +86,9 @@ module _ (header : Header) (w : World) (place : ℕ) (link : Link) (site : SiteV
   lanes_within shard below =
       let inside : shard < length queues = omega (arith, below, lanes_alike) in
       let there : shard < header.shards = omega (arith, below, lanes_many) in
-      let true_lane : IsLaneTrue w link shard (lane_in link shard) =
-      subst (λ (l : Link). (k : ℕ) → k < header.shards → IsLaneTrue w l k (lane_in l k)) (sym it.at)
-      (all_there (λ (l : Link). (k : ℕ) → k < header.shards → IsLaneTrue w l k (lane_in l k)) w.links place link it.below it.lanes) shard there in
+      let true_lane : AreLevelsKept w link shard (lane_in link shard) =
+      subst (λ (l : Link). (k : ℕ) → k < header.shards → AreLevelsKept w l k (lane_in l k)) (sym it.at)
+      (all_there (λ (l : Link). (k : ℕ) → k < header.shards → AreLevelsKept w l k (lane_in l k)) w.links place link it.below it.lanes) shard there in
       let first : (queue_at queues shard).first ≡ world.trimmed_at link.source w shard =
       sym (get_or-map (λ (queue : QueueValue). queue.first) queues shard new_queue) ∙ ap (λ (levels : List ℕ). slice_index_or levels shard 0) (it.firsts ∙ sym it.own.trimmed_is) in
       let len : queue_len (queue_at queues shard) ≡ length (world.queue_at link.source shard w) =
@@ -166,7 +167,7 @@ module _ (reader source : ClusterNo) (w : World) (place : ℕ) (link : Link) (it
 
 -- the same where the link is found
 pub holds_there : (header : Header) (reader source : ClusterNo) (w : World) (sites : List SiteValue) (links : List Link) (handovers : List Handover) (place : ℕ) (link : Link) (site : SiteValue) (queues : List QueueValue)
-    → world_of sites links handovers ≡ w → IsCluster header source → IsShaped header w → LanesAreTrue header w → IsFound reader source w.links place link
+    → world_of sites links handovers ≡ w → IsCluster header source → IsShaped header w → EachLane header w (AreLevelsKept w) → IsFound reader source w.links place link
     → site ≡ get_or sites source.number site → length queues ≡ length site.cluster.cells → AreRests queues (λ shard. (cell_for shard site.cluster.cells).written)
     → map (λ (queue : QueueValue). queue.first) queues ≡ site.trimmed → Holds header w place link site queues
 holds_there header reader source w sites links handovers place link site queues same known shaped lanes found here alike rests firsts =
@@ -211,7 +212,7 @@ counted_nowhere reader source w none =
 
 -- the same in a loop over all links, of which those before a place were changed
 pub held_there : (header : Header) (w : World) (sites : List SiteValue) (handovers : List Handover) (change : Link → Link) (now : List Link) (place : ℕ) (link : Link) (site : SiteValue) (queues : List QueueValue)
-    → world_of sites w.links handovers ≡ w → IsShaped header w → LanesAreTrue header w → now ≡ map change (take place w.links) ++ drop place w.links → place < length w.links → link ≡ get_or now place link
+    → world_of sites w.links handovers ≡ w → IsShaped header w → EachLane header w (AreLevelsKept w) → now ≡ map change (take place w.links) ++ drop place w.links → place < length w.links → link ≡ get_or now place link
     → site ≡ get_or sites link.source.number site → length queues ≡ length site.cluster.cells → AreRests queues (λ shard. (cell_for shard site.cluster.cells).written)
     → map (λ (queue : QueueValue). queue.first) queues ≡ site.trimmed → Holds header w place link site queues
 held_there header w sites handovers change now place link site queues same shaped lanes kept below at here alike rests firsts =

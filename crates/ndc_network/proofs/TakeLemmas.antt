@@ -16,9 +16,13 @@ use Rattle.ndc_model.specs.Queues.{Lane, new_lane}
 use Rattle.ndc_model.specs.World.{Link}
 use Rattle.ndc_network.specs.Flights.{emptied, emptied_at, emptied_below}
 
+-- what is brought over one link, where it is the reader's
+abbrev pub own_part : (ℕ → Link → List Message) → ClusterNo → ℕ → Link → List Message
+own_part messages reader shard link = if same_cluster link.reader reader then messages shard link else []
+
 -- what is in flight over one link to a reader
 abbrev pub own_flight : ClusterNo → ℕ → Link → List Message
-own_flight reader shard link = if same_cluster link.reader reader then in_flight shard link else []
+own_flight = own_part in_flight
 
 -- the next link as it was, where those before it were changed
 pub link_there : (change : Link → Link) (old now : List Link) (place : ℕ) (link : Link) → now ≡ map change (take place old) ++ drop place old → place < length old → link ≡ get_or now place link → link ≡ get_or old place link
@@ -26,25 +30,25 @@ link_there change old now place link kept below at =
     let many : length (map change (take place old)) ≡ place = omega (arith, length-map (take place old) change, length-take place old, below) in
     at ∙ still now old place link (ap (drop place) kept ∙ drop_at (map change (take place old)) (drop place old) place many)
 
--- with what is in flight over the next link, the jobs so far and those to come are all jobs
-pub jobs_more : (reader : ClusterNo) (shard : ℕ) (jobs all : List ShardJob) (old : List Link) (place : ℕ) (link : Link) (messages : List Message) → place < length old → link ≡ get_or old place link
-    → messages ≡ own_flight reader shard link → jobs ++ map (arrives shard) (by_link reader in_flight (drop place old) shard) ≡ all
-    → (jobs ++ map (arrives shard) messages) ++ map (arrives shard) (by_link reader in_flight (drop (place + 1) old) shard) ≡ all
-jobs_more reader shard jobs all old place link messages below at own kept =
-    let rest : List ShardJob = map (arrives shard) (by_link reader in_flight (drop (place + 1) old) shard) in
-    let next : map (arrives shard) (by_link reader in_flight (drop place old) shard) ≡ map (arrives shard) messages ++ rest =
-    at_drop_more (λ links. map (arrives shard) (by_link reader in_flight links shard)) old place link below
-    ∙ ap (λ (l : Link). map (arrives shard) (own_flight reader shard l ++ by_link reader in_flight (drop (place + 1) old) shard)) (sym at)
-    ∙ ap (λ (ms : List Message). map (arrives shard) (ms ++ by_link reader in_flight (drop (place + 1) old) shard)) (sym own)
-    ∙ map-append (arrives shard) messages (by_link reader in_flight (drop (place + 1) old) shard) in
+-- with what is brought over the next link, the jobs so far and those to come are all jobs
+pub jobs_more : (brought : ℕ → Link → List Message) (reader : ClusterNo) (shard : ℕ) (jobs all : List ShardJob) (old : List Link) (place : ℕ) (link : Link) (messages : List Message) → place < length old → link ≡ get_or old place link
+    → messages ≡ own_part brought reader shard link → jobs ++ map (arrives shard) (by_link reader brought (drop place old) shard) ≡ all
+    → (jobs ++ map (arrives shard) messages) ++ map (arrives shard) (by_link reader brought (drop (place + 1) old) shard) ≡ all
+jobs_more brought reader shard jobs all old place link messages below at own kept =
+    let rest : List ShardJob = map (arrives shard) (by_link reader brought (drop (place + 1) old) shard) in
+    let next : map (arrives shard) (by_link reader brought (drop place old) shard) ≡ map (arrives shard) messages ++ rest =
+    at_drop_more (λ links. map (arrives shard) (by_link reader brought links shard)) old place link below
+    ∙ ap (λ (l : Link). map (arrives shard) (own_part brought reader shard l ++ by_link reader brought (drop (place + 1) old) shard)) (sym at)
+    ∙ ap (λ (ms : List Message). map (arrives shard) (ms ++ by_link reader brought (drop (place + 1) old) shard)) (sym own)
+    ∙ map-append (arrives shard) messages (by_link reader brought (drop (place + 1) old) shard) in
     append_assoc jobs (map (arrives shard) messages) rest ∙ ap (λ js. jobs ++ js) (sym next) ∙ kept
 
--- what is in flight over a reader's own link, and over another's
-pub flight_own : (reader : ClusterNo) (shard : ℕ) (link : Link) → same_cluster link.reader reader ≡ true → flight_in shard link ≡ own_flight reader shard link
-flight_own reader shard link own = rw own refl
+-- what is brought over a reader's own link, and over another's
+pub part_own : (brought : ℕ → Link → List Message) (reader : ClusterNo) (shard : ℕ) (link : Link) → same_cluster link.reader reader ≡ true → brought shard link ≡ own_part brought reader shard link
+part_own brought reader shard link own = rw own refl
 
-pub flight_other : (reader : ClusterNo) (shard : ℕ) (link : Link) → same_cluster link.reader reader ≡ false → [] ≡ own_flight reader shard link
-flight_other reader shard link other = rw other refl
+pub part_other : (brought : ℕ → Link → List Message) (reader : ClusterNo) (shard : ℕ) (link : Link) → same_cluster link.reader reader ≡ false → [] ≡ own_part brought reader shard link
+part_other brought reader shard link other = rw other refl
 
 pub emptied_other : (reader : ClusterNo) (shard : ℕ) (link : Link) → same_cluster link.reader reader ≡ false → link ≡ emptied_at reader shard link
 emptied_other reader shard link other = rw other refl

@@ -1,17 +1,20 @@
 //! All clusters with their queues, the links between them, and the open handovers.
 #![tactic(auto)]
 
+mod bootstrapping;
 mod flights;
+mod handovers;
 mod network;
 mod opening;
 mod pulling;
 mod records;
 mod renewing;
 mod taking;
+mod trimming;
 mod working;
 
 pub use network::Network;
-pub use working::Done;
+pub use working::{Done, Worked};
 
 #[cfg(test)]
 mod tests;

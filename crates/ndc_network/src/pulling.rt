@@ -1,9 +1,9 @@
 ghost use Rattle.std.specs.Prelude.{◌≡◌, ◌<◌, None, Some, position, sum, IfOk, OnErr, OnOk};
 ghost use Rattle.ndc_act.specs.WellFormed.{AreTwoClusters, IsCluster};
-ghost use Rattle.ndc_model.specs.Fair.{IsShaped, LanesAreTrue};
 ghost use Rattle.ndc_model.specs.Moves.{map_from, pulled_all, pulled_shard};
 ghost use Rattle.ndc_model.specs.Sending.{pull_count};
 ghost use Rattle.ndc_model.specs.World.{is_link, lane_at, link_at};
+ghost use Rattle.ndc_network.specs.Orderly.{IsOrderly};
 
 use crate::network::Network;
 use ndc_act::Header;
@@ -29,8 +29,7 @@ impl<C: Writes + Drop> Network<C> {
         source: ClusterNo,
     ) -> Result<u64, AllocError>
         requires source { IsCluster header.now source }
-        requires shaped { IsShaped header.now self.old }
-        requires lanes { LanesAreTrue header.now self.old }
+        requires orderly { IsOrderly header.now self.old }
         ensures pulled { OnOk result (self.new ≡ pulled_all reader source self.old) }
         ensures count { IfOk result (λ sent. sent ≡ sum (map_from (pull_count self.old None (link_at reader source self.old)) 0 (link_at reader source self.old).lanes)) }
     {
@@ -55,8 +54,7 @@ impl<C: Writes + Drop> Network<C> {
     ) -> Result<u64, AllocError>
         requires ends { AreTwoClusters header.now reader source }
         requires shard { shard < header.now.shards }
-        requires shaped { IsShaped header.now self.old }
-        requires lanes { LanesAreTrue header.now self.old }
+        requires orderly { IsOrderly header.now self.old }
         ensures pulled { OnOk result (self.new ≡ pulled_shard reader source shard count self.old) }
         ensures count { IfOk result (λ sent. sent ≡ pull_count self.old (Some count) (link_at reader source self.old) shard (lane_at reader source shard self.old)) }
         ensures unchanged { OnErr result (self.new ≡ self.old) }

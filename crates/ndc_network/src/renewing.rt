@@ -1,8 +1,8 @@
 ghost use Rattle.std.specs.Prelude.{◌≡◌, length, map};
 ghost use Rattle.ndc_act.specs.WellFormed.{IsCluster};
-ghost use Rattle.ndc_model.specs.Fair.{IsShaped, LanesAreTrue};
 ghost use Rattle.ndc_model.specs.Moves.{renewed, renewed_link};
 ghost use Rattle.ndc_model.specs.World.{World};
+ghost use Rattle.ndc_network.specs.Orderly.{IsOrderly};
 
 use crate::network::Network;
 use ndc_act::Header;
@@ -14,8 +14,7 @@ impl<C: Writes + Drop> Network<C> {
     /// Renews the levels of a reader, of each source and shard. Takes no memory.
     pub fn renew(&mut self, header: &Header, reader: ClusterNo)
         requires reader { IsCluster header.now reader }
-        requires shaped { IsShaped header.now self.old }
-        requires lanes { LanesAreTrue header.now self.old }
+        requires orderly { IsOrderly header.now self.old }
         ensures { self.new ≡ renewed self.old reader }
     {
         for place in 0..self.links.len() {

@@ -10,7 +10,11 @@ use ndc_queue::Message;
 use std::alloc::{AllocError, Global};
 
 /// A job for each of these messages to arrive, in order.
-fn add_jobs(jobs: &mut Vec<ShardJob>, shard: u32, messages: Vec<Message>) -> Result<(), AllocError>
+pub(crate) fn add_jobs(
+    jobs: &mut Vec<ShardJob>,
+    shard: u32,
+    messages: Vec<Message>,
+) -> Result<(), AllocError>
     ensures { OnOk result (jobs.new.items ≡ jobs.old.items ++ map (arrives shard) messages.items) }
 {
     for message in messages {

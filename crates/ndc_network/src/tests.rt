@@ -2,13 +2,15 @@ ghost use Rattle.std.specs.Prelude.{◌≡◌, length, IfOk};
 ghost use Rattle.ndc_domain.specs.Clusters.{count_of};
 ghost use Rattle.ndc_model.specs.Facts.{IsReached};
 ghost use Rattle.ndc_network.specs.Networks.{opening_site};
+ghost use Rattle.ndc_network.specs.Orderly.{IsOrderly};
 
 use super::*;
 use ndc_act::Header;
 use ndc_cells::{Job, JobReply, Message};
 use ndc_domain::{ClusterNo, Clusters, DomainTable, Members};
 use ndc_event::{BatchKey, Name};
-use ndc_links::{Learns, Writes};
+use ndc_graceful::{Handover, Places};
+use ndc_links::{Learns, Serves, Writes};
 use ndc_port::OpenGate;
 use ndc_queue::{FlightError, NoSuchPlace};
 use ndc_rounds::{Desk, Works};
@@ -51,6 +53,12 @@ impl Writes for ListCell {
     }
 }
 
+impl Serves for ListCell {
+    fn learned_of(&self, alloc: Global, _domains: &[Name]) -> Result<Vec<Message>, AllocError> {
+        Ok(Vec::new(alloc))
+    }
+}
+
 /// A cluster with one cell.
 fn site(alloc: Global) -> Result<Site<ListCell>, AllocError>
     ensures { IfOk result (λ site. site ≡ opening_site 1) }
@@ -75,6 +83,7 @@ fn in_the_beginning(alloc: Global) -> Result<Opened, Fail>
     ensures members { IfOk result (λ opened. count_of opened.header.clusters ≡ 2) }
     ensures shards { IfOk result (λ opened. opened.header.shards ≡ 1) }
     ensures reached { IfOk result (λ opened. IsReached opened.header 0 opened.network) }
+    ensures orderly { IfOk result (λ opened. IsOrderly opened.header opened.network) }
 {
     let mut members = Vec::new(alloc);
     members.push((Name::new(alloc, b"A".as_slice())?, 1))?;
@@ -132,6 +141,57 @@ fn nothing_is_pulled_for_a_shard_in_the_beginning(rt: HostRuntime) -> Result<(),
     let reader = ClusterNo { number: 0 };
     let source = ClusterNo { number: 1 };
     assert!(rt; network.pull_some(alloc, &header, reader, source, 0, 5)? == 0);
+    Ok(())
+}
+
+#[test]
+fn nothing_is_trimmed_in_the_beginning(rt: HostRuntime) -> Result<(), Fail> {
+    let alloc = rt.alloc();
+    let Opened {
+        header,
+        mut network,
+    } = in_the_beginning(alloc)?;
+    let source = ClusterNo { number: 1 };
+    assert!(rt; network.trim(&header, source) == 0);
+    Ok(())
+}
+
+#[test]
+fn a_handover_is_opened_and_ended(rt: HostRuntime) -> Result<(), Fail> {
+    let alloc = rt.alloc();
+    let Opened {
+        header: _header,
+        mut network,
+    } = in_the_beginning(alloc)?;
+    let handover = Handover {
+        domain: Name::new(alloc, b"alpha".as_slice())?,
+        from: ClusterNo { number: 0 },
+        to: ClusterNo { number: 1 },
+        old: 1,
+        new: 2,
+        places: Places::new(Vec::new(alloc)),
+    };
+    network.open_handover(handover)?;
+    let other = Name::new(alloc, b"beta".as_slice())?;
+    network.close_handover(&other);
+    assert!(rt; network.handovers().len() == 1);
+    let alpha = Name::new(alloc, b"alpha".as_slice())?;
+    network.close_handover(&alpha);
+    assert!(rt; network.handovers().is_empty());
+    Ok(())
+}
+
+#[test]
+fn nothing_is_late_in_the_beginning(rt: HostRuntime) -> Result<(), Fail> {
+    let alloc = rt.alloc();
+    let Opened {
+        header,
+        mut network,
+    } = in_the_beginning(alloc)?;
+    let reader = ClusterNo { number: 0 };
+    let source = ClusterNo { number: 1 };
+    let done = network.bootstrap(&rt, alloc, &OpenGate {}, 2, &header, reader, source)?;
+    assert!(rt; done.jobs.is_empty() && done.replies.is_empty());
     Ok(())
 }
 

@@ -1,5 +1,5 @@
 -- What cells have written only grows.
-use Rattle.std.proofs.Common.{◌≡◌, ◌<◌, ℕ, zero, suc, Bool, true, false, List, [], ◌∷◌, ◌++◌, Result, Ok, Err, map, replicate, take, length, refl, ap, sym, subst, ◌∙◌, append_assoc, arith}
+use Rattle.std.proofs.Common.{◌≡◌, ◌<◌, ◌≤◌, ◌+◌, ℕ, zero, suc, Bool, true, false, List, [], ◌∷◌, ◌++◌, Result, Ok, Err, map, replicate, take, length, refl, ap, sym, subst, ◌∙◌, append_assoc, arith, length-append}
 use Rattle.std.proofs.lemmas.List.{append-nil, take_all, take-append-le}
 use Rattle.ndc_cells.specs.declared.job.Job.{Job}
 use Rattle.ndc_cells.specs.declared.job.Job.TheVariants as job
@@ -80,6 +80,15 @@ front-grown kept whole after it grown =
     ap (take (queue_len kept)) grown.1 ∙ ap (λ n. take n (whole ++ grown.0)) (len_kept kept whole it)
     ∙ take-append-le (length whole) whole grown.0 (omega arith) ∙ take_all (length whole) whole (omega arith) in
     subst (IsRestOf kept) (sym same) it
+
+-- behind jobs a cell has written no less
+pub written_more : (home : Home) (jobs : List ShardJob) (cells : List Cell) (shard : ℕ) → shard < length cells
+    → length (cell_for shard cells).written ≤ length (cell_for shard (cells_after home jobs cells)).written
+written_more home jobs cells shard below =
+    let grown = written-jobs home (jobs_of shard jobs) (cell_for shard cells) in
+    let more : length (cell_after home (jobs_of shard jobs) (cell_for shard cells)).written ≡ length (cell_for shard cells).written + length grown.0 =
+    ap length grown.1 ∙ length-append (cell_for shard cells).written grown.0 in
+    omega (arith, more, ap (λ (cell : Cell). length cell.written) (cell_by_itself home jobs cells shard below))
 
 -- behind jobs what is kept of each queue is the front of what its cell has written
 pub fronts_after : (home : Home) (jobs : List ShardJob) (cells : List Cell) (queues : List QueueValue) → AreTied cells queues

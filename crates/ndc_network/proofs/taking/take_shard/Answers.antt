@@ -5,7 +5,7 @@ use Rattle.ndc_cells.specs.Writing.{same_cluster}
 use Rattle.ndc_domain.specs.declared.clusters.ClusterNo.{ClusterNo}
 use Rattle.ndc_model.specs.Moves.{arrives, by_link, in_flight}
 use Rattle.ndc_network.specs.Flights.{emptied_at}
-use Rattle.ndc_network.proofs.TakeLemmas.{emptied_other, emptied_own, flight_other, flight_own, jobs_more, link_there}
+use Rattle.ndc_network.proofs.TakeLemmas.{emptied_other, emptied_own, jobs_more, link_there, part_other, part_own}
 use Rattle.ndc_network.proofs.taking.take_shard.Goals as goal
 use Rattle.ndc_network.proofs.taking.take_shard.Goals.{then-reader+in_ok-add_jobs, else-reader}
 
@@ -25,8 +25,8 @@ loop-place-preserved c =
                 c.loop-place.invariant.links c.index_mut-link.ensures.value;
             jobs = ap (λ jobs. jobs.items ++ map (arrives c.args.shard) (by_link c.args.reader in_flight (drop (c.loop-place.place + 1) c.args.links.now.items) c.args.shard)) w.jobs-is
                 ∙ ap (λ jobs. jobs ++ map (arrives c.args.shard) (by_link c.args.reader in_flight (drop (c.loop-place.place + 1) c.args.links.now.items) c.args.shard)) w.in_ok-add_jobs.ensures
-                ∙ jobs_more c.args.reader c.args.shard c.loop-place.jobs.items _ c.args.links.now.items c.loop-place.place c.index_mut-link.result.now w.take_flight-messages.result.items below there
-                (w.take_flight-messages.ensures.given ∙ flight_own c.args.reader c.args.shard c.index_mut-link.result.now own) c.loop-place.invariant.jobs;
+                ∙ jobs_more in_flight c.args.reader c.args.shard c.loop-place.jobs.items _ c.args.links.now.items c.loop-place.place c.index_mut-link.result.now w.take_flight-messages.result.items below there
+                (w.take_flight-messages.ensures.given ∙ part_own in_flight c.args.reader c.args.shard c.index_mut-link.result.now own) c.loop-place.invariant.jobs;
           }
       | else-reader w ↦
           let other : same_cluster c.index_mut-link.result.now.reader c.args.reader ≡ false =
@@ -38,7 +38,7 @@ loop-place-preserved c =
                 c.loop-place.invariant.links c.index_mut-link.ensures.value;
             jobs = ap (λ jobs. jobs.items ++ map (arrives c.args.shard) (by_link c.args.reader in_flight (drop (c.loop-place.place + 1) c.args.links.now.items) c.args.shard)) w.jobs-is
                 ∙ ap (λ jobs. jobs ++ map (arrives c.args.shard) (by_link c.args.reader in_flight (drop (c.loop-place.place + 1) c.args.links.now.items) c.args.shard)) (sym (append-nil c.loop-place.jobs.items))
-                ∙ jobs_more c.args.reader c.args.shard c.loop-place.jobs.items _ c.args.links.now.items c.loop-place.place c.index_mut-link.result.now [] below there
-                (flight_other c.args.reader c.args.shard c.index_mut-link.result.now other) c.loop-place.invariant.jobs;
+                ∙ jobs_more in_flight c.args.reader c.args.shard c.loop-place.jobs.items _ c.args.links.now.items c.loop-place.place c.index_mut-link.result.now [] below there
+                (part_other in_flight c.args.reader c.args.shard c.index_mut-link.result.now other) c.loop-place.invariant.jobs;
           }
     ]

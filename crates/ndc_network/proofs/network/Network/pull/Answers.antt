@@ -16,13 +16,13 @@ returns-in_default-clause-count g c = sym (counted_nowhere c.args.reader c.args.
 
 pub pull-requires-clause-alike : goal.pull-requires-clause-alike
 pull-requires-clause-alike g c = lanes_alike c.args.header.now c.args.self.now c.in-Some.place c.index_mut-link.result.now c.index-site.result.now c.queues.result.now (holds_there c.args.header.now c.args.reader c.args.source c.args.self.now c.self.inside.sites.items c.self.inside.links.items c.self.inside.handovers.items c.in-Some.place
-    c.index_mut-link.result.now c.index-site.result.now c.queues.result.now c.self.view_is c.requires.source c.requires.shaped c.requires.lanes
+    c.index_mut-link.result.now c.index-site.result.now c.queues.result.now c.self.view_is c.requires.source c.requires.orderly.shaped c.requires.orderly.lanes
     (found_in c.args.reader c.args.source c.args.self.now (world_of c.self.inside.sites.items c.self.inside.links.items c.self.inside.handovers.items) c.self.inside.links.items c.in-Some.place c.index_mut-link.result.now
     c.self.view_is refl (c.in-Some.ensures ∙ ap (position (is_link c.args.reader c.args.source)) c.as_slice.ensures.value) c.index_mut-link.ensures.value) c.index-site.ensures c.queues.ensures.alike c.queues.ensures.rests c.queues.ensures.trimmed)
 
 pub pull-requires-clause-within : goal.pull-requires-clause-within
 pull-requires-clause-within g c = lanes_within c.args.header.now c.args.self.now c.in-Some.place c.index_mut-link.result.now c.index-site.result.now c.queues.result.now (holds_there c.args.header.now c.args.reader c.args.source c.args.self.now c.self.inside.sites.items c.self.inside.links.items c.self.inside.handovers.items c.in-Some.place
-    c.index_mut-link.result.now c.index-site.result.now c.queues.result.now c.self.view_is c.requires.source c.requires.shaped c.requires.lanes
+    c.index_mut-link.result.now c.index-site.result.now c.queues.result.now c.self.view_is c.requires.source c.requires.orderly.shaped c.requires.orderly.lanes
     (found_in c.args.reader c.args.source c.args.self.now (world_of c.self.inside.sites.items c.self.inside.links.items c.self.inside.handovers.items) c.self.inside.links.items c.in-Some.place c.index_mut-link.result.now
     c.self.view_is refl (c.in-Some.ensures ∙ ap (position (is_link c.args.reader c.args.source)) c.as_slice.ensures.value) c.index_mut-link.ensures.value) c.index-site.ensures c.queues.ensures.alike c.queues.ensures.rests c.queues.ensures.trimmed)
 
@@ -32,7 +32,7 @@ returns-clause-pulled g c =
     ∙ pulled_world c.args.reader c.args.source c.args.self.now c.in-Some.place c.index_mut-link.result.now (found_in c.args.reader c.args.source c.args.self.now (world_of c.self.inside.sites.items c.self.inside.links.items c.self.inside.handovers.items) c.self.inside.links.items c.in-Some.place c.index_mut-link.result.now
     c.self.view_is refl (c.in-Some.ensures ∙ ap (position (is_link c.args.reader c.args.source)) c.as_slice.ensures.value) c.index_mut-link.ensures.value) c.pull.new.self
     (c.in_ok-sent.ensures.pulled (λ shard. (cell_for shard c.index-site.result.now.cluster.cells).written) c.queues.ensures.rests ∙ pulled_there c.args.header.now c.args.self.now c.in-Some.place c.index_mut-link.result.now c.index-site.result.now c.queues.result.now (holds_there c.args.header.now c.args.reader c.args.source c.args.self.now c.self.inside.sites.items c.self.inside.links.items c.self.inside.handovers.items c.in-Some.place
-    c.index_mut-link.result.now c.index-site.result.now c.queues.result.now c.self.view_is c.requires.source c.requires.shaped c.requires.lanes
+    c.index_mut-link.result.now c.index-site.result.now c.queues.result.now c.self.view_is c.requires.source c.requires.orderly.shaped c.requires.orderly.lanes
     (found_in c.args.reader c.args.source c.args.self.now (world_of c.self.inside.sites.items c.self.inside.links.items c.self.inside.handovers.items) c.self.inside.links.items c.in-Some.place c.index_mut-link.result.now
     c.self.view_is refl (c.in-Some.ensures ∙ ap (position (is_link c.args.reader c.args.source)) c.as_slice.ensures.value) c.index_mut-link.ensures.value) c.index-site.ensures c.queues.ensures.alike c.queues.ensures.rests c.queues.ensures.trimmed) c.table.result.now c.table.ensures)
 
@@ -40,7 +40,7 @@ pub returns-clause-count : goal.returns-clause-count
 returns-clause-count g c =
     c.in_ok-sent.ensures.count (λ shard. (cell_for shard c.index-site.result.now.cluster.cells).written) c.queues.ensures.rests
     ∙ ap sum (counted_there c.args.header.now c.args.self.now c.in-Some.place c.index_mut-link.result.now c.index-site.result.now c.queues.result.now (holds_there c.args.header.now c.args.reader c.args.source c.args.self.now c.self.inside.sites.items c.self.inside.links.items c.self.inside.handovers.items c.in-Some.place
-    c.index_mut-link.result.now c.index-site.result.now c.queues.result.now c.self.view_is c.requires.source c.requires.shaped c.requires.lanes
+    c.index_mut-link.result.now c.index-site.result.now c.queues.result.now c.self.view_is c.requires.source c.requires.orderly.shaped c.requires.orderly.lanes
     (found_in c.args.reader c.args.source c.args.self.now (world_of c.self.inside.sites.items c.self.inside.links.items c.self.inside.handovers.items) c.self.inside.links.items c.in-Some.place c.index_mut-link.result.now
     c.self.view_is refl (c.in-Some.ensures ∙ ap (position (is_link c.args.reader c.args.source)) c.as_slice.ensures.value) c.index_mut-link.ensures.value) c.index-site.ensures c.queues.ensures.alike c.queues.ensures.rests c.queues.ensures.trimmed) c.table.result.now c.table.ensures)
     ∙ ap (λ (link : Link). sum (map_from (pull_count c.args.self.now None link) 0 link.lanes)) (sym (link_is c.args.reader c.args.source c.args.self.now c.in-Some.place c.index_mut-link.result.now (found_in c.args.reader c.args.source c.args.self.now (world_of c.self.inside.sites.items c.self.inside.links.items c.self.inside.handovers.items) c.self.inside.links.items c.in-Some.place c.index_mut-link.result.now
