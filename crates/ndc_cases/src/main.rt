@@ -25,13 +25,14 @@ use crate::verdict::{Counts, Verdict, verdict_of};
 use std::{fs, io};
 
 /// The files of transcripts.
-const FILES: [&str; 6] = [
+const FILES: [&str; 7] = [
     "faults.cases",
     "first.cases",
     "worked.cases",
     "printed.cases",
     "batches.cases",
     "dumps.cases",
+    "damaged.cases",
 ];
 
 /// Runs a case that is whole and counts what comes of it. What has no name is none.

@@ -1,0 +1,45 @@
+-- Replies counted one after the other are their notes counted.
+use Rattle.std.proofs.Common.{◌≡◌, ℕ, ◌+◌, List, [], ◌∷◌, ◌++◌, map, sum, length, refl, sym, ap, ◌∙◌, arith}
+use Rattle.std.specs.List.{sum_by}
+use Rattle.std.proofs.lemmas.List.Sums.{sum_by-cons}
+use Rattle.ndc_cells.specs.declared.job.Job.{Job}
+use Rattle.ndc_cells.specs.declared.job.JobReply.{JobReply}
+use Rattle.ndc_cells.specs.declared.job.ShardJob.{ShardJob}
+use Rattle.ndc_domain.specs.declared.clusters.ClusterNo.{ClusterNo}
+use Rattle.ndc_index.specs.declared.seen.Seen.{Seen}
+use Rattle.ndc_model.specs.Moves.{Note, notes_of}
+use Rattle.ndc_model.specs.Steps.{applied_by, arrived_by, known_by, learned_by, put_off_by, seen_at, seen_of}
+use Rattle.ndc_answers.specs.Tallies.{seen_by, with_notes, with_replies, with_reply}
+use Rattle.ndc_answers.specs.declared.tally.Tally.{Tally}
+
+-- one more note in front
+more : (f : Note → ℕ) (note : Note) (notes : List Note) (before : ℕ) → before + sum (map f (note ∷ notes)) ≡ before + f note + sum (map f notes)
+more f note notes before = let whole : sum (map f (note ∷ notes)) ≡ f note + sum (map f notes) = sum_by-cons (λ n. n) (f note) (map f notes) in omega (arith, whole)
+
+tally : ℕ → ℕ → ℕ → ℕ → ℕ → Tally
+tally learned known put_off arrived applied = record { learned = learned; known = known; put_off = put_off; arrived = arrived; applied = applied }
+
+same-tally : (a b c d e v w x y z : ℕ) → a ≡ v → b ≡ w → c ≡ x → d ≡ y → e ≡ z → tally a b c d e ≡ tally v w x y z
+same-tally a b c d e v w x y z p q r s t = cc
+
+with-note : (note : Note) (notes : List Note) (t : Tally) → with_notes (note ∷ notes) t ≡ with_notes notes (with_reply note.job note.reply t)
+unfolding tally
+with-note note notes t =
+    same-tally _ _ _ _ _ _ _ _ _ _ (more learned_by note notes t.learned) (more known_by note notes t.known) (more put_off_by note notes t.put_off) (more arrived_by note notes t.arrived)
+    (more applied_by note notes t.applied)
+
+no-notes : (t : Tally) → with_notes [] t ≡ t
+unfolding tally
+no-notes t = same-tally _ _ _ _ _ t.learned t.known t.put_off t.arrived t.applied (omega arith) (omega arith) (omega arith) (omega arith) (omega arith)
+
+pub replies_as_notes : (jobs : List ShardJob) (replies : List JobReply) (t : Tally) (cluster : ClusterNo) → length jobs ≡ length replies → with_replies jobs replies t ≡ with_notes (notes_of cluster jobs replies) t
+replies_as_notes [] replies t cluster e = sym (no-notes t)
+replies_as_notes (asked ∷ jobs) [] t cluster e = absurd (cc)
+replies_as_notes (asked ∷ jobs) (reply ∷ replies) t cluster e =
+    replies_as_notes jobs replies (with_reply asked.job reply t) cluster (omega (arith, e)) ∙ sym (with-note (record { cluster = cluster; job = asked.job; reply = reply }) (notes_of cluster jobs replies) t)
+
+pub seen_as_notes : (cluster : ClusterNo) (jobs : List ShardJob) (replies : List JobReply) → length jobs ≡ length replies → seen_by cluster replies ≡ seen_of (notes_of cluster jobs replies)
+seen_as_notes cluster [] [] e = refl
+seen_as_notes cluster [] (reply ∷ replies) e = absurd (cc)
+seen_as_notes cluster (asked ∷ jobs) [] e = absurd (cc)
+seen_as_notes cluster (asked ∷ jobs) (reply ∷ replies) e = ap (λ (l : List Seen). seen_at cluster reply.learned ++ l) (seen_as_notes cluster jobs replies (omega (arith, e)))

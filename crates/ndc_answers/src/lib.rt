@@ -1,0 +1,27 @@
+//! What the lines of a script answer, as text.
+#![tactic(auto)]
+
+mod aside;
+mod domains;
+mod handovers;
+mod progress;
+mod queues;
+mod reading;
+mod tally;
+mod word;
+mod writing;
+
+pub use aside::{letters, set_aside, whole};
+pub use domains::{
+    counted, domain, done, failover_refused, join_refused, register_refused, retain_refused,
+};
+pub use handovers::{begin_refused, no_handover, ready_refused, still_open};
+pub use progress::{beaten, report, stale};
+pub use queues::{Gap, arrived, brought, gaps, levels, no_place, settled, worked};
+pub use reading::{branches, compared, current, dump, history, no_workflow, state};
+pub use tally::{Tally, add_seen};
+pub use word::behind_number;
+pub use writing::{outcome, refusal};
+
+#[cfg(test)]
+mod tests;

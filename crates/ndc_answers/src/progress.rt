@@ -1,0 +1,39 @@
+ghost use Rattle.std.specs.Prelude.{◌≡◌, [], ◌∷◌, codes, decimal, map, IfOk};
+ghost use Rattle.std.specs.Option.{option_copied};
+ghost use Rattle.ndc_model.specs.Progress.{report_answer};
+ghost use Rattle.ndc_model.specs.Texts.{ok, refused};
+
+use crate::word::{Word, ok, refused};
+use ndc_progress::Report;
+use std::alloc::{AllocError, Global};
+
+/// A report was told: its version and beat.
+pub fn beaten(alloc: Global, version: u64, beat: u64) -> Result<Vec<u8>, AllocError>
+    ensures { IfOk result (λ text. text.items ≡ ok (decimal version ∷ decimal beat ∷ [])) }
+{
+    ok(alloc, &[Word::Number(version), Word::Number(beat)])
+}
+
+/// A report of a greater version is held.
+pub fn stale(alloc: Global, version: u64) -> Result<Vec<u8>, AllocError>
+    ensures { IfOk result (λ text. text.items ≡ refused (codes "Stale" ∷ decimal version ∷ [])) }
+{
+    refused(alloc, &[Word::Plain("Stale"), Word::Number(version)])
+}
+
+/// The report that is held of an activity, where there is one.
+pub fn report(alloc: Global, report: Option<&Report>) -> Result<Vec<u8>, AllocError>
+    ensures { IfOk result (λ text. text.items ≡ report_answer (option_copied report.entry)) }
+{
+    match report {
+        None => refused(alloc, &[Word::Plain("NoProgress")]),
+        Some(report) => ok(
+            alloc,
+            &[
+                Word::Number(report.version),
+                Word::Number(report.beat),
+                Word::Bytes(report.details.as_bytes()),
+            ],
+        ),
+    }
+}
