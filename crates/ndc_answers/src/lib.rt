@@ -4,6 +4,7 @@
 mod aside;
 mod domains;
 mod handovers;
+mod membership;
 mod progress;
 mod queues;
 mod reading;
@@ -16,6 +17,7 @@ pub use domains::{
     counted, domain, done, failover_refused, join_refused, register_refused, retain_refused,
 };
 pub use handovers::{begin_refused, no_handover, ready_refused, still_open};
+pub use membership::members;
 pub use progress::{beaten, report, stale};
 pub use queues::{Gap, arrived, brought, gaps, levels, no_place, settled, worked};
 pub use reading::{branches, compared, current, dump, history, no_workflow, state};

@@ -116,6 +116,7 @@ pub fn settled(alloc: Global, tally: Tally) -> Result<Vec<u8>, AllocError>
 }
 
 /// A batch that is put off, and what it waits for.
+#[derive(Drop)]
 pub struct Gap<'a> {
     pub domain: &'a Name,
     pub workflow: &'a Name,
