@@ -2,6 +2,7 @@
 #![tactic(auto)]
 
 mod bootstrapping;
+mod due;
 mod flights;
 mod handovers;
 mod network;
@@ -9,6 +10,7 @@ mod opening;
 mod pulling;
 mod records;
 mod renewing;
+mod settling;
 mod taking;
 mod trimming;
 mod working;

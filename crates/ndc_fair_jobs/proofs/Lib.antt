@@ -1,0 +1,10 @@
+pub mod OneLemmas
+pub mod ComeLemmas
+pub mod LetterLemmas
+pub mod EntryLemmas
+pub mod RoomLemmas
+pub mod AskLemmas
+pub mod ReapplyLemmas
+pub mod SettleLemmas
+pub mod LineLemmas
+pub mod LawLemmas

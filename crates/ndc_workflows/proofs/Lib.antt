@@ -1,0 +1,10 @@
+pub mod NameLemmas
+pub mod SameLemmas
+pub mod DomainLemmas
+pub mod OwnLemmas
+pub mod BehindLemmas
+pub mod PutLemmas
+pub mod ArriveLemmas
+pub mod WriteLemmas
+pub mod FindLemmas
+pub mod ExampleLemmas

@@ -1,0 +1,10 @@
+//! All workflows of a cell, found by domain and then by workflow.
+#![tactic(auto)]
+
+mod domain;
+mod workflows;
+
+pub use workflows::Workflows;
+
+#[cfg(test)]
+mod tests;
