@@ -98,9 +98,6 @@ module _ {Y : Type 0} (batch : Y → Batch) where
         all-items items (λ y. (batch y).domain ≡ domain) workflows
         (hold-as (IsOwn domain) (λ workflow w. AllByRecursion (λ y. (batch y).domain ≡ domain) (items w)) (λ workflow w is. (named domain workflow (items w) (own domain workflow w is)).1) workflows are)
 
-
-
-
     -- those of a workflow are what stands under its name
     in-workflow : (domain workflow : Name) (workflows : DomainValue) → AreOwn domain workflows
         → filter (λ y. bytes_eq (batch y).workflow workflow) (in_domain workflows) ≡ items (workflow_or_empty (under workflow workflows))
