@@ -32,19 +32,17 @@ use Rattle.ndc_model.specs.Moves.{all_arrive, arrives, by_link, due, in_flight, 
 use Rattle.ndc_model.specs.Queues.{names_cluster}
 use Rattle.ndc_model.specs.World.{Cluster, Link, World, cell_at, cluster_at, home_at, is_link, link_at, link_found, new_cluster, shards_of}
 use Rattle.ndc_model.proofs.ListLemmas.{all-flat, all-weaker}
+use Rattle.ndc_network.specs.Conditions.{MayDoAll, due_jobs, flight_jobs, late_jobs}
 use Rattle.ndc_rounds.specs.Rounds.{AreAllowed}
 use Rattle.ndc_sets.proofs.Lists.{Among, all-among, all-from, filter-among, filter_map-among, find-among}
 use Rattle.ndc_workflow.specs.Allowed.{IsAllowed}
+use Rattle.ndc_fair_jobs.specs.Lines.{again_jobs}
 use Rattle.ndc_fair_jobs.proofs.OneLemmas.{may-arrive}
-
--- a cluster may do these jobs, one after the other
-abbrev pub AllMayBeDone : Header → ClusterNo → List ShardJob → World → Type 0
-AllMayBeDone header cluster jobs w = AreAllowed IsAllowed (home_at header cluster w) jobs (cluster_at cluster w).cells
 
 -- one job first, and then others in the world behind it
 pub allowed-more : (header : Header) (cluster : ClusterNo) (w : World) → IsShaped header w → IsCluster header cluster → (asked : ShardJob) (jobs : List ShardJob)
-    → IsAllowed (home_at header cluster w) asked.job (cell_at cluster asked.shard w) → AllMayBeDone header cluster jobs (world_after header cluster (asked ∷ []) w)
-    → AllMayBeDone header cluster (asked ∷ jobs) w
+    → IsAllowed (home_at header cluster w) asked.job (cell_at cluster asked.shard w) → MayDoAll IsAllowed header cluster jobs (world_after header cluster (asked ∷ []) w)
+    → MayDoAll IsAllowed header cluster (asked ∷ jobs) w
 unfolding cells_after
 allowed-more header cluster w shaped known asked jobs first rest =
     (first, subst (λ (c : Cluster). AreAllowed IsAllowed (record { clusters = header.clusters; me = cluster; limit = header.limit; table = c.table }) jobs c.cells) there rest)
@@ -62,7 +60,7 @@ module _ (header : Header) (lines : ℕ) (cluster : ClusterNo) (known : IsCluste
       (may-arrive header lines w is asked.shard arrival.below arrival.sent arrival.may.is_true cluster known)
 
   -- jobs in which messages arrive that may
-  pub many-allowed : (jobs : List ShardJob) (w : World) → IsReached header lines w → AllByRecursion (IsArrival header cluster w) jobs → AllMayBeDone header cluster jobs w
+  pub many-allowed : (jobs : List ShardJob) (w : World) → IsReached header lines w → AllByRecursion (IsArrival header cluster w) jobs → MayDoAll IsAllowed header cluster jobs w
   many-allowed [] w is all = tt
   many-allowed (asked ∷ jobs) w is all =
       let brought = (many header lines cluster known (asked ∷ []) w is (all.0, tt)).0 in
@@ -73,7 +71,7 @@ module _ (header : Header) (lines : ℕ) (cluster : ClusterNo) (known : IsCluste
 
   -- messages by shard
   pub shards-allowed : (messages : ℕ → List Message) (w : World) → IsReached header lines w → ((shard : ℕ) → shard < header.shards → AllByRecursion (MayArrive header cluster shard w) (messages shard))
-      → AllMayBeDone header cluster (all_arrive messages (shards_of header)) w
+      → MayDoAll IsAllowed header cluster (all_arrive messages (shards_of header)) w
   shards-allowed messages w is may =
       many-allowed (all_arrive messages (shards_of header)) w is
       (all-flat (IsArrival header cluster w) (λ shard. map (arrives shard) (messages shard)) (shards_of header)
@@ -85,15 +83,15 @@ module _ (header : Header) (lines : ℕ) (cluster : ClusterNo) (known : IsCluste
 
 -- what is in flight, what is due, and what is sent again
 pub flights_allowed : (header : Header) (lines : ℕ) (reader : ClusterNo) (w : World) → IsCluster header reader → IsReached header lines w
-    → AllMayBeDone header reader (all_arrive (by_link reader in_flight w.links) (shards_of header)) w
+    → MayDoAll IsAllowed header reader (flight_jobs header reader w) w
 flights_allowed header lines reader w known is = shards-allowed header lines reader known (by_link reader in_flight w.links) w is (flights-may header lines w is reader)
 
 pub due_allowed : (header : Header) (lines : ℕ) (reader : ClusterNo) (w : World) → IsCluster header reader → IsReached header lines w
-    → AllMayBeDone header reader (all_arrive (by_link reader (due w) w.links) (shards_of header)) w
+    → MayDoAll IsAllowed header reader (due_jobs header reader w) w
 due_allowed header lines reader w known is = shards-allowed header lines reader known (by_link reader (due w) w.links) w is (due-may header lines w is reader)
 
 pub again_allowed : (header : Header) (lines : ℕ) (reader : ClusterNo) (w : World) → IsCluster header reader → IsReached header lines w
-    → AllMayBeDone header reader (all_arrive (sent_again header reader w) (shards_of header)) w
+    → MayDoAll IsAllowed header reader (again_jobs header reader w) w
 again_allowed header lines reader w known is = shards-allowed header lines reader known (sent_again header reader w) w is (λ shard below. again-may header lines w is shard below reader known)
 
 -- what a source has learned of the domains of which the reader is a member late
@@ -136,5 +134,5 @@ module _ (header : Header) (lines : ℕ) (reader source : ClusterNo) (two : AreT
             named = subst (λ (x : Batch). is_named header reader w x.domain ≡ true) same (late-named m.0.domain q.1);
           }
 
-  pub late_allowed : AllMayBeDone header reader (all_arrive (λ shard. learned_of_domains (link_at reader source w).late (cell_at source shard w)) (shards_of header)) w
+  pub late_allowed : MayDoAll IsAllowed header reader (late_jobs header reader source w) w
   late_allowed = shards-allowed header lines reader two.first (λ shard. learned_of_domains (link_at reader source w).late (cell_at source shard w)) w is late-may

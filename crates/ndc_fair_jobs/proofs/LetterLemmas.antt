@@ -26,11 +26,14 @@ use Rattle.ndc_model.specs.Fair.{is_named}
 use Rattle.ndc_model.specs.Letters.{letter_job}
 use Rattle.ndc_model.specs.Moves.{arrives}
 use Rattle.ndc_model.specs.World.{World, cell_at, cluster_at}
+use Rattle.ndc_network.specs.Conditions.{MayDoAll}
 use Rattle.ndc_sets.specs.Sets.{Has}
 use Rattle.ndc_sets.proofs.BranchLemmas.{among-has}
 use Rattle.ndc_sets.proofs.LearnedLemmas.{learned_closed}
 use Rattle.ndc_sets.proofs.Lists.{all-among, all-from, filter_map-among}
-use Rattle.ndc_fair_jobs.proofs.ComeLemmas.{AllMayBeDone, many-allowed}
+use Rattle.ndc_workflow.specs.Allowed.{IsAllowed}
+use Rattle.ndc_fair_jobs.specs.Lines.{letter_jobs}
+use Rattle.ndc_fair_jobs.proofs.ComeLemmas.{many-allowed}
 
 module _ (header : Header) (lines : ℕ) (reader : ClusterNo) (known : IsCluster header reader) (some : 0 < header.shards) (w : World) (is : IsReached header lines w) where
   -- the job of a letter
@@ -73,7 +76,7 @@ module _ (header : Header) (lines : ℕ) (reader : ClusterNo) (known : IsCluster
             let set = learned_closed (arrived_of letter.domain letter.workflow cell) (set_of_workflow letter.domain letter.workflow cell (cell-is header lines w is shard below letter.source fit.clusters.second)) in
             sent-may b (among-has part b set.0.ordered (there-among part (place_of_letter letter) b f)) (learned_message cell b) refl e
 
-  pub letters_allowed : AllMayBeDone header reader (filter_map (letter_job header w) (cluster_at reader w).letters) w
+  pub letters_allowed : MayDoAll IsAllowed header reader (letter_jobs header reader w) w
   letters_allowed = many-allowed header lines reader known (filter_map (letter_job header w) (cluster_at reader w).letters) w is
       (all-from (IsArrival header reader w) (filter_map (letter_job header w) (cluster_at reader w).letters)
       (λ asked among. let f = filter_map-among (letter_job header w) (cluster_at reader w).letters asked among in

@@ -8,3 +8,4 @@ pub mod ReapplyLemmas
 pub mod SettleLemmas
 pub mod LineLemmas
 pub mod LawLemmas
+pub mod BurstLemmas

@@ -26,6 +26,7 @@ use Rattle.ndc_model.specs.Facts.{IsReached}
 use Rattle.ndc_model.specs.Fair.{written_of}
 use Rattle.ndc_model.specs.Moves.{all_reapply, all_written}
 use Rattle.ndc_model.specs.World.{World, cell_at, home_at, shards_of}
+use Rattle.ndc_network.specs.Conditions.{MayDoAll}
 use Rattle.ndc_sets.specs.Branches.{workflow_tip}
 use Rattle.ndc_sets.specs.Current.{strays}
 use Rattle.ndc_sets.specs.Sets.{Has}
@@ -35,7 +36,7 @@ use Rattle.ndc_text.specs.Ranges.{InRange}
 use Rattle.ndc_workflow.specs.Allowed.{HasRoom, IsAllowed, MayReapply, MayWriteAll}
 use Rattle.ndc_writes.proofs.MayLemmas.{tip-all}
 use Rattle.ndc_writes.proofs.ReapplyLemmas.{reapplication-writes}
-use Rattle.ndc_fair_jobs.proofs.ComeLemmas.{AllMayBeDone, allowed-more}
+use Rattle.ndc_fair_jobs.proofs.ComeLemmas.{allowed-more}
 use Rattle.ndc_fair_jobs.proofs.EntryLemmas.{entry-may}
 use Rattle.ndc_fair_jobs.proofs.RoomLemmas.{has-room}
 
@@ -199,7 +200,7 @@ module _ (header : Header) (lines : ℕ) (keeps : ApplyingKeeps header lines) (c
 
   -- many shards
   shards-may : (shards : List ℕ) → Rise shards → AllByRecursion (λ shard. shard < header.shards) shards → (w : World) → IsReached header lines w
-      → ((domain workflow : Name) → Among (shard_of domain workflow header.shards) shards → Room w domain workflow) → AllMayBeDone header cluster (map reapplies shards) w
+      → ((domain workflow : Name) → Among (shard_of domain workflow header.shards) shards → Room w domain workflow) → MayDoAll IsAllowed header cluster (map reapplies shards) w
   shards-may [] rise below w is room = tt
   shards-may (shard ∷ shards) rise below w is room =
       let first = shard-may shard below.0 w is (λ domain workflow same. room domain workflow (inl same)) in
@@ -210,7 +211,7 @@ module _ (header : Header) (lines : ℕ) (keeps : ApplyingKeeps header lines) (c
       (room domain workflow (inr among))))
 
   -- a cluster may apply its strays again, where there is room for one batch more in each workflow to which it writes
-  pub reapply-allowed : (w : World) → IsReached header lines w → ((domain workflow : Name) → owns header cluster w domain ≡ true → count_in header domain workflow w + 1 ≤ 2 * lines) → AllMayBeDone header cluster (all_reapply header) w
+  pub reapply-allowed : (w : World) → IsReached header lines w → ((domain workflow : Name) → owns header cluster w domain ≡ true → count_in header domain workflow w + 1 ≤ 2 * lines) → MayDoAll IsAllowed header cluster (all_reapply header) w
   reapply-allowed w is room =
       shards-may (shards_of header) (range-rises 0 header.shards)
       (all-from (λ shard. shard < header.shards) (shards_of header) (λ shard among. omega (arith, range-below 0 header.shards shard among))) w is (λ domain workflow among. room domain workflow)

@@ -1,8 +1,9 @@
 -- What must hold so that cells may do the jobs of a line.
-use Rattle.std.specs.Prelude.{List, [], ◌∷◌}
+use Rattle.std.specs.Prelude.{List, [], ◌∷◌, map}
 use Rattle.std.specs.List.{filter_map}
 use Rattle.ndc_act.specs.declared.script.Act.{Act}
 use Rattle.ndc_act.specs.declared.script.Act.TheVariants as act
+use Rattle.ndc_act.specs.declared.script.BurstJob.{BurstJob}
 use Rattle.ndc_act.specs.declared.script.Header.{Header}
 use Rattle.ndc_cells.specs.declared.job.Job.TheVariants as job
 use Rattle.ndc_cells.specs.declared.job.Job.{Job}
@@ -28,7 +29,11 @@ again_jobs header reader w = all_arrive (sent_again header reader w) (shards_of 
 abbrev pub letter_jobs : Header → ClusterNo → World → List ShardJob
 letter_jobs header reader w = filter_map (letter_job header w) (cluster_at reader w).letters
 
--- the jobs of a line may be done, each in the cells that those before it leave; most lines have none
+-- the commands of a burst as jobs
+abbrev pub burst_jobs : Header → List BurstJob → List ShardJob
+burst_jobs header jobs = map (λ one. job_for header one.domain one.workflow (job.Command one.domain one.workflow one.command)) jobs
+
+-- the jobs of a line may be done, each in the cells that those before it leave; most lines have none, and a burst stands for the lines in it
 abbrev pub LineIsAllowed : Condition → Header → Act → World → Type 0
 LineIsAllowed allows header (act.Command cluster domain workflow command) w = MayDoAll allows header cluster (job_for header domain workflow (job.Command domain workflow command) ∷ []) w
 LineIsAllowed allows header (act.Reset cluster domain workflow event) w = MayDoAll allows header cluster (job_for header domain workflow (job.Reset domain workflow event) ∷ []) w

@@ -1,13 +1,15 @@
 // The jobs of lines in fair worlds may be done, as laws.
-ghost use Rattle.std.specs.Prelude.{ℕ, ◌<◌};
-ghost use Rattle.ndc_act.specs.WellFormed.{IsCluster, IsWellFormedAct, IsWellFormedHeader};
+ghost use Rattle.std.specs.List.{All};
+ghost use Rattle.std.specs.Prelude.{ℕ, ◌+◌, ◌<◌, ◌≤◌, List, length};
+ghost use Rattle.ndc_act.specs.WellFormed.{IsCluster, IsWellFormedAct, IsWellFormedHeader, IsWellFormedJob};
 ghost use Rattle.ndc_act.specs.declared.script.Act.{Act as Asked};
+ghost use Rattle.ndc_act.specs.declared.script.BurstJob.{BurstJob as Job};
 ghost use Rattle.ndc_act.specs.declared.script.Header.{Header as Head};
 ghost use Rattle.ndc_domain.specs.declared.clusters.ClusterNo.{ClusterNo as Number};
-ghost use Rattle.ndc_fair_jobs.specs.Lines.{LineIsAllowed};
+ghost use Rattle.ndc_fair_jobs.specs.Lines.{LineIsAllowed, burst_jobs};
 ghost use Rattle.ndc_model.specs.Facts.{IsReached};
 ghost use Rattle.ndc_model.specs.World.{World};
-ghost use Rattle.ndc_network.specs.Conditions.{MaySettle, MayWork};
+ghost use Rattle.ndc_network.specs.Conditions.{MayDoAll, MaySettle, MayWork};
 ghost use Rattle.ndc_workflow.specs.Allowed.{IsAllowed};
 
 /// A cluster may work, and all may be settled, where fewer than 100,000 lines were run: each job may be done in the
@@ -21,4 +23,10 @@ pub fn work_and_settlement_may_be_done()
 pub fn the_jobs_of_every_line_may_be_done()
     ensures { (header : Head) (lines : ℕ) (line : Asked) (w : World) → IsWellFormedHeader header → IsWellFormedAct header line → lines < 100000 → IsReached header lines w
         → LineIsAllowed IsAllowed header line w }
+{}
+
+/// The commands of a burst may be asked one after the other, where no more than 100,000 lines are run with them.
+pub fn the_commands_of_a_burst_may_be_asked()
+    ensures { (header : Head) (lines : ℕ) (cluster : Number) (jobs : List Job) (w : World) → IsWellFormedHeader header → IsCluster header cluster → All IsWellFormedJob jobs
+        → lines + length jobs ≤ 100000 → IsReached header lines w → MayDoAll IsAllowed header cluster (burst_jobs header jobs) w }
 {}
