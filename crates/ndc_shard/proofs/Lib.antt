@@ -1,0 +1,4 @@
+pub mod QueueLemmas
+pub mod FoundLemmas
+pub mod HistoryLemmas
+pub mod MayLemmas

@@ -1,0 +1,92 @@
+-- An entry that comes behind all that is learned, and that the world lets a cell write, may be written.
+use Rattle.std.proofs.Common.{◌≡◌, true, List, [], ◌∷◌, Option, Some, None, refl, sym, ◌∙◌, subst, ap}
+use Rattle.std.specs.Prelude.{IfSome}
+use Rattle.std.specs.Option.{option_or}
+use Rattle.std.specs.List.{AllByRecursion}
+use Rattle.ndc_cells.specs.declared.message.Message.{Message}
+use Rattle.ndc_cells.specs.Cells.{Cell, IsCell, arrived_of, both, learned_of}
+use Rattle.ndc_cells.specs.Places.{is_of}
+use Rattle.ndc_cells.specs.Writing.{Entry, with_written}
+use Rattle.ndc_cells.proofs.PlaceLemmas.{written_arrives}
+use Rattle.ndc_entries.specs.Written.{IsSecond, IsWrittenTo}
+use Rattle.ndc_entries.proofs.LawProofs.{sent-message, sent-new}
+use Rattle.ndc_event.specs.declared.batch.Batch.{Batch}
+use Rattle.ndc_event.specs.declared.name.Name.{Name}
+use Rattle.ndc_sets.specs.Learned.{has_key, learned}
+use Rattle.ndc_sets.specs.Sets.{batch_at, earlier}
+use Rattle.ndc_sets.specs.Sound.{IsSound}
+use Rattle.ndc_waiting.specs.Learning.{with_message, with_messages}
+use Rattle.ndc_waiting.specs.Waiting.{batches_of, freed, still_put_off, IsMessage, IsNewTo}
+use Rattle.ndc_waiting.proofs.LawLemmas.{all_arrived, frees_none, others_put_off}
+use Rattle.ndc_waiting.proofs.LearnLemmas.{found-all-of, learned_is}
+use Rattle.ndc_workflow.specs.Allowed.{MayWrite}
+use Rattle.ndc_workflow.specs.Learnable.{HasSmallIds, carrying}
+use Rattle.ndc_workflow.specs.Workflow.{WorkflowValue, IsWorkflow, workflow_of}
+use Rattle.ndc_workflows.specs.Writing.{MayBeWritten}
+use Rattle.ndc_workflows.proofs.SameLemmas.{of-names}
+
+module _ (domain workflow : Name) (entry : Entry) (cell : Cell) (is : IsCell cell) (own : IsWorkflow (workflow_of domain workflow cell))
+    (written : IsWrittenTo (learned_of domain workflow cell) domain workflow entry) (reached : has_key (earlier entry.batch) (learned_of domain workflow cell) ≡ true)
+    (small : AllByRecursion HasSmallIds (both (carrying entry.batch entry.second))) (may : MayWrite domain workflow entry cell) where
+  abbrev sent : Message
+  sent = carrying entry.batch entry.second
+
+  abbrev known : List Batch
+  known = learned_of domain workflow cell
+
+  abbrev waiting : List Message
+  waiting = (workflow_of domain workflow cell).waiting
+
+  message : IsMessage sent
+  message = sent-message known domain workflow entry sent written refl refl
+
+  new-known : IsNewTo known sent
+  new-known = sent-new known domain workflow entry sent written refl refl
+
+  -- the batches are new to all that has arrived
+  new-all : (batches : List Batch) → AllByRecursion (λ b. batch_at b.key known ≡ None) batches → AllByRecursion (λ b. batch_at b.key (batches_of waiting) ≡ None) batches
+      → AllByRecursion (λ b. batch_at b.key (with_messages waiting known) ≡ None) batches
+  new-all [] one two = tt
+  new-all (b ∷ batches) one two =
+      (found-all-of known waiting own.apart b.key ∙ ap (λ o. option_or o (batch_at b.key (batches_of waiting))) one.0 ∙ two.0, new-all batches one.1 two.1)
+
+  fresh : IsNewTo (arrived_of domain workflow cell) sent
+  fresh = subst (λ (w : WorkflowValue). IsNewTo w.arrived sent) (sym own.parts) (new-all (both sent) new-known may.new)
+
+  -- they are of the workflow
+  first-own : is_of domain workflow entry.batch ≡ true
+  first-own = of-names domain workflow entry.batch written.of.domain_is written.of.workflow_is
+
+  second-own : IfSome entry.second (λ b. is_of domain workflow b ≡ true)
+  second-own = by entry.second written.second
+    where
+      by : (o : Option Batch) → IfSome o (IsSecond domain workflow entry.batch) → IfSome o (λ b. is_of domain workflow b ≡ true)
+      by None none = tt
+      by (Some b) second = of-names domain workflow b second.of.domain_is second.of.workflow_is
+
+  -- what is learned then is what was learned, with them
+  learned-then : learned (arrived_of domain workflow (with_written entry cell)) ≡ with_message sent known
+  learned-then =
+      ap learned (written_arrives domain workflow entry cell is written.back first-own second-own)
+      ∙ ap (λ (w : WorkflowValue). learned (with_message sent w.arrived)) own.parts
+      ∙ ap learned (all_arrived known waiting sent own.apart message new-known may.new reached)
+      ∙ learned_is (with_messages (freed sent waiting) known) (still_put_off sent waiting) (others_put_off known waiting sent own.apart message new-known may.new reached)
+      ∙ ap (λ (l : List Message). with_messages l known) (frees_none waiting sent may.awaited)
+
+  pub may-be : MayBeWritten sent (workflow_of entry.batch.domain entry.batch.workflow cell)
+  may-be =
+      subst (λ (d : Name). MayBeWritten sent (workflow_of d entry.batch.workflow cell)) (sym written.of.domain_is)
+      (subst (λ (n : Name). MayBeWritten sent (workflow_of domain n cell)) (sym written.of.workflow_is) (record {
+        message = message;
+        own = names entry.second second-own;
+        fresh = fresh;
+        reached = reached;
+        awaited = may.awaited;
+        sound = subst IsSound learned-then may.sound;
+        small = small;
+      }))
+    where
+      names : (o : Option Batch) → IfSome o (λ b. is_of domain workflow b ≡ true) → IfSome o (λ b. is_of entry.batch.domain entry.batch.workflow b ≡ true)
+      names o own =
+          subst (λ (d : Name). IfSome o (λ b. is_of d entry.batch.workflow b ≡ true)) (sym written.of.domain_is)
+          (subst (λ (n : Name). IfSome o (λ b. is_of domain n b ≡ true)) (sym written.of.workflow_is) own)

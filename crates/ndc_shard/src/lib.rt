@@ -1,0 +1,7 @@
+//! One shard of one cluster: the workflows of a cell, and all messages that it has written.
+#![tactic(auto)]
+
+mod shard;
+mod writing;
+
+pub use shard::Shard;
