@@ -1,0 +1,4 @@
+pub mod AuthorLemmas
+pub mod KeyLists
+pub mod WayLemmas
+pub mod GatherLemmas
