@@ -29,12 +29,12 @@ module _ (header : Header) (lines : ℕ) (w : World) (is : IsReached header line
   all = all_written header shard w
 
   -- a batch that was written is one of a cluster's own
-  record HasAuthor (b : Batch) : Type 0 where
-    author : ClusterNo
-    known : IsCluster header author
-    own : IsOwn header author shard (cluster_at author w).table (cell_at author shard w) b
+  pub record HasAuthor (b : Batch) : Type 0 where
+    pub author : ClusterNo
+    pub known : IsCluster header author
+    pub own : IsOwn header author shard (cluster_at author w).table (cell_at author shard w) b
 
-  has-author : (b : Batch) → Among b all → HasAuthor b
+  pub has-author : (b : Batch) → Among b all → HasAuthor b
   has-author b among = by (in_order-among (flat_map (λ c. flat_map both (cell_at c shard w).written) (all_clusters header)) [] b among)
     where
       by : Among b [] ⊎ Among b (flat_map (λ c. flat_map both (cell_at c shard w).written) (all_clusters header)) → HasAuthor b

@@ -1,2 +1,4 @@
 pub mod Authors
 pub mod Gathered
+pub mod Again
+pub mod Steps

@@ -1,4 +1,9 @@
-//! Laws of what is sent again: authors have learned what they wrote.
+//! Keys of missing ancestors that are gathered, and laws of what is sent again: authors have learned what they wrote, and
+//! what is gathered is what is sent again.
 #![tactic(auto)]
 
+pub mod again_laws;
 pub mod author_laws;
+mod keys;
+
+pub use keys::Keys;

@@ -32,11 +32,10 @@ use Rattle.ndc_model.specs.Moves.{all_arrive, arrives, by_link, due, in_flight, 
 use Rattle.ndc_model.specs.Queues.{names_cluster}
 use Rattle.ndc_model.specs.World.{Cluster, Link, World, cell_at, cluster_at, home_at, is_link, link_at, link_found, new_cluster, shards_of}
 use Rattle.ndc_model.proofs.ListLemmas.{all-flat, all-weaker}
-use Rattle.ndc_network.specs.Conditions.{MayDoAll, due_jobs, flight_jobs, late_jobs}
+use Rattle.ndc_network.specs.Conditions.{MayDoAll, again_jobs, due_jobs, flight_jobs, late_jobs}
 use Rattle.ndc_rounds.specs.Rounds.{AreAllowed}
 use Rattle.ndc_sets.proofs.Lists.{Among, all-among, all-from, filter-among, filter_map-among, find-among}
 use Rattle.ndc_workflow.specs.Allowed.{IsAllowed}
-use Rattle.ndc_fair_jobs.specs.Lines.{again_jobs}
 use Rattle.ndc_fair_jobs.proofs.OneLemmas.{may-arrive}
 
 -- one job first, and then others in the world behind it

@@ -12,18 +12,13 @@ use Rattle.ndc_cells.specs.Shards.{shard_of}
 use Rattle.ndc_domain.specs.declared.clusters.ClusterNo.{ClusterNo}
 use Rattle.ndc_event.specs.declared.name.Name.{Name}
 use Rattle.ndc_model.specs.Letters.{letter_job}
-use Rattle.ndc_model.specs.Moves.{all_arrive, sent_again}
-use Rattle.ndc_model.specs.World.{World, cluster_at, shards_of}
-use Rattle.ndc_network.specs.Conditions.{MayDoAll, MaySettle, MayWork, late_jobs}
+use Rattle.ndc_model.specs.World.{World, cluster_at}
+use Rattle.ndc_network.specs.Conditions.{MayDoAll, MaySettle, MayWork, again_jobs, late_jobs}
 use Rattle.ndc_rounds.specs.Rounds.{Condition}
 
 -- a job for the shard of a workflow
 abbrev pub job_for : Header → Name → Name → Job → ShardJob
 job_for header domain workflow asked = record { shard = shard_of domain workflow header.shards; job = asked }
-
--- the jobs in which the ancestors of what is put off arrive, that have not arrived
-abbrev pub again_jobs : Header → ClusterNo → World → List ShardJob
-again_jobs header reader w = all_arrive (sent_again header reader w) (shards_of header)
 
 -- the jobs in which the messages of the letters of a cluster arrive
 abbrev pub letter_jobs : Header → ClusterNo → World → List ShardJob

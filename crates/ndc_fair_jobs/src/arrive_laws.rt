@@ -4,11 +4,11 @@ ghost use Rattle.ndc_act.specs.WellFormed.{AreTwoClusters, IsCluster};
 ghost use Rattle.ndc_act.specs.declared.script.Header.{Header as Head};
 ghost use Rattle.ndc_cells.specs.declared.message.Message.{Message as Sent};
 ghost use Rattle.ndc_domain.specs.declared.clusters.ClusterNo.{ClusterNo as Number};
-ghost use Rattle.ndc_fair_jobs.specs.Lines.{again_jobs, letter_jobs};
+ghost use Rattle.ndc_fair_jobs.specs.Lines.{letter_jobs};
 ghost use Rattle.ndc_model.specs.Facts.{IsReached};
 ghost use Rattle.ndc_model.specs.Fair.{IsMessageTrue};
 ghost use Rattle.ndc_model.specs.World.{World, cell_at};
-ghost use Rattle.ndc_network.specs.Conditions.{MayDoAll, due_jobs, flight_jobs, late_jobs};
+ghost use Rattle.ndc_network.specs.Conditions.{MayDoAll, again_jobs, due_jobs, flight_jobs, late_jobs};
 ghost use Rattle.ndc_workflow.specs.Allowed.{IsAllowed, MayArrive};
 
 /// A message of what was written may arrive at each cluster, in the shard where its workflow lives.

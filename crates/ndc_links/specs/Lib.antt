@@ -1,3 +1,4 @@
+pub mod Lacking
 pub mod LinkFields
 pub mod Links
 pub mod QueuesFields

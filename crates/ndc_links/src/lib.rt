@@ -5,6 +5,7 @@ mod addressed;
 mod lane;
 mod link;
 mod queues;
+mod reads;
 mod serves;
 mod writes;
 
@@ -12,6 +13,7 @@ pub use addressed::{Learns, is_addressed, is_named};
 pub use lane::Lane;
 pub use link::Link;
 pub use queues::Queues;
+pub use reads::{Lacking, Reads};
 pub use serves::Serves;
 pub use writes::Writes;
 

@@ -4,7 +4,7 @@ use Rattle.std.specs.List.{fold}
 use Rattle.ndc_act.specs.declared.script.Header.{Header}
 use Rattle.ndc_cells.specs.declared.job.ShardJob.{ShardJob}
 use Rattle.ndc_domain.specs.declared.clusters.ClusterNo.{ClusterNo}
-use Rattle.ndc_model.specs.Moves.{Trace, all_arrive, all_reapply, bootstrapped, by_link, due, due_arrived, flights_arrived, from_world, in_flight, learned_of_domains, merged_all, quietly, reapplied_all, settled_once, without_flights}
+use Rattle.ndc_model.specs.Moves.{Trace, all_arrive, all_reapply, bootstrapped, by_link, due, due_arrived, flights_arrived, from_world, in_flight, learned_of_domains, merged_all, quietly, reapplied_all, sent_again, settled_once, without_flights}
 use Rattle.ndc_model.specs.World.{World, all_clusters, cell_at, cluster_at, home_at, link_at, others_of, shards_of}
 use Rattle.ndc_rounds.specs.Rounds.{AreAllowed, Condition}
 
@@ -23,6 +23,10 @@ due_jobs header reader w = all_arrive (by_link reader (due w) w.links) (shards_o
 -- the jobs in which all arrives that a source has learned of the domains of which a reader is a member late
 abbrev pub late_jobs : Header → ClusterNo → ClusterNo → World → List ShardJob
 late_jobs header reader source w = all_arrive (λ shard. learned_of_domains (link_at reader source w).late (cell_at source shard w)) (shards_of header)
+
+-- the jobs in which the ancestors of what is put off arrive, that have not arrived
+abbrev pub again_jobs : Header → ClusterNo → World → List ShardJob
+again_jobs header reader w = all_arrive (sent_again header reader w) (shards_of header)
 
 -- a cluster may work: what is in flight to it may arrive, and then each cell may apply its strays again
 pub record MayWork (allows : Condition) (header : Header) (reader : ClusterNo) (w : World) : Type 0 where

@@ -10,6 +10,7 @@ mod opening;
 mod pulling;
 mod records;
 mod renewing;
+mod resending;
 mod settling;
 mod taking;
 mod trimming;
