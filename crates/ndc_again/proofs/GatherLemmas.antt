@@ -51,9 +51,9 @@ module _ (all held off : List Batch) where
       more (one ∷ ones) started = (still one started.0, more ones started.1)
 
   -- the key that is wanted is gathered, and the earlier key of its batch is wanted next
-  pub gathered-with : IsSet all → (begun keys : List BatchKey) (key : BatchKey) (b : Batch) → batch_at key all ≡ Some b → batch_at key held ≡ None → IsGathered all held off begun keys (Some key)
+  pub gathered-with : (begun keys : List BatchKey) (key : BatchKey) (b : Batch) → batch_at key all ≡ Some b → batch_at key held ≡ None → IsGathered all held off begun keys (Some key)
       → IsGathered all held off begun (with_key key keys) (earlier b)
-  gathered-with set begun keys key b at gone g = record {
+  gathered-with begun keys key b at gone g = record {
     rise = rise-with key keys g.rise;
     each = all-with (IsMissing all held off) key keys (record { batch = b; there = at; gone = gone; above = above }) g.each;
     closed = λ x other has among e. closes x other has e (with-either key x.key keys (among-key x.key (with_key key keys) among));

@@ -5,3 +5,5 @@ pub mod GatherLemmas
 pub mod ReachLemmas
 pub mod GroupLemmas
 pub mod AgainLemmas
+pub mod StepLemmas
+pub mod AboveLemmas

@@ -5,6 +5,7 @@ use Rattle.ndc_act.specs.declared.script.Header.{Header}
 use Rattle.ndc_again.specs.Authors.{message_by_author}
 use Rattle.ndc_again.specs.Gathered.{AreGathered, IsGathered}
 use Rattle.ndc_cells.specs.declared.message.Message.{Message}
+use Rattle.ndc_cells.specs.declared.place.Place.{Place}
 use Rattle.ndc_cells.specs.Cells.{Cell, arrived_of, own_message, put_off_in}
 use Rattle.ndc_cells.specs.Places.{is_of}
 use Rattle.ndc_domain.specs.declared.clusters.ClusterNo.{ClusterNo}
@@ -33,3 +34,7 @@ messages_by_authors header shard w domain workflow keys = filter_map (λ key. me
 abbrev pub sent_again_of : Header → ClusterNo → World → ℕ → Name → Name → List Message
 sent_again_of header reader w shard domain workflow =
     messages_among (all_written header shard w) (filter (is_of domain workflow) (missing_ancestors (all_written header shard w) (cell_at reader shard w)))
+
+-- the same of the workflow of a place
+abbrev pub sent_again_at : Header → ClusterNo → World → ℕ → Place → List Message
+sent_again_at header reader w shard place = sent_again_of header reader w shard place.domain place.workflow

@@ -1,3 +1,4 @@
+pub mod AgainLemmas
 pub mod AllowedLemmas
 pub mod FlightLemmas
 pub mod LinkLemmas

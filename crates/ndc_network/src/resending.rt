@@ -1,17 +1,17 @@
-ghost use Rattle.std.specs.Prelude.{◌≡◌, ◌<◌, ◌++◌, [], List, map, None, Some, IfSome, IfNone, IfOk, OnOk};
-ghost use Rattle.std.specs.List.{IsAmong, filter, range_with_len};
+ghost use Rattle.std.specs.Prelude.{◌≡◌, ◌<◌, ◌++◌, List, length, map, None, Some, IfSome, IfNone, IfOk, OnOk};
+ghost use Rattle.std.specs.List.{AllByRecursion, IsAmong, filter, flat_map};
 ghost use Rattle.std.specs.Option.{option_copied};
 ghost use Rattle.ndc_act.specs.WellFormed.{IsCluster};
-ghost use Rattle.ndc_again.specs.Again.{AreGatheredFor, IsGatheredFor, messages_by_authors, sent_again_of};
-ghost use Rattle.ndc_again.specs.Authors.{cell_by, message_by_author};
+ghost use Rattle.ndc_again.specs.Again.{AreGatheredFor, IsGatheredFor, messages_by_authors, sent_again_at, sent_again_of};
+ghost use Rattle.ndc_again.specs.Authors.{batch_by_author, cell_by, message_by_author};
 ghost use Rattle.ndc_again.specs.Steps.{keys_to};
-ghost use Rattle.ndc_cells.specs.Cells.{empty_cell, put_off_in};
-ghost use Rattle.ndc_cells.specs.Jobs.{workflows_of};
+ghost use Rattle.ndc_cells.specs.Cells.{empty_cell, learned_of, put_off_in};
+ghost use Rattle.ndc_cells.specs.Jobs.{cell_for};
 ghost use Rattle.ndc_cells.specs.Places.{is_of, place_of};
-ghost use Rattle.ndc_cells.specs.declared.place.Place.{Place as Spot};
 ghost use Rattle.ndc_domain.specs.Clusters.{writer_of};
 ghost use Rattle.ndc_event.specs.declared.key.BatchKey.{BatchKey as Key};
 ghost use Rattle.ndc_fair_lines.specs.Sometime.{IsReachedSometime};
+ghost use Rattle.ndc_links.specs.Lacking.{all_lacking};
 ghost use Rattle.ndc_model.specs.Fair.{IsShaped};
 ghost use Rattle.ndc_model.specs.Moves.{all_written, arrives, resent, sent_again};
 ghost use Rattle.ndc_model.specs.World.{cell_at};
@@ -27,7 +27,7 @@ use ndc_again::Keys;
 use ndc_cells::{Message, Place, ShardJob};
 use ndc_domain::ClusterNo;
 use ndc_event::{Batch, BatchKey, Name};
-use ndc_links::Reads;
+use ndc_links::{Lacking, Reads};
 use ndc_port::Gate;
 use std::alloc::{AllocError, Global};
 use std::thread::Threads;
@@ -42,6 +42,30 @@ fn earlier_key(batch: &Batch) -> Option<BatchKey>
     }
 }
 
+/// The cell of a shard.
+fn cell_of<C: Reads>(cells: &[C], shard: u32, shards: u32) -> &C
+    requires shard { shard < shards }
+    requires cells { length cells.now ≡ shards }
+    ensures { C.cell result.now ≡ cell_for shard (map C.cell cells.now) }
+{
+    &cells[shard as usize]
+}
+
+/// The batch of a key of a workflow that a cell has learned.
+fn learned_at<'a, C: Reads>(
+    cell: &'a C,
+    domain: &Name,
+    workflow: &Name,
+    key: BatchKey,
+) -> Option<&'a Batch>
+    ensures { option_copied result ≡ batch_at key (learned_of domain.now workflow.now (C.cell cell.now)) }
+{
+    match cell.runs(domain, workflow) {
+        Some(runs) => runs.get(key),
+        None => None,
+    }
+}
+
 impl<C: Reads + Drop> Network<C> {
     /// The cell, for a shard, of the cluster that writes with a version.
     fn author(&self, header: &Header, shard: u32, version: u64) -> Option<&C>
@@ -52,10 +76,29 @@ impl<C: Reads + Drop> Network<C> {
     {
         let cluster = header.clusters.writer_of(version)?;
         let cells = self.sites[cluster.number as usize].cells();
-        Some(&cells[shard as usize])
+        Some(cell_of(cells, shard, header.shards))
     }
 
-    /// The batch of a key of a workflow, as its author has learned it: the one that was written.
+    /// The batch of a key of a workflow, as its author has learned it.
+    fn find_learned(
+        &self,
+        header: &Header,
+        shard: u32,
+        domain: &Name,
+        workflow: &Name,
+        key: BatchKey,
+    ) -> Option<&Batch>
+        requires shard { shard < header.now.shards }
+        requires shaped { IsShaped header.now self.now }
+        ensures { option_copied result ≡ batch_by_author header.now shard self.now (record { domain = domain.now; workflow = workflow.now; key = key }) }
+    {
+        match self.author(header, shard, key.version) {
+            Some(cell) => learned_at(cell, domain, workflow, key),
+            None => None,
+        }
+    }
+
+    /// The batch of a key of a workflow that was written: its author has learned it.
     fn find_written(
         &self,
         header: &Header,
@@ -68,9 +111,7 @@ impl<C: Reads + Drop> Network<C> {
         requires reached { IsReachedSometime header.now self.now }
         ensures { option_copied result ≡ batch_at key (filter (is_of domain.now workflow.now) (all_written header.now shard self.now)) }
     {
-        let cell = self.author(header, shard, key.version)?;
-        let runs = cell.runs(domain, workflow)?;
-        runs.get(key)
+        self.find_learned(header, shard, domain, workflow, key)
     }
 
     /// The message of a key of a workflow, as its author has learned it. A carried batch has none of its own.
@@ -101,7 +142,7 @@ impl<C: Reads + Drop> Network<C> {
         ensures { C.cell result.now ≡ cell_at reader shard self.now }
     {
         let cells = self.sites[reader.number as usize].cells();
-        &cells[shard as usize]
+        cell_of(cells, shard, header.shards)
     }
 
     /// Gathers a key, where its batch was written and has not arrived at the reader, and tells the key that is wanted next:
@@ -165,6 +206,31 @@ impl<C: Reads + Drop> Network<C> {
         Ok(())
     }
 
+    /// Gathers what lies above all that is put off of a workflow, up to what has arrived at the reader.
+    fn gather_all(
+        &self,
+        alloc: Global,
+        header: &Header,
+        reader: ClusterNo,
+        shard: u32,
+        domain: &Name,
+        workflow: &Name,
+        lacking: &[Lacking],
+    ) -> Result<Keys, AllocError>
+        requires reader { IsCluster header.now reader }
+        requires shard { shard < header.now.shards }
+        requires reached { IsReachedSometime header.now self.now }
+        requires lacking { lacking.now ≡ all_lacking domain.now workflow.now (cell_at reader shard self.now) }
+        ensures { IfOk result (λ keys. AreGatheredFor (all_written header.now shard self.now) (cell_at reader shard self.now) domain.now workflow.now keys) }
+    {
+        let mut keys = Keys::new(alloc);
+        for &one in lacking {
+            let missing = one.missing;
+            self.gather_up(header, reader, shard, domain, workflow, &mut keys, missing)?;
+        }
+        Ok(keys)
+    }
+
     /// Gathers the keys of all that is missing of a workflow at a reader.
     fn gather(
         &self,
@@ -180,21 +246,10 @@ impl<C: Reads + Drop> Network<C> {
         requires reached { IsReachedSometime header.now self.now }
         ensures { IfOk result (λ keys. AreGatheredFor (all_written header.now shard self.now) (cell_at reader shard self.now) domain.now workflow.now keys.items) }
     {
-        let mut keys = Keys::new(alloc);
-        let lacking = self
-            .reader_cell(header, reader, shard)
-            .put_off(alloc, domain, workflow)?;
-        for &one in lacking.as_slice() {
-            self.gather_up(
-                header,
-                reader,
-                shard,
-                domain,
-                workflow,
-                &mut keys,
-                one.missing,
-            )?;
-        }
+        let cell = self.reader_cell(header, reader, shard);
+        let lacking = cell.put_off(alloc, domain, workflow)?;
+        let lacking = lacking.as_slice();
+        let keys = self.gather_all(alloc, header, reader, shard, domain, workflow, lacking)?;
         keys.to_vec(alloc)
     }
 
@@ -244,6 +299,29 @@ impl<C: Reads + Drop> Network<C> {
         Ok(messages)
     }
 
+    /// Adds jobs in which all arrives that a reader is sent again of the workflows of these places, in order.
+    fn add_places(
+        &self,
+        alloc: Global,
+        jobs: &mut Vec<ShardJob>,
+        header: &Header,
+        reader: ClusterNo,
+        shard: u32,
+        places: &[Place],
+    ) -> Result<(), AllocError>
+        requires reader { IsCluster header.now reader }
+        requires shard { shard < header.now.shards }
+        requires reached { IsReachedSometime header.now self.now }
+        requires behind { AllByRecursion (IsAmong (map place_of (put_off_in (cell_at reader shard self.now)))) places.now }
+        ensures { OnOk result (jobs.new.items ≡ jobs.old.items ++ map (arrives shard) (flat_map (sent_again_at header.now reader self.now shard) places.now)) }
+    {
+        for place in places {
+            let messages = self.sent_of(alloc, header, reader, shard, place)?;
+            add_jobs(jobs, shard, messages)?;
+        }
+        Ok(())
+    }
+
     /// Adds jobs in which all arrives that a reader is sent again for a shard, in order of place.
     fn add_again(
         &self,
@@ -258,12 +336,9 @@ impl<C: Reads + Drop> Network<C> {
         requires reached { IsReachedSometime header.now self.now }
         ensures { OnOk result (jobs.new.items ≡ jobs.old.items ++ map (arrives shard) (sent_again header.now reader self.now shard)) }
     {
-        let behind = self.reader_cell(header, reader, shard).behind(alloc)?;
-        for place in behind.as_slice() {
-            let messages = self.sent_of(alloc, header, reader, shard, place)?;
-            add_jobs(jobs, shard, messages)?;
-        }
-        Ok(())
+        let cell = self.reader_cell(header, reader, shard);
+        let behind = cell.behind(alloc)?;
+        self.add_places(alloc, jobs, header, reader, shard, behind.as_slice())
     }
 
     /// Jobs in which all arrives that a reader is sent again, by shard and then by place.
