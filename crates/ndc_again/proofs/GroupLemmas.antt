@@ -157,7 +157,7 @@ parted h (b ∷ bs) order each = by (is_of h.domain h.workflow b) refl (each b (
     by : (t : Bool) → is_of h.domain h.workflow b ≡ t → (is_of h.domain h.workflow b ≡ true) ⊎ IsEarlier h b
         → filter (is_of h.domain h.workflow) bs ++ filter (λ other. not (is_of h.domain h.workflow other)) bs ≡ bs
         → cond t (b ∷ filter (is_of h.domain h.workflow) bs) (filter (is_of h.domain h.workflow) bs)
-            ++ cond (not t) (b ∷ filter (λ other. not (is_of h.domain h.workflow other)) bs) (filter (λ other. not (is_of h.domain h.workflow other)) bs) ≡ b ∷ bs
+        ++ cond (not t) (b ∷ filter (λ other. not (is_of h.domain h.workflow other)) bs) (filter (λ other. not (is_of h.domain h.workflow other)) bs) ≡ b ∷ bs
     by true e which rest = ap (λ l. b ∷ l) rest
     by false e (inl own) rest = absurd (true≢false (sym own ∙ e))
     by false e (inr early) rest =

@@ -4,6 +4,9 @@
 
 pub mod again_laws;
 pub mod author_laws;
-mod keys;
+mod key_set;
 
-pub use keys::Keys;
+pub use key_set::KeySet;
+
+#[cfg(test)]
+mod tests;

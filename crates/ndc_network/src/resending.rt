@@ -23,7 +23,7 @@ use crate::network::Network;
 use crate::taking::add_jobs;
 use crate::working::Done;
 use ndc_act::Header;
-use ndc_again::Keys;
+use ndc_again::KeySet;
 use ndc_cells::{Message, Place, ShardJob};
 use ndc_domain::ClusterNo;
 use ndc_event::{Batch, BatchKey, Name};
@@ -154,7 +154,7 @@ impl<C: Reads + Drop> Network<C> {
         shard: u32,
         domain: &Name,
         workflow: &Name,
-        keys: &mut Keys,
+        keys: &mut KeySet,
         key: BatchKey,
     ) -> Result<Option<BatchKey>, AllocError>
         requires reader { IsCluster header.now reader }
@@ -188,7 +188,7 @@ impl<C: Reads + Drop> Network<C> {
         shard: u32,
         domain: &Name,
         workflow: &Name,
-        keys: &mut Keys,
+        keys: &mut KeySet,
         key: BatchKey,
     ) -> Result<(), AllocError>
         requires reader { IsCluster header.now reader }
@@ -216,14 +216,14 @@ impl<C: Reads + Drop> Network<C> {
         domain: &Name,
         workflow: &Name,
         lacking: &[Lacking],
-    ) -> Result<Keys, AllocError>
+    ) -> Result<KeySet, AllocError>
         requires reader { IsCluster header.now reader }
         requires shard { shard < header.now.shards }
         requires reached { IsReachedSometime header.now self.now }
         requires lacking { lacking.now ≡ all_lacking domain.now workflow.now (cell_at reader shard self.now) }
         ensures { IfOk result (λ keys. AreGatheredFor (all_written header.now shard self.now) (cell_at reader shard self.now) domain.now workflow.now keys) }
     {
-        let mut keys = Keys::new(alloc);
+        let mut keys = KeySet::new(alloc);
         for &one in lacking {
             let missing = one.missing;
             self.gather_up(header, reader, shard, domain, workflow, &mut keys, missing)?;

@@ -1,19 +1,21 @@
 ghost use Rattle.std.specs.Prelude.{◌≡◌, length, IfOk};
 ghost use Rattle.ndc_domain.specs.Clusters.{count_of};
+ghost use Rattle.ndc_fair_lines.specs.Sometime.{IsReachedSometime};
 ghost use Rattle.ndc_model.specs.Facts.{IsReached};
 ghost use Rattle.ndc_network.specs.Networks.{opening_site};
 ghost use Rattle.ndc_network.specs.Orderly.{IsOrderly};
 
 use super::*;
 use ndc_act::Header;
-use ndc_cells::{Job, JobReply, Message};
+use ndc_cells::{Job, JobReply, Message, Place};
 use ndc_domain::{ClusterNo, Clusters, DomainTable, Members};
 use ndc_event::{BatchKey, Name};
 use ndc_graceful::{Handover, Places};
-use ndc_links::{Learns, Serves, Writes};
+use ndc_links::{Lacking, Learns, Reads, Serves, Writes};
 use ndc_port::OpenGate;
 use ndc_queue::{FlightError, NoSuchPlace};
 use ndc_rounds::{Desk, Works};
+use ndc_runs::Runs;
 use ndc_sites::Site;
 use std::alloc::{AllocError, Global};
 use std::test::Fail;
@@ -59,6 +61,39 @@ impl Serves for ListCell {
     }
 }
 
+impl Reads for ListCell {
+    fn runs(&self, _domain: &Name, _workflow: &Name) -> Option<&Runs> {
+        None
+    }
+
+    fn has_arrived(&self, _domain: &Name, _workflow: &Name, _key: BatchKey) -> bool {
+        false
+    }
+
+    fn behind(&self, alloc: Global) -> Result<Vec<Place>, AllocError> {
+        Ok(Vec::new(alloc))
+    }
+
+    fn put_off(
+        &self,
+        alloc: Global,
+        _domain: &Name,
+        _workflow: &Name,
+    ) -> Result<Vec<Lacking>, AllocError> {
+        Ok(Vec::new(alloc))
+    }
+
+    fn message_at(
+        &self,
+        _alloc: Global,
+        _domain: &Name,
+        _workflow: &Name,
+        _key: BatchKey,
+    ) -> Result<Option<Message>, AllocError> {
+        Ok(None)
+    }
+}
+
 /// A cluster with one cell.
 fn site(alloc: Global) -> Result<Site<ListCell>, AllocError>
     ensures { IfOk result (λ site. site ≡ opening_site 1) }
@@ -83,6 +118,7 @@ fn in_the_beginning(alloc: Global) -> Result<Opened, Fail>
     ensures members { IfOk result (λ opened. count_of opened.header.clusters ≡ 2) }
     ensures shards { IfOk result (λ opened. opened.header.shards ≡ 1) }
     ensures reached { IfOk result (λ opened. IsReached opened.header 0 opened.network) }
+    ensures sometime { IfOk result (λ opened. IsReachedSometime opened.header opened.network) }
     ensures orderly { IfOk result (λ opened. IsOrderly opened.header opened.network) }
 {
     let mut members = Vec::new(alloc);
@@ -191,6 +227,19 @@ fn nothing_is_late_in_the_beginning(rt: HostRuntime) -> Result<(), Fail> {
     let reader = ClusterNo { number: 0 };
     let source = ClusterNo { number: 1 };
     let done = network.bootstrap(&rt, alloc, &OpenGate {}, 2, &header, reader, source)?;
+    assert!(rt; done.jobs.is_empty() && done.replies.is_empty());
+    Ok(())
+}
+
+#[test]
+fn nothing_is_sent_again_in_the_beginning(rt: HostRuntime) -> Result<(), Fail> {
+    let alloc = rt.alloc();
+    let Opened {
+        header,
+        mut network,
+    } = in_the_beginning(alloc)?;
+    let reader = ClusterNo { number: 0 };
+    let done = network.resend(&rt, alloc, &OpenGate {}, 2, &header, reader)?;
     assert!(rt; done.jobs.is_empty() && done.replies.is_empty());
     Ok(())
 }

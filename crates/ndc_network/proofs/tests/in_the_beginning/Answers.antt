@@ -1,5 +1,6 @@
-use Rattle.std.proofs.Common.{sym, subst}
+use Rattle.std.proofs.Common.{arith, sym, subst}
 use Rattle.ndc_act.specs.declared.script.Header.{Header}
+use Rattle.ndc_fair_lines.specs.Sometime.{IsReachedSometime}
 use Rattle.ndc_model.proofs.FairLemmas.{opening_reached}
 use Rattle.ndc_model.specs.Facts.{IsReached}
 use Rattle.ndc_model.specs.World.{opening_world}
@@ -15,3 +16,8 @@ returns-clause-orderly c =
     let header : Header = record { clusters = c.in_ok-build.field-0; shards = 1; limit = 100 } in
     let is : IsReached header 0 (opening_world header) = opening_reached header in
     subst (IsOrderly header) (sym c.in_ok-network.ensures) (orderly_fair header (opening_world header) is.shaped is.fair.lanes)
+
+pub returns-clause-sometime : goal.returns-clause-sometime
+returns-clause-sometime c =
+    let header : Header = record { clusters = c.in_ok-build.field-0; shards = 1; limit = 100 } in
+    subst (IsReachedSometime header) (sym c.in_ok-network.ensures) (record { lines = 0; most = omega arith; reached = opening_reached header })

@@ -5,11 +5,11 @@ use std::marker::Model;
 
 /// Keys of batches, each once. Seen as their list, ascending.
 #[derive(Drop)]
-pub struct Keys {
+pub struct KeySet {
     keys: BTreeSet<BatchKey>,
 }
 
-impl Model for Keys {
+impl Model for KeySet {
     ghost use Rattle.std.specs.Prelude.{List};
     ghost use Rattle.ndc_event.specs.declared.key.BatchKey.{BatchKey};
 
@@ -18,15 +18,15 @@ impl Model for Keys {
     ghost view = { λ gathered. gathered.keys.keys };
 }
 
-impl Keys {
+impl KeySet {
     ghost use Rattle.std.specs.Prelude.{◌≡◌, [], IfOk, OnOk, OnErr};
     ghost use Rattle.ndc_tree.specs.Tips.{is_key_among, with_key};
 
     /// There is no key. Takes no memory.
-    pub fn new(alloc: Global) -> Keys
+    pub fn new(alloc: Global) -> KeySet
         ensures { result ≡ [] }
     {
-        Keys {
+        KeySet {
             keys: BTreeSet::new(alloc),
         }
     }
