@@ -1,17 +1,16 @@
 -- Keys are gathered in a world as it should be.
-use Rattle.std.proofs.Common.{◌≡◌, ℕ, ◌<◌, Bool, true, false, not, List, [], ◌∷◌, ◌++◌, Option, Some, None, inl, inr, refl, sym, ◌∙◌, subst, ap}
+use Rattle.std.proofs.Common.{◌≡◌, ℕ, ◌<◌, Bool, true, false, not, List, [], ◌∷◌, ◌++◌, Option, Some, None, inl, inr, sym, ◌∙◌, subst, ap}
 use Rattle.std.specs.List.{filter}
 use Rattle.std.specs.Prelude.{is_some}
 use Rattle.ndc_act.specs.WellFormed.{IsCluster}
 use Rattle.ndc_act.specs.declared.script.Header.{Header}
 use Rattle.ndc_again.specs.Again.{IsGatheredFor}
 use Rattle.ndc_again.specs.Authors.{batch_by_author}
-use Rattle.ndc_again.specs.Gathered.{IsAbove, missing_key}
+use Rattle.ndc_again.specs.Gathered.{missing_key}
 use Rattle.ndc_again.specs.Steps.{keys_to}
 use Rattle.ndc_again.proofs.AuthorLemmas.{by-author}
 use Rattle.ndc_again.proofs.GatherLemmas.{gathered-begun, gathered-done, gathered-with, missing-is-above}
 use Rattle.ndc_again.proofs.StepLemmas.{keys-smaller}
-use Rattle.ndc_cells.specs.declared.place.Place.{Place}
 use Rattle.ndc_cells.specs.Cells.{Cell, arrived_of, is_learned_in, put_off_in}
 use Rattle.ndc_cells.specs.Places.{batch_there, is_of}
 use Rattle.ndc_cells.proofs.PlaceLemmas.{rise-own, set_of_workflow}

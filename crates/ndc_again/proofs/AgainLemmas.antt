@@ -1,13 +1,13 @@
 -- What is sent again, from what is gathered.
 use Rattle.std.proofs.Common.{◌≡◌, ℕ, ◌<◌, Bool, true, false, not, cond, List, [], ◌∷◌, map, Option, Some, None, ◌⊎◌, inl, inr, refl, sym, ◌∙◌, subst, ap, true≢false}
-use Rattle.std.specs.List.{IsAmong, cons_option, filter, filter_map, flat_map}
+use Rattle.std.specs.List.{cons_option, filter, filter_map, flat_map}
 use Rattle.std.specs.Prelude.{is_some}
 use Rattle.std.specs.Str.{bytes_eq}
 use Rattle.std.proofs.lemmas.Bool.{and_from}
 use Rattle.std.proofs.lemmas.Slice.Eq.{bytes_eq-Decides}
 use Rattle.ndc_act.specs.WellFormed.{IsCluster}
 use Rattle.ndc_act.specs.declared.script.Header.{Header}
-use Rattle.ndc_again.specs.Authors.{author_cell, cell_by, message_by_author}
+use Rattle.ndc_again.specs.Authors.{cell_by, message_by_author}
 use Rattle.ndc_again.specs.Gathered.{AreGathered, IsMissing}
 use Rattle.ndc_again.proofs.AuthorLemmas.{has-author}
 use Rattle.ndc_again.proofs.GroupLemmas.{by-workflow, order-left}
@@ -26,7 +26,7 @@ use Rattle.ndc_event.specs.declared.batch.Batch.{Batch}
 use Rattle.ndc_event.specs.declared.key.BatchKey.{BatchKey}
 use Rattle.ndc_event.specs.declared.name.Name.{Name}
 use Rattle.ndc_fair_arrivals.proofs.ArrivalLemmas.{none-is}
-use Rattle.ndc_fair_arrivals.proofs.FoundLemmas.{at-there, in_order-ordered, order-finds}
+use Rattle.ndc_fair_arrivals.proofs.FoundLemmas.{at-there, in_order-ordered}
 use Rattle.ndc_fair_arrivals.proofs.ManyLemmas.{among-flat}
 use Rattle.ndc_fair_arrivals.proofs.MessageLemmas.{learned-arrived, learned-true}
 use Rattle.ndc_fair_arrivals.proofs.WrittenLemmas.{arrived-written, cell-is, flat-among, in_order-among, names-of, one-written, own-names, sound-of}
@@ -41,7 +41,7 @@ use Rattle.ndc_sets.specs.Sets.{Has, IsSet, Rise, batch_at}
 use Rattle.ndc_sets.specs.Sound.{IsSound}
 use Rattle.ndc_sets.proofs.BranchLemmas.{among-has, has-among}
 use Rattle.ndc_sets.proofs.LearnedLemmas.{IsSet-learned}
-use Rattle.ndc_sets.proofs.Lists.{Among, all-among, all-from, among-filter, among-map, filter-among, map-among}
+use Rattle.ndc_sets.proofs.Lists.{Among, all-among, among-filter, among-map, filter-among, map-among}
 use Rattle.ndc_sets.proofs.SetLemmas.{found-has, found-key}
 
 -- what is learned of a workflow, by place and by key

@@ -1,17 +1,16 @@
 -- The author of a batch has learned it.
 use Rattle.std.specs.List.{flat_map}
-use Rattle.std.proofs.Common.{◌≡◌, ℕ, ◌<◌, Bool, true, false, List, [], ◌∷◌, Option, Some, None, ◌⊎◌, inl, inr, refl, sym, ◌∙◌, subst, ap}
+use Rattle.std.proofs.Common.{◌≡◌, ℕ, ◌<◌, List, [], Option, Some, None, ◌⊎◌, inl, inr, refl, sym, ◌∙◌, subst}
 use Rattle.ndc_act.specs.WellFormed.{IsCluster}
 use Rattle.ndc_act.specs.declared.script.Header.{Header}
 use Rattle.ndc_again.specs.Authors.{batch_by_author, cell_by}
 use Rattle.ndc_cells.specs.declared.place.Place.{Place}
-use Rattle.ndc_cells.specs.Cells.{both, empty_cell, learned_of}
-use Rattle.ndc_cells.specs.Places.{batch_there, is_of, place_of}
+use Rattle.ndc_cells.specs.Cells.{both, learned_of}
+use Rattle.ndc_cells.specs.Places.{batch_there, place_of}
 use Rattle.ndc_domain.specs.Clusters.{count_of, writer_of}
 use Rattle.ndc_domain.proofs.Writers.{rest_of_writer}
 use Rattle.ndc_domain.specs.declared.clusters.ClusterNo.{ClusterNo}
 use Rattle.ndc_event.specs.declared.batch.Batch.{Batch}
-use Rattle.ndc_event.specs.declared.name.Name.{Name}
 use Rattle.ndc_fair_arrivals.proofs.FoundLemmas.{order-finds, there-among, there-place}
 use Rattle.ndc_fair_arrivals.proofs.MessageLemmas.{learned-arrived}
 use Rattle.ndc_fair_arrivals.proofs.WrittenLemmas.{arrived-written, flat-among, in_order-among, names-of, ordered}
@@ -20,7 +19,7 @@ use Rattle.ndc_model.specs.Fair.{IsOwn}
 use Rattle.ndc_model.specs.Moves.{all_written}
 use Rattle.ndc_model.specs.World.{World, all_clusters, cell_at, cluster_at}
 use Rattle.ndc_model.proofs.FairLemmas.{clusters-among}
-use Rattle.ndc_sets.specs.Sets.{Has, batch_at}
+use Rattle.ndc_sets.specs.Sets.{batch_at}
 use Rattle.ndc_sets.proofs.Lists.{Among, all-among}
 use Rattle.ndc_sets.proofs.SetLemmas.{found-has, found-key}
 

@@ -1,6 +1,6 @@
 -- Keys of what is missing are gathered.
-use Rattle.std.proofs.Common.{◌≡◌, Bool, true, false, List, [], ◌∷◌, ◌++◌, Option, Some, None, ◌⊎◌, inl, inr, refl, sym, ◌∙◌, subst, ap, true≢false}
-use Rattle.std.specs.Prelude.{is_some, unwrap_or}
+use Rattle.std.proofs.Common.{◌≡◌, List, [], ◌∷◌, ◌++◌, Option, Some, None, ◌⊎◌, inl, inr, refl, sym, ◌∙◌, subst, ap, true≢false}
+use Rattle.std.specs.Prelude.{unwrap_or}
 use Rattle.std.specs.List.{AllByRecursion, IsAmong}
 use Rattle.ndc_again.specs.Gathered.{IsAbove, IsDone, IsGathered, IsMissing, missing_key}
 use Rattle.ndc_again.proofs.KeyLists.{all-with, among-key, key-among, rise-with, with-either, with-itself, with-others}
@@ -8,12 +8,12 @@ use Rattle.ndc_again.proofs.WayLemmas.{extend, missing-above}
 use Rattle.ndc_cells.specs.Cells.{missing_of}
 use Rattle.ndc_event.specs.declared.batch.Batch.{Batch}
 use Rattle.ndc_event.specs.declared.key.BatchKey.{BatchKey}
-use Rattle.ndc_sets.specs.Learned.{IsPart, WaitsFor, has_key, itself}
+use Rattle.ndc_sets.specs.Learned.{IsPart, WaitsFor, itself}
 use Rattle.ndc_sets.specs.Sets.{Has, IsSet, batch_at, earlier}
-use Rattle.ndc_sets.proofs.BranchLemmas.{among-has, has-among}
+use Rattle.ndc_sets.proofs.BranchLemmas.{among-has}
 use Rattle.ndc_sets.proofs.Lists.{Among}
 use Rattle.ndc_sets.proofs.SetLemmas.{found-has, found-key, has-found}
-use Rattle.ndc_tree.specs.Tips.{is_key_among, with_key}
+use Rattle.ndc_tree.specs.Tips.{with_key}
 
 -- nothing is gathered in the beginning
 pub gathered-none : (all held off : List Batch) → IsGathered all held off [] [] None

@@ -1,5 +1,5 @@
 -- Batches in order, workflow by workflow.
-use Rattle.std.proofs.Common.{◌≡◌, Bool, true, false, ◌&&◌, not, cond, List, [], ◌∷◌, ◌++◌, Option, ◌⊎◌, inl, inr, refl, sym, ◌∙◌, subst, ap, true≢false}
+use Rattle.std.proofs.Common.{◌≡◌, Bool, true, false, not, cond, List, [], ◌∷◌, ◌++◌, Option, ◌⊎◌, inl, inr, refl, sym, ◌∙◌, subst, ap, true≢false}
 use Rattle.std.specs.List.{AllByRecursion, filter, filter_map, flat_map}
 use Rattle.std.specs.Str.{bytes_eq}
 use Rattle.std.proofs.lemmas.Bool.{and_from, and_parts}
@@ -7,7 +7,7 @@ use Rattle.std.proofs.lemmas.List.Elements.{filter_map-append}
 use Rattle.std.proofs.lemmas.Slice.Eq.{bytes_eq-Decides}
 use Rattle.std.specs.declared.cmp.Ordering.TheVariants.{Less}
 use Rattle.ndc_cells.specs.Jobs.{workflows_of}
-use Rattle.ndc_cells.specs.Places.{AreBehind, AreInOrder, is_of, place_lt, place_of}
+use Rattle.ndc_cells.specs.Places.{AreInOrder, is_of, place_lt, place_of}
 use Rattle.ndc_cells.proofs.PlaceLemmas.{PlaceIsBefore, WorkflowIsBefore, place-from, place-parts, place-trans}
 use Rattle.ndc_fair_arrivals.proofs.FoundLemmas.{place-irrefl}
 use Rattle.ndc_domain.specs.Records.{names_cmp}

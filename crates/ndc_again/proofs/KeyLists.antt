@@ -1,6 +1,6 @@
 -- Lists of keys that rise.
-use Rattle.std.proofs.Common.{◌≡◌, Bool, true, false, ◌||◌, cond, List, [], ◌∷◌, map, ◌⊎◌, inl, inr, refl, sym, ◌∙◌, subst, ap, true≢false}
-use Rattle.std.specs.List.{AllByRecursion, list_any}
+use Rattle.std.proofs.Common.{◌≡◌, Bool, true, false, ◌||◌, cond, List, [], ◌∷◌, map, ◌⊎◌, inl, inr, refl, sym, ◌∙◌, subst, true≢false}
+use Rattle.std.specs.List.{AllByRecursion}
 use Rattle.ndc_again.specs.Gathered.{KeysRise}
 use Rattle.ndc_event.specs.Key.{key_eq, key_lt}
 use Rattle.ndc_event.specs.declared.batch.Batch.{Batch}

@@ -1,11 +1,9 @@
 -- Where all is gathered, each key of an ancestor that has not arrived is.
-use Rattle.std.proofs.Common.{◌≡◌, Bool, true, false, List, [], ◌∷◌, map, Option, Some, None, ◌⊎◌, inl, inr, refl, sym, ◌∙◌, subst, ap, true≢false}
+use Rattle.std.proofs.Common.{◌≡◌, true, false, List, map, Option, Some, None, ◌⊎◌, inl, inr, refl, sym, ◌∙◌, subst, ap, true≢false}
 use Rattle.std.specs.Prelude.{is_some, unwrap_or}
-use Rattle.std.specs.List.{AllByRecursion, IsAmong}
 use Rattle.ndc_again.specs.Gathered.{AreGathered, IsDone, missing_key}
 use Rattle.ndc_again.proofs.KeyLists.{among-key}
 use Rattle.ndc_again.proofs.WayLemmas.{missing-earlier}
-use Rattle.ndc_cells.specs.Cells.{missing_of}
 use Rattle.ndc_event.specs.declared.batch.Batch.{Batch}
 use Rattle.ndc_event.specs.declared.key.BatchKey.{BatchKey}
 use Rattle.ndc_sets.specs.Learned.{IsPart, WaitsFor, behind, has_key, itself, learned}

@@ -1,5 +1,5 @@
 -- Each step upwards leaves fewer keys.
-use Rattle.std.proofs.Common.{◌≡◌, ℕ, ◌<◌, ◌≤◌, Bool, true, false, ◌||◌, cond, List, [], ◌∷◌, length, Some, None, ◌⊎◌, inl, inr, refl, sym, ◌∙◌, subst, ap, arith, true≢false}
+use Rattle.std.proofs.Common.{◌≡◌, ◌<◌, ◌≤◌, Bool, true, false, ◌||◌, cond, List, [], ◌∷◌, length, Some, ◌⊎◌, inl, inr, refl, sym, ◌∙◌, subst, ap, arith, true≢false}
 use Rattle.std.specs.List.{filter}
 use Rattle.ndc_again.specs.Steps.{keys_to}
 use Rattle.ndc_event.specs.Key.{key_eq, key_lt}

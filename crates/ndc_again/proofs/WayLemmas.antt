@@ -1,5 +1,5 @@
 -- What lies above a batch is what is found on the way to its ancestors.
-use Rattle.std.proofs.Common.{◌≡◌, Bool, true, false, cond, List, [], ◌∷◌, Option, Some, None, ◌⊎◌, inl, inr, refl, sym, ◌∙◌, subst, ap, true≢false}
+use Rattle.std.proofs.Common.{◌≡◌, Bool, true, false, cond, List, [], ◌∷◌, Option, Some, None, ◌⊎◌, inl, inr, refl, sym, ◌∙◌, subst, ap}
 use Rattle.ndc_cells.specs.Cells.{ancestors_down, ancestry, missing_of}
 use Rattle.ndc_event.specs.Key.{key_eq}
 use Rattle.ndc_event.specs.declared.batch.Batch.{Batch}

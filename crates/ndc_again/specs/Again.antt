@@ -6,7 +6,7 @@ use Rattle.ndc_again.specs.Authors.{message_by_author}
 use Rattle.ndc_again.specs.Gathered.{AreGathered, IsGathered}
 use Rattle.ndc_cells.specs.declared.message.Message.{Message}
 use Rattle.ndc_cells.specs.declared.place.Place.{Place}
-use Rattle.ndc_cells.specs.Cells.{Cell, arrived_of, own_message, put_off_in}
+use Rattle.ndc_cells.specs.Cells.{Cell, arrived_of, put_off_in}
 use Rattle.ndc_cells.specs.Places.{is_of}
 use Rattle.ndc_domain.specs.declared.clusters.ClusterNo.{ClusterNo}
 use Rattle.ndc_event.specs.declared.batch.Batch.{Batch}
