@@ -1,8 +1,8 @@
 -- What is gathered, looked up and sent again in a world that some lines lead to.
-use Rattle.std.proofs.Common.{◌≡◌, ℕ, zero, suc, ◌<◌, ◌+◌, Bool, true, false, not, List, [], ◌∷◌, ◌++◌, length, get_or, take, map, Option, Some, None, inl, inr, refl, sym, ◌∙◌, subst, ap, arith}
-use Rattle.std.specs.Prelude.{IfSome, is_some}
-use Rattle.std.specs.List.{AllByRecursion, IsAmong, filter, filter_map, flat_map}
-use Rattle.std.proofs.lemmas.List.{map-append, take_more}
+use Rattle.std.proofs.Common.{◌≡◌, ℕ, zero, suc, ◌<◌, ◌≤◌, ◌+◌, Bool, true, false, not, List, [], ◌∷◌, ◌++◌, length, get_or, take, map, Option, Some, None, inl, inr, refl, sym, ◌∙◌, subst, ap, arith}
+use Rattle.std.specs.Prelude.{IfSome, is_some, option_to_list}
+use Rattle.std.specs.List.{AllByRecursion, IsAmong, cons_option, filter, flat_map}
+use Rattle.std.proofs.lemmas.List.{append-nil, append_assoc, map-append, take_all, take_more}
 use Rattle.ndc_act.specs.WellFormed.{IsCluster}
 use Rattle.ndc_act.specs.declared.script.Header.{Header}
 use Rattle.ndc_again.specs.Again.{AreGatheredFor, IsGatheredFor, messages_by_authors, sent_again_at, sent_again_of}
@@ -30,20 +30,23 @@ use Rattle.ndc_model.proofs.ListLemmas.{among-is, is-among}
 use Rattle.ndc_network.proofs.OrderlyLemmas.{orderly_fair}
 use Rattle.ndc_network.specs.Orderly.{IsOrderly}
 use Rattle.ndc_sets.specs.Sets.{batch_at, earlier}
+use Rattle.ndc_tree.specs.Tips.{with_key}
 use Rattle.ndc_sets.proofs.Lists.{Among, all-from, among-map, filter-among, map-among}
 
 -- a world that some lines lead to is orderly
 pub orderly_sometime : (header : Header) (w : World) → IsReachedSometime header w → IsOrderly header w
 orderly_sometime header w it = orderly_fair header w it.reached.shaped it.reached.fair.lanes
 
--- the next item of a list
-pub next_item : {X : Type 0} (xs : List X) (i : ℕ) (x : X) → i < length xs → x ≡ get_or xs i x → take (i + 1) xs ≡ take i xs ++ x ∷ []
-next_item xs i x below at = take_more xs i x below ∙ ap (λ y. take i xs ++ y ∷ []) (sym at)
+-- the item at a place is one of the list
+among_item : {X : Type 0} (xs : List X) (i : ℕ) (d : X) → i < length xs → Among (get_or xs i d) xs
+among_item [] i d below = absurd (omega (arith, below))
+among_item (y ∷ ys) zero d below = inl refl
+among_item (y ∷ ys) (suc i) d below = inr (among_item ys i d (omega (arith, below)))
 
-among-item : {X : Type 0} (xs : List X) (i : ℕ) (x : X) → i < length xs → x ≡ get_or xs i x → Among x xs
-among-item [] i x below at = absurd (omega (arith, below))
-among-item (y ∷ ys) zero x below at = inl at
-among-item (y ∷ ys) (suc i) x below at = inr (among-item ys i x (omega (arith, below)) at)
+-- a message more, where there is one
+pub one_more : {X : Type 0} (items : List X) (o : Option X) (rest : List X) → (items ++ option_to_list o) ++ rest ≡ items ++ cons_option o rest
+one_more items None rest = ap (λ l. l ++ rest) (append-nil items)
+one_more items (Some x) rest = append_assoc items (x ∷ []) rest
 
 module _ (header : Header) (w : World) (it : IsReachedSometime header w) (shard : ℕ) (below : shard < header.shards) (domain workflow : Name) where
   abbrev mine : List Batch
@@ -74,26 +77,43 @@ module _ (header : Header) (w : World) (it : IsReachedSometime header w) (shard 
     gather_none = gathered-none mine (arrived_of domain workflow (cell_at reader shard w)) (filter (is_of domain workflow) (put_off_in (cell_at reader shard w)))
 
     -- what lies above one more is gathered
-    pub gather_more : (lacking : List Lacking) (i : ℕ) (one : Lacking) (keys new : List BatchKey) → lacking ≡ all_lacking domain workflow (cell_at reader shard w) → i < length lacking → one ≡ get_or lacking i one
-        → Gathered (map (λ (x : Lacking). x.missing) (take i lacking)) keys None → ((begun : List BatchKey) → Gathered begun keys (Some one.missing) → Gathered begun new None)
+    pub gather_more : (lacking : List Lacking) (i : ℕ) (d : Lacking) (keys new : List BatchKey) → lacking ≡ all_lacking domain workflow (cell_at reader shard w) → i < length lacking
+        → Gathered (map (λ (x : Lacking). x.missing) (take i lacking)) keys None → ((begun : List BatchKey) → Gathered begun keys (Some (get_or lacking i d).missing) → Gathered begun new None)
         → Gathered (map (λ (x : Lacking). x.missing) (take (i + 1) lacking)) new None
-    gather_more lacking i one keys new is less at g goes =
-        subst (λ (begun : List BatchKey). Gathered begun new None) (sym (ap (map (λ (x : Lacking). x.missing)) (next_item lacking i one less at) ∙ map-append (λ (x : Lacking). x.missing) (take i lacking) (one ∷ [])))
-        (goes (map (λ (x : Lacking). x.missing) (take i lacking) ++ one.missing ∷ []) begun)
+    gather_more lacking i d keys new is less g goes =
+        subst (λ (begun : List BatchKey). Gathered begun new None)
+        (sym (ap (map (λ (x : Lacking). x.missing)) (take_more lacking i d less) ∙ map-append (λ (x : Lacking). x.missing) (take i lacking) (get_or lacking i d ∷ [])))
+        (goes (map (λ (x : Lacking). x.missing) (take i lacking) ++ (get_or lacking i d).missing ∷ []) begun)
       where
-        begun : Gathered (map (λ (x : Lacking). x.missing) (take i lacking) ++ one.missing ∷ []) keys (Some one.missing)
+        begun : Gathered (map (λ (x : Lacking). x.missing) (take i lacking) ++ (get_or lacking i d).missing ∷ []) keys (Some (get_or lacking i d).missing)
         begun =
             let held = arrived_of domain workflow (cell_at reader shard w) in
-            let m = map-among (lacking_of held) (filter (is_of domain workflow) (put_off_in (cell_at reader shard w))) one (subst (λ (xs : List Lacking). Among one xs) is (among-item lacking i one less at)) in
+            let m = map-among (lacking_of held) (filter (is_of domain workflow) (put_off_in (cell_at reader shard w))) (get_or lacking i d) (subst (λ (xs : List Lacking). Among (get_or lacking i d) xs) is (among_item lacking i d less)) in
             subst (λ (k : BatchKey). Gathered (map (λ (x : Lacking). x.missing) (take i lacking) ++ k ∷ []) keys (Some k)) (sym (ap (λ (x : Lacking). x.missing) m.2))
             (begun-with header it.lines w it.reached shard below domain workflow reader known (map (λ (x : Lacking). x.missing) (take i lacking)) keys m.0 m.1 g)
 
     -- behind the last, all is gathered
-    pub gather_all : (lacking : List Lacking) (keys : List BatchKey) → lacking ≡ all_lacking domain workflow (cell_at reader shard w) → Gathered (map (λ (x : Lacking). x.missing) lacking) keys None
-        → AreGatheredFor (all_written header shard w) (cell_at reader shard w) domain workflow keys
-    gather_all lacking keys is g =
+    pub gather_end : (lacking : List Lacking) (i : ℕ) (keys : List BatchKey) → lacking ≡ all_lacking domain workflow (cell_at reader shard w) → length lacking ≤ i
+        → Gathered (map (λ (x : Lacking). x.missing) (take i lacking)) keys None → AreGatheredFor (all_written header shard w) (cell_at reader shard w) domain workflow keys
+    gather_end lacking i keys is past g =
         subst (λ (begun : List BatchKey). Gathered begun keys None)
-        (ap (map (λ (x : Lacking). x.missing)) is ∙ missing_keys (arrived_of domain workflow (cell_at reader shard w)) (filter (is_of domain workflow) (put_off_in (cell_at reader shard w)))) g
+        (ap (map (λ (x : Lacking). x.missing)) (take_all i lacking past ∙ is) ∙ missing_keys (arrived_of domain workflow (cell_at reader shard w)) (filter (is_of domain workflow) (put_off_in (cell_at reader shard w)))) g
+
+    -- a key for which nothing is to be done
+    pub stop_arrived : (key : BatchKey) (t : Bool) → t ≡ is_some (batch_there (cell_at reader shard w).arrived (record { domain = domain; workflow = workflow; key = key })) → t ≡ true
+        → (begun keys : List BatchKey) → Gathered begun keys (Some key) → Gathered begun keys None
+    stop_arrived key t told e begun keys g = stopped-arrived header it.lines w it.reached shard below domain workflow reader known begun keys key (sym told ∙ e) g
+
+    pub stop_nowhere : (key : BatchKey) → batch_at key mine ≡ None → (begun keys : List BatchKey) → Gathered begun keys (Some key) → Gathered begun keys None
+    stop_nowhere key e begun keys g = stopped-nowhere header it.lines w it.reached shard below domain workflow reader known begun keys key e g
+
+    -- a key more
+    pub step_gathered : (key : BatchKey) (b : Batch) (t : Bool) (new : List BatchKey) (next : Option BatchKey) → batch_at key mine ≡ Some b
+        → t ≡ is_some (batch_there (cell_at reader shard w).arrived (record { domain = domain; workflow = workflow; key = key })) → t ≡ false → next ≡ earlier b
+        → (begun keys : List BatchKey) → new ≡ with_key key keys → Gathered begun keys (Some key) → Gathered begun new next
+    step_gathered key b t new next at told e up begun keys put g =
+        subst (λ (ks : List BatchKey). Gathered begun ks next) (sym put)
+        (subst (λ (o : Option BatchKey). Gathered begun (with_key key keys) o) (sym up) (stepped header it.lines w it.reached shard below domain workflow reader known begun keys key b at (sym told ∙ e) g))
 
 module _ (header : Header) (w : World) (it : IsReachedSometime header w) (shard : ℕ) (below : shard < header.shards) (reader : ClusterNo) (known : IsCluster header reader) where
   -- what is sent again of the workflow of a place

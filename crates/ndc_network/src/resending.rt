@@ -1,4 +1,4 @@
-ghost use Rattle.std.specs.Prelude.{◌≡◌, ◌<◌, ◌++◌, List, length, map, None, Some, IfSome, IfNone, IfOk, OnOk};
+ghost use Rattle.std.specs.Prelude.{◌≡◌, ◌<◌, ◌++◌, List, length, map, option_to_list, None, Some, IfSome, IfNone, IfOk, OnOk};
 ghost use Rattle.std.specs.List.{AllByRecursion, IsAmong, filter, flat_map};
 ghost use Rattle.std.specs.Option.{option_copied};
 ghost use Rattle.ndc_act.specs.WellFormed.{IsCluster};
@@ -40,6 +40,16 @@ fn earlier_key(batch: &Batch) -> Option<BatchKey>
         Some(parent) => Some(parent),
         None => batch.carrier,
     }
+}
+
+/// A message goes last, where there is one.
+fn add_message(messages: &mut Vec<Message>, message: Option<Message>) -> Result<(), AllocError>
+    ensures { OnOk result (messages.new.items ≡ messages.old.items ++ option_to_list message) }
+{
+    if let Some(message) = message {
+        messages.push(message)?;
+    }
+    Ok(())
 }
 
 /// The cell of a shard.
@@ -270,9 +280,7 @@ impl<C: Reads + Drop> Network<C> {
         let mut messages = Vec::new(alloc);
         for &key in keys {
             let message = self.message_written(alloc, header, shard, domain, workflow, key)?;
-            if let Some(message) = message {
-                messages.push(message)?;
-            }
+            add_message(&mut messages, message)?;
         }
         Ok(messages)
     }
@@ -338,7 +346,9 @@ impl<C: Reads + Drop> Network<C> {
     {
         let cell = self.reader_cell(header, reader, shard);
         let behind = cell.behind(alloc)?;
-        self.add_places(alloc, jobs, header, reader, shard, behind.as_slice())
+        let places = behind.as_slice();
+        self.add_places(alloc, jobs, header, reader, shard, places)?;
+        Ok(())
     }
 
     /// Jobs in which all arrives that a reader is sent again, by shard and then by place.

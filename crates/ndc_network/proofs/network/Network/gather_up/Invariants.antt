@@ -10,7 +10,7 @@ use Rattle.ndc_network.proofs.network.Network.gather_up.Given as goal
 
 abbrev pub invariant-loop-up : goal.invariant-loop-up
 invariant-loop-up g l =
-    (begun : List BatchKey) → IsGatheredFor (all_written l.header l.shard l.self) (cell_at l.reader l.shard l.self) l.domain l.workflow begun l.initial.keys (Some l.key)
+    (begun : List BatchKey) → IsGatheredFor (all_written l.header l.shard l.self) (cell_at l.reader l.shard l.self) l.domain l.workflow begun l.initial.keys (Some l.fn.key)
     → IsGatheredFor (all_written l.header l.shard l.self) (cell_at l.reader l.shard l.self) l.domain l.workflow begun l.keys (Some l.at)
 
 abbrev pub decreases-loop-up : goal.decreases-loop-up
