@@ -178,7 +178,8 @@ impl<C: Reads + Drop> Network<C> {
         if keys.has(key) {
             return Ok(None);
         }
-        if self.reader_cell(header, reader, shard).has_arrived(domain, workflow, key) {
+        let cell = self.reader_cell(header, reader, shard);
+        if cell.has_arrived(domain, workflow, key) {
             return Ok(None);
         }
         match self.find_written(header, shard, domain, workflow, key) {
@@ -208,9 +209,7 @@ impl<C: Reads + Drop> Network<C> {
             → IsGatheredFor (all_written header.now shard self.now) (cell_at reader shard self.now) domain.now workflow.now begun keys.new None) }
     {
         let mut at = key;
-        while let Some(up) =
-            self.gather_one(header, reader, shard, domain, workflow, keys, at)?
-        {
+        while let Some(up) = self.gather_one(header, reader, shard, domain, workflow, keys, at)? {
             at = up;
         }
         Ok(())
