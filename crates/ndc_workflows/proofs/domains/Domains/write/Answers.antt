@@ -14,7 +14,7 @@ use Rattle.ndc_workflows.proofs.DomainLemmas.{none-own}
 use Rattle.ndc_workflows.proofs.NameLemmas.{put-holds}
 use Rattle.ndc_workflows.proofs.PutLemmas.{map-put, same-put, on-err}
 use Rattle.ndc_workflows.proofs.WriteLemmas.{may-there, cell-there}
-use Rattle.ndc_workflows.proofs.workflows.Workflows.write.Goals as goal
+use Rattle.ndc_workflows.proofs.domains.Domains.write.Goals as goal
 
 pub write-requires-clause-own : goal.write-requires-clause-own
 write-requires-clause-own g c = c.self.invariant.each c.args.batch.now.domain c.in-Some.domain.now (sym c.in-Some.ensures.value)
