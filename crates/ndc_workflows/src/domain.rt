@@ -64,10 +64,10 @@ impl Domain {
         ensures due { IfOk result (λ due. due ≡ is_due (learned (workflow_or_empty (under workflow.now self.old)).arrived)) }
         ensures same { self.new ≡ self.old }
     {
-        match self.workflows.get_mut(workflow) {
-            Some(found) => found.is_due(alloc),
-            None => Ok(false),
+        if let Some(found) = self.workflows.get_mut(workflow) {
+            return found.is_due(alloc);
         }
+        Ok(false)
     }
 
     /// A message of the domain arrives in its workflow. After want of memory the workflow may be anything.

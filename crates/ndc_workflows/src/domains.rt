@@ -73,10 +73,10 @@ impl Domains {
         ensures due { IfOk result (λ due. due ≡ is_due (learned_of domain.now workflow.now self.old)) }
         ensures same { self.new ≡ self.old }
     {
-        match self.domains.get_mut(domain) {
-            Some(found) => found.is_due(alloc, workflow),
-            None => Ok(false),
+        if let Some(found) = self.domains.get_mut(domain) {
+            return found.is_due(alloc, workflow);
         }
+        Ok(false)
     }
 
     /// A message arrives in its workflow. After want of memory nothing is said of what has arrived.

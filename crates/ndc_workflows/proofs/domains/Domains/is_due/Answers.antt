@@ -29,9 +29,9 @@ returns-in-Some-clause-due g c =
     subst (λ (w : WorkflowValue). IfOk c.is_due.result (λ due. due ≡ is_due (learned w.arrived)))
     (sym (found-under c.self.inside.domains.entries c.self.invariant d n (Some c.in-Some.found.now) c.in-Some.ensures.value) ∙ ap (workflow_of d n) c.self.view_is) c.is_due.ensures.due
 
-pub returns-in-None-clause-due : goal.returns-in-None-clause-due
-returns-in-None-clause-due g c =
+pub returns-clause-due : goal.returns-clause-due
+returns-clause-due g c =
     let d = c.args.domain.now in
     let n = c.args.workflow.now in
     subst (λ (w : WorkflowValue). false ≡ is_due (learned w.arrived))
-    (sym (found-under c.self.inside.domains.entries c.self.invariant d n None c.in-None.ensures.value) ∙ ap (workflow_of d n) c.self.view_is) refl
+    (sym (found-under c.self.inside.domains.entries c.self.invariant d n None c.in_default.ensures.value) ∙ ap (workflow_of d n) c.self.view_is) refl
