@@ -1,5 +1,5 @@
 -- The workflows of a cell by name, and those in which reapplication is due.
-use Rattle.std.proofs.Common.{◌≡◌, ℕ, Bool, true, false, not, ◌&&◌, ◌||◌, List, [], ◌∷◌, inl, inr, cond, map, refl, sym, ◌∙◌, subst, ap, true≢false, arith}
+use Rattle.std.proofs.Common.{◌≡◌, ℕ, Bool, true, false, not, ◌&&◌, ◌||◌, List, [], ◌∷◌, ◌++◌, inl, inr, cond, map, refl, sym, ◌∙◌, subst, ap, true≢false, arith}
 use Rattle.std.specs.BTreeMap.{is_at}
 use Rattle.std.specs.BTreeSet.{BTreeSet}
 use Rattle.std.specs.List.{AllByRecursion, filter, list_any}
@@ -140,11 +140,7 @@ module _ (cell : Cell) (d w : Name) where
     where
       join : (t : Bool) → t ≡ true → true ≡ (t && true)
       join true e = refl
-      join false e = e
-
-      none : (t u : Bool) → t ≡ false → u ≡ (t && u) → (t && u) ≡ (t && true)
-      none true u e h = absurd (true≢false e)
-      none false u e h = refl
+      join false e = sym e
 
       by : (s : Bool) → due_in cell one ≡ s → (t : Bool) → is_named d w one ≡ t → is_listed d w (filter (due_in cell) list) ≡ (due_in cell (d, w) && is_listed d w list)
           → is_listed d w (cond s (one ∷ filter (due_in cell) list) (filter (due_in cell) list)) ≡ (due_in cell (d, w) && (t || is_listed d w list))
@@ -236,7 +232,7 @@ module _ (home : Home) where
     -- and where it may be done in all of the cell, it may be done in these
     pub may-due : MayReapply home (workflows_of cell.arrived) cell → MayReapplyAmong home list cell
     may-due may =
-        may-more home cell list cell (apart-from list are.ordered) (all-same cell list) (rooms list)
+        may-more home cell list cell (apart-from list are.ordered) (all-same cell list) (all-rooms list)
         (subst (λ l. MayReapplyAmong home l cell) (same-due cell order list are) (may-kept home cell workflows cell apart-all (all-same cell workflows) among))
       where
         among : MayReapplyAmong home workflows cell
@@ -246,12 +242,12 @@ module _ (home : Home) where
         no-room = record { tasks = omega arith; ids = tt }
 
         there : (names : List (Name × Name)) → AllByRecursion (λ k. HasRoom (learned_of k.0 k.1 cell)) names → (d w : Name) → is_listed d w names ≡ true → HasRoom (learned_of d w cell)
-        there [] all d w e = absurd (true≢false (sym e))
-        there (k ∷ names) all d w e = by (bytes_eq k.0 d) refl (bytes_eq k.1 w) refl e (λ h. there names all.1 d w h)
+        there [] rooms d w e = absurd (true≢false (sym e))
+        there (k ∷ names) rooms d w e = by (bytes_eq k.0 d) refl (bytes_eq k.1 w) refl e (λ h. there names rooms.1 d w h)
           where
             by : (s : Bool) → bytes_eq k.0 d ≡ s → (t : Bool) → bytes_eq k.1 w ≡ t → ((s && t) || is_listed d w names) ≡ true → (is_listed d w names ≡ true → HasRoom (learned_of d w cell)) → HasRoom (learned_of d w cell)
             by true f true g h rest =
-                subst (λ (n : Name). HasRoom (learned_of n w cell)) ((bytes_eq-Decides k.0 d).0 f) (subst (λ (n : Name). HasRoom (learned_of k.0 n cell)) ((bytes_eq-Decides k.1 w).0 g) all.0)
+                subst (λ (n : Name). HasRoom (learned_of n w cell)) ((bytes_eq-Decides k.0 d).0 f) (subst (λ (n : Name). HasRoom (learned_of k.0 n cell)) ((bytes_eq-Decides k.1 w).0 g) rooms.0)
             by true f false g h rest = rest h
             by false f t g h rest = rest h
 
@@ -259,6 +255,6 @@ module _ (home : Home) where
         room-in d w true e = there workflows (room-there home cell workflows cell apart-all (all-same cell workflows) among) d w e
         room-in d w false e = subst (λ (bs : List Batch). HasRoom (learned bs)) (sym (none-listed d w cell.arrived e)) no-room
 
-        rooms : (names : List (Name × Name)) → AllByRecursion (λ k. HasRoom (learned_of k.0 k.1 cell)) names
-        rooms [] = tt
-        rooms (k ∷ names) = (room-in k.0 k.1 (is_listed k.0 k.1 workflows) refl, rooms names)
+        all-rooms : (names : List (Name × Name)) → AllByRecursion (λ k. HasRoom (learned_of k.0 k.1 cell)) names
+        all-rooms [] = tt
+        all-rooms (k ∷ names) = (room-in k.0 k.1 (is_listed k.0 k.1 workflows) refl, all-rooms names)
