@@ -2,3 +2,4 @@ pub mod QueueLemmas
 pub mod FoundLemmas
 pub mod HistoryLemmas
 pub mod MayLemmas
+pub mod AskedLemmas

@@ -1,6 +1,7 @@
 //! One shard of one cluster: the workflows of a cell, and all messages that it has written.
 #![tactic(auto)]
 
+mod asking;
 mod shard;
 mod writing;
 

@@ -1,10 +1,12 @@
+use crate::asking::{as_command_error, command_entries, push_batches};
 use crate::writing::write_in;
 use ndc_cells::Message;
-use ndc_command::Refusal;
-use ndc_domain::{ClusterNo, Clusters, DomainTable};
-use ndc_entries::{Entry, may_write};
+use ndc_command::{Command, CommandError, Refusal};
+use ndc_entries::{Entry, may_write, reset_entries};
 use ndc_event::{BatchKey, Name};
+use ndc_rounds::Desk;
 use ndc_runs::Runs;
+use ndc_sets::Batches;
 use ndc_state::Steps;
 use ndc_workflow::Arrival;
 use ndc_workflows::Workflows;
@@ -13,6 +15,7 @@ use std::marker::Model;
 
 /// One shard of one cluster: its workflows, and all messages that it has written, in order. Seen as the cell.
 pub struct Shard {
+    alloc: Global,
     workflows: Workflows,
     written: Vec<Message>,
 }
@@ -29,6 +32,7 @@ impl Model for Shard {
 impl Drop for Shard {
     fn drop(self) {
         let Shard {
+            alloc: _alloc,
             workflows: _workflows,
             written: _written,
         } = self;
@@ -36,12 +40,16 @@ impl Drop for Shard {
 }
 
 impl Shard {
-    ghost use Rattle.std.specs.Prelude.{◌≡◌, ◌<◌, ℕ, [], length, slice_get, Some, IfSome, IfNone, IfOk, OnOk};
+    ghost use Rattle.std.specs.Prelude.{◌≡◌, ◌≢◌, ◌<◌, [], length, slice_get, Some, IfSome, IfNone, IfOk, IfErr, OnOk};
     ghost use Rattle.ndc_cells.specs.Arrival.{arrival_of, arrived_at, learned_by};
     ghost use Rattle.ndc_cells.specs.Cells.{empty_cell, learned_of};
-    ghost use Rattle.ndc_cells.specs.Writing.{may_write, with_written};
+    ghost use Rattle.ndc_cells.specs.Jobs.{all_batches, written_at};
+    ghost use Rattle.ndc_cells.specs.Writing.{command_of, may_write, reset_at, with_all_written, with_written};
+    ghost use Rattle.ndc_command.specs.declared.refusal.CommandError.TheVariants.{Memory};
+    ghost use Rattle.ndc_event.specs.Outcome.{Gives};
     ghost use Rattle.ndc_sets.specs.Learned.{has_key};
-    ghost use Rattle.ndc_workflow.specs.Allowed.{MayArrive};
+    ghost use Rattle.ndc_shard.specs.Shards.{AreWritable, IsFit, batches_written};
+    ghost use Rattle.ndc_workflow.specs.Allowed.{HasRoom, MayArrive, MayBeAsked};
     ghost use Rattle.ndc_workflow.specs.Learnable.{carrying};
     ghost use Rattle.ndc_workflow.specs.Workflow.{workflow_of};
     ghost use Rattle.ndc_workflows.specs.Writing.{MayBeWritten};
@@ -51,15 +59,18 @@ impl Shard {
         ensures { result ≡ empty_cell }
     {
         Shard {
+            alloc,
             workflows: Workflows::new(alloc),
             written: Vec::new(alloc),
         }
     }
 
-    /// What is learned of a workflow, with its states. There is none only where nothing is.
+    /// What is learned of a workflow, with its states. There is none only where nothing is. What is
+    /// learned of it is sound.
     pub fn runs(&self, domain: &Name, workflow: &Name) -> Option<&Runs>
         ensures found { IfSome result (λ runs. runs.now ≡ learned_of domain.now workflow.now self.now) }
         ensures none { IfNone result (learned_of domain.now workflow.now self.now ≡ []) }
+        ensures fit { IsFit domain.now workflow.now self.now }
     {
         Some(self.workflows.find(domain, workflow)?.runs())
     }
@@ -90,28 +101,19 @@ impl Shard {
     }
 
     /// The version with which the cell may write to a workflow, or why it may not, as [`ndc_entries::may_write`] says.
-    pub fn may_write(
-        &self,
-        alloc: Global,
-        clusters: &Clusters,
-        me: ClusterNo,
-        table: &DomainTable,
-        domain: &Name,
-        workflow: &Name,
-    ) -> Result<u64, Refusal>
-        ensures { (limit : ℕ) → result ≡ may_write (record { clusters = clusters.now; me = me; limit = limit; table = table.now }) domain.now workflow.now self.now }
+    pub fn may_write(&self, desk: &Desk, domain: &Name, workflow: &Name) -> Result<u64, Refusal>
+        ensures { result ≡ may_write desk.now domain.now workflow.now self.now }
     {
-        let record = table.find(domain);
+        let record = desk.table().find(domain);
         match self.runs(domain, workflow) {
-            Some(runs) => may_write(clusters, me, record, runs),
-            None => may_write(clusters, me, record, &Runs::new(alloc)),
+            Some(runs) => may_write(desk.clusters(), desk.me(), record, runs),
+            None => may_write(desk.clusters(), desk.me(), record, &Runs::new(self.alloc)),
         }
     }
 
     /// A message arrives. After want of memory nothing is said of what has arrived.
     pub fn arrive<L>(
         &mut self,
-        alloc: Global,
         message: Message,
         steps: &mut Steps<L>,
     ) -> Result<Arrival, AllocError>
@@ -120,22 +122,129 @@ impl Shard {
         ensures learned { IfOk result (λ arrival. arrival.learned ≡ learned_by message self.old) }
         ensures cell { OnOk result (self.new ≡ arrived_at message self.old) }
     {
-        let arrival = self.workflows.arrive(alloc, message, steps)?;
+        let arrival = self.workflows.arrive(self.alloc, message, steps)?;
         Ok(arrival)
     }
 
     /// Writes an entry: its batches are learned in their workflow, and its message goes last among those written. After
     /// want of memory nothing is said of the cell.
-    pub fn write<L>(
-        &mut self,
-        alloc: Global,
-        entry: Entry,
-        steps: &mut Steps<L>,
-    ) -> Result<(), AllocError>
+    pub fn write<L>(&mut self, entry: Entry, steps: &mut Steps<L>) -> Result<(), AllocError>
         requires { MayBeWritten (carrying entry.batch entry.second) (workflow_of entry.batch.domain entry.batch.workflow self.old) }
         ensures { OnOk result (self.new ≡ with_written entry self.old) }
     {
-        write_in(&mut self.workflows, &mut self.written, alloc, entry, steps)?;
+        write_in(
+            &mut self.workflows,
+            &mut self.written,
+            self.alloc,
+            entry,
+            steps,
+        )?;
         Ok(())
+    }
+
+    /// Writes entries in order, and gives the batches of them.
+    fn write_all<L>(
+        &mut self,
+        entries: Vec<Entry>,
+        steps: &mut Steps<L>,
+    ) -> Result<Batches, AllocError>
+        requires { AreWritable entries.items self.old }
+        ensures cell { OnOk result (self.new ≡ with_all_written entries.entry.items self.old) }
+        ensures batches { IfOk result (λ batches. batches ≡ all_batches entries.entry.items) }
+    {
+        let mut batches = Vec::new(self.alloc);
+        for entry in entries {
+            push_batches(&mut batches, &entry)?;
+            self.write(entry, steps)?;
+        }
+        Ok(Batches::new(batches))
+    }
+
+    /// What a command writes.
+    #[tactic(auto, unfolding(Rattle.ndc_cells.specs.Writing.command_of))]
+    fn command_entries(
+        &self,
+        desk: &Desk,
+        domain: &Name,
+        workflow: &Name,
+        command: &Command,
+    ) -> Result<Vec<Entry>, CommandError>
+        requires { HasRoom (learned_of domain.now workflow.now self.now) }
+        ensures entries { Gives Memory (λ entries. entries.items) result (command_of desk.now domain.now workflow.now command.now self.now) }
+    {
+        let version = as_command_error(self.may_write(desk, domain, workflow))?;
+        let alloc = self.alloc;
+        let limit = desk.limit();
+        match self.runs(domain, workflow) {
+            Some(runs) => command_entries(alloc, domain, workflow, command, limit, version, runs),
+            None => {
+                let none = Runs::new(alloc);
+                command_entries(alloc, domain, workflow, command, limit, version, &none)
+            }
+        }
+    }
+
+    /// What a reset writes.
+    #[tactic(auto, unfolding(Rattle.ndc_cells.specs.Writing.reset_at))]
+    fn reset_entries(
+        &self,
+        desk: &Desk,
+        domain: &Name,
+        workflow: &Name,
+        event: u64,
+    ) -> Result<Vec<Entry>, CommandError>
+        requires { HasRoom (learned_of domain.now workflow.now self.now) }
+        ensures entries { Gives Memory (λ entries. entries.items) result (reset_at desk.now domain.now workflow.now event self.now) }
+    {
+        let version = as_command_error(self.may_write(desk, domain, workflow))?;
+        let alloc = self.alloc;
+        let limit = desk.limit();
+        match self.runs(domain, workflow) {
+            Some(runs) => reset_entries(alloc, domain, workflow, event, limit, version, runs),
+            None => {
+                let none = Runs::new(alloc);
+                reset_entries(alloc, domain, workflow, event, limit, version, &none)
+            }
+        }
+    }
+
+    /// A command to a workflow: what it writes, in order, or its refusal, which leaves the cell as it was. After want of
+    /// memory nothing is said of the cell.
+    pub fn command<L>(
+        &mut self,
+        desk: &Desk,
+        domain: &Name,
+        workflow: &Name,
+        command: &Command,
+        steps: &mut Steps<L>,
+    ) -> Result<Batches, CommandError>
+        requires { MayBeAsked desk.now domain.now workflow.now (command_of desk.now domain.now workflow.now command.now self.old) self.old }
+        ensures batches { Gives Memory (λ batches. batches) result (batches_written (command_of desk.now domain.now workflow.now command.now self.old)) }
+        ensures cell { OnOk result (self.new ≡ written_at (command_of desk.now domain.now workflow.now command.now self.old) self.old) }
+        ensures refused { IfErr result (λ error. error ≢ Memory → self.new ≡ self.old) }
+    {
+        let entries = self.command_entries(desk, domain, workflow, command)?;
+        let batches = self.write_all(entries, steps)?;
+        Ok(batches)
+    }
+
+    /// A new run repeats the current one of a workflow up to an event, counted from 1: what is written, in order, or the
+    /// refusal, which leaves the cell as it was. After want of memory nothing is said of the cell.
+    pub fn reset<L>(
+        &mut self,
+        desk: &Desk,
+        domain: &Name,
+        workflow: &Name,
+        event: u64,
+        steps: &mut Steps<L>,
+    ) -> Result<Batches, CommandError>
+        requires { MayBeAsked desk.now domain.now workflow.now (reset_at desk.now domain.now workflow.now event self.old) self.old }
+        ensures batches { Gives Memory (λ batches. batches) result (batches_written (reset_at desk.now domain.now workflow.now event self.old)) }
+        ensures cell { OnOk result (self.new ≡ written_at (reset_at desk.now domain.now workflow.now event self.old) self.old) }
+        ensures refused { IfErr result (λ error. error ≢ Memory → self.new ≡ self.old) }
+    {
+        let entries = self.reset_entries(desk, domain, workflow, event)?;
+        let batches = self.write_all(entries, steps)?;
+        Ok(batches)
     }
 }
