@@ -3,3 +3,4 @@ pub mod FoundLemmas
 pub mod HistoryLemmas
 pub mod MayLemmas
 pub mod AskedLemmas
+pub mod ReplyLemmas

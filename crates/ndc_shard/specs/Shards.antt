@@ -1,10 +1,13 @@
 -- Words for a shard.
-use Rattle.std.specs.Prelude.{List, [], ◌∷◌, Result, Ok}
+use Rattle.std.specs.Prelude.{List, [], ◌∷◌, Result, Ok, Err}
+use Rattle.ndc_cells.specs.declared.job.JobReply.{JobReply}
+use Rattle.ndc_cells.specs.declared.job.Outcome.TheVariants as outcome
 use Rattle.ndc_cells.specs.declared.message.Message.{Message}
 use Rattle.ndc_cells.specs.Cells.{Cell, IsCell, learned_of}
-use Rattle.ndc_cells.specs.Jobs.{all_batches}
+use Rattle.ndc_cells.specs.Jobs.{all_batches, keys_written}
 use Rattle.ndc_cells.specs.Writing.{Entry, with_written}
 use Rattle.ndc_command.specs.declared.refusal.CommandError.{CommandError}
+use Rattle.ndc_command.specs.declared.refusal.CommandError.TheVariants.{Memory, Refused}
 use Rattle.ndc_event.specs.Outcome.{◌>>=◌}
 use Rattle.ndc_event.specs.declared.batch.Batch.{Batch}
 use Rattle.ndc_event.specs.declared.name.Name.{Name}
@@ -32,3 +35,9 @@ AreWritable (entry ∷ entries) cell =
 -- the batches of what was to be written, in the order of writing, or the refusal
 abbrev pub batches_written : Result (List Entry) CommandError → Result (List Batch) CommandError
 batches_written written = written >>= λ entries. Ok (all_batches entries)
+
+-- the reply to a command or a reset that has written these batches, or was refused
+abbrev pub reply_of : Result (List Batch) CommandError → JobReply
+reply_of (Ok batches) = record { outcome = keys_written batches; learned = batches }
+reply_of (Err (Refused refusal)) = record { outcome = outcome.Refused refusal; learned = [] }
+reply_of (Err Memory) = record { outcome = outcome.Reapplied 0; learned = [] }

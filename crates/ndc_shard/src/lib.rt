@@ -2,6 +2,7 @@
 #![tactic(auto)]
 
 mod asking;
+mod jobs;
 mod shard;
 mod writing;
 

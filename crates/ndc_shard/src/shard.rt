@@ -65,6 +65,11 @@ impl Shard {
         }
     }
 
+    /// Where its memory comes from.
+    pub(crate) fn alloc(&self) -> Global {
+        self.alloc
+    }
+
     /// What is learned of a workflow, with its states. There is none only where nothing is. What is
     /// learned of it is sound.
     pub fn runs(&self, domain: &Name, workflow: &Name) -> Option<&Runs>
@@ -161,7 +166,7 @@ impl Shard {
     }
 
     /// What a command writes.
-    #[tactic(auto, unfolding(Rattle.ndc_cells.specs.Writing.command_of))]
+    #[tactic(auto, unfolding(ndc_cells::specs::Writing::command_of))]
     fn command_entries(
         &self,
         desk: &Desk,
@@ -171,6 +176,7 @@ impl Shard {
     ) -> Result<Vec<Entry>, CommandError>
         requires { HasRoom (learned_of domain.now workflow.now self.now) }
         ensures entries { Gives Memory (λ entries. entries.items) result (command_of desk.now domain.now workflow.now command.now self.now) }
+        ensures fit { IsFit domain.now workflow.now self.now }
     {
         let version = as_command_error(self.may_write(desk, domain, workflow))?;
         let alloc = self.alloc;
@@ -185,7 +191,7 @@ impl Shard {
     }
 
     /// What a reset writes.
-    #[tactic(auto, unfolding(Rattle.ndc_cells.specs.Writing.reset_at))]
+    #[tactic(auto, unfolding(ndc_cells::specs::Writing::reset_at))]
     fn reset_entries(
         &self,
         desk: &Desk,
@@ -195,6 +201,7 @@ impl Shard {
     ) -> Result<Vec<Entry>, CommandError>
         requires { HasRoom (learned_of domain.now workflow.now self.now) }
         ensures entries { Gives Memory (λ entries. entries.items) result (reset_at desk.now domain.now workflow.now event self.now) }
+        ensures fit { IsFit domain.now workflow.now self.now }
     {
         let version = as_command_error(self.may_write(desk, domain, workflow))?;
         let alloc = self.alloc;

@@ -1,0 +1,107 @@
+ghost use Rattle.std.specs.Prelude.{◌≡◌, ◌≢◌, Err, IfOk, OnOk};
+ghost use Rattle.ndc_cells.specs.Jobs.{after_job, keys_written, reply_to};
+ghost use Rattle.ndc_cells.specs.Writing.{command_of, reset_at};
+ghost use Rattle.ndc_cells.specs.declared.job.Job.TheVariants.{Arrive, Command as Commanded, Reset};
+ghost use Rattle.ndc_command.specs.declared.refusal.CommandError.TheVariants.{Memory};
+ghost use Rattle.ndc_shard.specs.Shards.{reply_of};
+ghost use Rattle.ndc_workflow.specs.Allowed.{MayArrive, MayBeAsked};
+
+use crate::shard::Shard;
+use ndc_cells::{JobReply, Message, Outcome, Written};
+use ndc_command::{Command, CommandError};
+use ndc_event::{Batch, Name};
+use ndc_rounds::Desk;
+use ndc_sets::Batches;
+use ndc_state::Steps;
+use ndc_workflow::Arrival;
+use std::alloc::{AllocError, Global};
+
+/// Marks the counters of steps that jobs take.
+struct Jobs;
+
+/// A command to a workflow.
+fn do_command(
+    shard: &mut Shard,
+    desk: &Desk,
+    domain: &Name,
+    workflow: &Name,
+    command: &Command,
+) -> Result<JobReply, AllocError>
+    requires { MayBeAsked desk.now domain.now workflow.now (command_of desk.now domain.now workflow.now command.now shard.old) shard.old }
+    ensures cell { OnOk result (shard.new ≡ after_job desk.now (Commanded domain.now workflow.now command.now) shard.old) }
+    ensures reply { IfOk result (λ reply. reply ≡ reply_to desk.now (Commanded domain.now workflow.now command.now) shard.old) }
+{
+    let mut steps: Steps<Jobs> = Steps::new();
+    let written = shard.command(desk, domain, workflow, command, &mut steps);
+    written_reply(shard.alloc(), written)
+}
+
+/// A message arrives.
+fn do_arrive(shard: &mut Shard, desk: &Desk, message: &Message) -> Result<JobReply, AllocError>
+    requires { MayArrive message.now shard.old }
+    ensures cell { OnOk result (shard.new ≡ after_job desk.now (Arrive message.now) shard.old) }
+    ensures reply { IfOk result (λ reply. reply ≡ reply_to desk.now (Arrive message.now) shard.old) }
+{
+    let mut steps: Steps<Jobs> = Steps::new();
+    let arrival = shard.arrive(message.try_copy()?, &mut steps)?;
+    let Arrival { outcome, learned } = arrival;
+    Ok(JobReply {
+        outcome: Outcome::Arrived(outcome),
+        learned,
+    })
+}
+
+/// A new run repeats the current one up to an event.
+fn do_reset(
+    shard: &mut Shard,
+    desk: &Desk,
+    domain: &Name,
+    workflow: &Name,
+    event: u64,
+) -> Result<JobReply, AllocError>
+    requires { MayBeAsked desk.now domain.now workflow.now (reset_at desk.now domain.now workflow.now event shard.old) shard.old }
+    ensures cell { OnOk result (shard.new ≡ after_job desk.now (Reset domain.now workflow.now event) shard.old) }
+    ensures reply { IfOk result (λ reply. reply ≡ reply_to desk.now (Reset domain.now workflow.now event) shard.old) }
+{
+    let mut steps: Steps<Jobs> = Steps::new();
+    let written = shard.reset(desk, domain, workflow, event, &mut steps);
+    written_reply(shard.alloc(), written)
+}
+
+/// The reply to a command or a reset that has written these batches, or was refused.
+fn written_reply(
+    alloc: Global,
+    written: Result<Batches, CommandError>,
+) -> Result<JobReply, AllocError>
+    ensures reply { IfOk result (λ reply. reply ≡ reply_of written) }
+    ensures calm { IfOk result (λ _. written ≢ Err Memory) }
+{
+    match written {
+        Ok(batches) => Ok(JobReply {
+            outcome: keys_written(batches.as_slice()),
+            learned: batches,
+        }),
+        Err(CommandError::Refused(refusal)) => Ok(JobReply {
+            outcome: Outcome::Refused(refusal),
+            learned: Batches::new(Vec::new(alloc)),
+        }),
+        Err(CommandError::Memory) => Err(AllocError),
+    }
+}
+
+/// The keys of batches that were written: there is one, or there are two.
+fn keys_written(batches: &[Batch]) -> Outcome
+    ensures { result ≡ keys_written batches.now }
+{
+    match batches {
+        [] => Outcome::Reapplied { count: 0 },
+        [batch] => Outcome::Written(Written {
+            key: batch.key,
+            second: None,
+        }),
+        [batch, second, ..] => Outcome::Written(Written {
+            key: batch.key,
+            second: Some(second.key),
+        }),
+    }
+}
