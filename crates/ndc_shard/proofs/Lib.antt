@@ -4,3 +4,4 @@ pub mod HistoryLemmas
 pub mod MayLemmas
 pub mod AskedLemmas
 pub mod ReplyLemmas
+pub mod ExampleLemmas
