@@ -5,3 +5,4 @@ pub mod MayLemmas
 pub mod AskedLemmas
 pub mod ReplyLemmas
 pub mod ExampleLemmas
+pub mod RoomLemmas
