@@ -7,6 +7,7 @@ use Rattle.ndc_cells.specs.Arrival.{arrived_at}
 use Rattle.ndc_cells.specs.Cells.{Cell, empty_cell}
 use Rattle.ndc_cells.specs.Writing.{Home, command_of, may_write}
 use Rattle.ndc_command.specs.Plan.{plan_of, start_of, within}
+use Rattle.ndc_command.specs.Stage.{refuse}
 use Rattle.ndc_event.specs.declared.batch.Event.{Event}
 use Rattle.ndc_runs.proofs.ExampleLemmas.{first-sound}
 use Rattle.ndc_sets.specs.Worked.{begun_again}
@@ -14,7 +15,7 @@ use Rattle.ndc_workflow.specs.Allowed.{IsAllowed, MayArrive}
 use Rattle.ndc_shard.specs.Worked.{alpha, begun, home_with, start}
 
 start-may : IsAllowed (home_with (alpha ∷ [])) start empty_cell
-unfolding command_of may_write plan_of start_of within
+unfolding command_of may_write plan_of start_of within refuse
 start-may = record {
   least = omega arith;
   limit = omega arith;

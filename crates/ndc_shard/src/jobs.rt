@@ -33,10 +33,12 @@ fn do_command(
 {
     let mut steps: Steps<Jobs> = Steps::new();
     let written = shard.command(desk, domain, workflow, command, &mut steps);
-    written_reply(shard.alloc(), written)
+    let reply = written_reply(shard.alloc(), written)?;
+    Ok(reply)
 }
 
 /// A message arrives.
+#[tactic(auto, unfolding(ndc_cells::specs::Jobs::after_job, ndc_cells::specs::Jobs::outcome_of, ndc_cells::specs::Jobs::learned_in))]
 fn do_arrive(shard: &mut Shard, desk: &Desk, message: &Message) -> Result<JobReply, AllocError>
     requires { MayArrive message.now shard.old }
     ensures cell { OnOk result (shard.new ≡ after_job desk.now (Arrive message.now) shard.old) }
@@ -65,7 +67,8 @@ fn do_reset(
 {
     let mut steps: Steps<Jobs> = Steps::new();
     let written = shard.reset(desk, domain, workflow, event, &mut steps);
-    written_reply(shard.alloc(), written)
+    let reply = written_reply(shard.alloc(), written)?;
+    Ok(reply)
 }
 
 /// The reply to a command or a reset that has written these batches, or was refused.

@@ -109,10 +109,13 @@ impl Shard {
     pub fn may_write(&self, desk: &Desk, domain: &Name, workflow: &Name) -> Result<u64, Refusal>
         ensures { result ≡ may_write desk.now domain.now workflow.now self.now }
     {
-        let record = desk.table().find(domain);
+        let clusters = desk.clusters();
+        let me = desk.me();
+        let table = desk.table();
+        let record = table.find(domain);
         match self.runs(domain, workflow) {
-            Some(runs) => may_write(desk.clusters(), desk.me(), record, runs),
-            None => may_write(desk.clusters(), desk.me(), record, &Runs::new(self.alloc)),
+            Some(runs) => may_write(clusters, me, record, runs),
+            None => may_write(clusters, me, record, &Runs::new(self.alloc)),
         }
     }
 
@@ -154,8 +157,8 @@ impl Shard {
         steps: &mut Steps<L>,
     ) -> Result<Batches, AllocError>
         requires { AreWritable entries.items self.old }
-        ensures cell { OnOk result (self.new ≡ with_all_written entries.entry.items self.old) }
-        ensures batches { IfOk result (λ batches. batches ≡ all_batches entries.entry.items) }
+        ensures cell { OnOk result (self.new ≡ with_all_written entries.items self.old) }
+        ensures batches { IfOk result (λ batches. batches ≡ all_batches entries.items) }
     {
         let mut batches = Vec::new(self.alloc);
         for entry in entries {
@@ -176,7 +179,7 @@ impl Shard {
     ) -> Result<Vec<Entry>, CommandError>
         requires { HasRoom (learned_of domain.now workflow.now self.now) }
         ensures entries { Gives Memory (λ entries. entries.items) result (command_of desk.now domain.now workflow.now command.now self.now) }
-        ensures fit { IsFit domain.now workflow.now self.now }
+        ensures fit { IfOk result (λ _. IsFit domain.now workflow.now self.now) }
     {
         let version = as_command_error(self.may_write(desk, domain, workflow))?;
         let alloc = self.alloc;
@@ -201,7 +204,7 @@ impl Shard {
     ) -> Result<Vec<Entry>, CommandError>
         requires { HasRoom (learned_of domain.now workflow.now self.now) }
         ensures entries { Gives Memory (λ entries. entries.items) result (reset_at desk.now domain.now workflow.now event self.now) }
-        ensures fit { IsFit domain.now workflow.now self.now }
+        ensures fit { IfOk result (λ _. IsFit domain.now workflow.now self.now) }
     {
         let version = as_command_error(self.may_write(desk, domain, workflow))?;
         let alloc = self.alloc;
