@@ -13,5 +13,6 @@ pub mod UnlistedLemmas
 pub mod FollowLemmas
 pub mod TakenLemmas
 pub mod BesideLemmas
+pub mod DueLemmas
 pub mod ExampleLemmas
 pub mod LawProofs

@@ -1,5 +1,5 @@
 -- Strays that are kept.
-use Rattle.std.specs.Prelude.{◌≡◌, Bool, true, false, not, ◌&&◌, List, [], ◌∷◌, Option, Some, None, is_some, if◌then◌else◌}
+use Rattle.std.specs.Prelude.{◌≡◌, Bool, true, false, not, ◌&&◌, ◌||◌, List, [], ◌∷◌, Option, Some, None, is_some, if◌then◌else◌}
 use Rattle.std.specs.List.{filter}
 use Rattle.std.specs.Option.{option_map}
 use Rattle.ndc_event.specs.declared.key.Origin.{Origin}
@@ -7,8 +7,12 @@ use Rattle.ndc_reapply.specs.declared.stray.Stray.{Stray}
 use Rattle.ndc_event.specs.Key.{key_lt}
 use Rattle.ndc_event.specs.declared.batch.Batch.{Batch}
 use Rattle.ndc_event.specs.declared.key.BatchKey.{BatchKey}
+use Rattle.ndc_cells.specs.Writing.{state_under}
+use Rattle.ndc_sets.specs.Branches.{workflow_tip}
 use Rattle.ndc_sets.specs.Current.{state_to, strays}
 use Rattle.ndc_sets.specs.Origins.{origins_in, signals_in}
+use Rattle.ndc_sets.specs.Sets.{arrived, batch_at}
+use Rattle.ndc_sets.specs.Sound.{IsSound}
 use Rattle.ndc_state.specs.Origins.{is_among}
 use Rattle.ndc_state.specs.Value.{StateValue}
 use Rattle.ndc_run.specs.Learning.{is_key}
@@ -82,3 +86,15 @@ follows batches b = follows_with b.parent batches b
 abbrev pub is_open : Option StateValue → Bool
 is_open None = false
 is_open (Some state) = state.running
+
+-- whether reapplication is due: there are strays, and the current run is open
+abbrev pub is_due : List Batch → Bool
+is_due batches = not (is_empty (strays batches)) && is_open (state_under (workflow_tip batches) batches)
+
+-- whether strays that are known are none, and stay none with a batch that lies beside what is current, or follows all others
+abbrev pub stays_empty : Bool → Bool → Option (List Stray) → Bool
+stays_empty beside follows kept = not (may_have kept) && (beside || follows)
+
+-- with this batch there is no stray
+abbrev pub StaysSettled : Batch → List Batch → Type 0
+StaysSettled b batches = IsSound (arrived b batches) → batch_at b.key batches ≡ None → strays (arrived b batches) ≡ []

@@ -30,7 +30,7 @@ impl Model for Kept {
 impl Kept {
     ghost use Rattle.std.specs.Prelude.{◌≡◌, [], None, Some, if◌then◌else◌};
     ghost use Rattle.std.specs.Option.{option_map};
-    ghost use Rattle.ndc_runs.specs.Kept.{after_any, may_have};
+    ghost use Rattle.ndc_runs.specs.Kept.{after_any, may_have, stays_empty};
 
     /// There is no stray.
     pub(crate) fn none(alloc: Global) -> Kept
@@ -73,6 +73,14 @@ impl Kept {
             None => true,
             Some(list) => !list.is_empty(),
         }
+    }
+
+    /// Whether they are known to be none, and stay none with a batch that lies beside what is current, without a signal,
+    /// or follows all others.
+    pub(crate) fn stay_empty(&self, beside: bool, follows: bool) -> bool
+        ensures { result ≡ stays_empty beside follows self.now }
+    {
+        !self.may_have() && (beside || follows)
     }
 
     /// What they are once a batch is learned: where it lies beside what is current without a signal, the same; where it

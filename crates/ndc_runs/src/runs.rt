@@ -57,10 +57,10 @@ impl Drop for Runs {
 }
 
 impl Runs {
-    ghost use Rattle.std.specs.Prelude.{◌≡◌, ◌+◌, ◌≤◌, ◌^◌, [], All, length, map, max, is_some, false, None, IfSome, IfOk, OnOk, OnErr};
+    ghost use Rattle.std.specs.Prelude.{◌≡◌, ◌+◌, ◌≤◌, ◌^◌, [], All, length, map, max, not, is_some, true, false, None, IfSome, IfOk, OnOk, OnErr};
     ghost use Rattle.std.specs.Option.{option_copied, option_map};
     ghost use Rattle.ndc_cells.specs.Writing.{greatest_task, greatest_version, state_under};
-    ghost use Rattle.ndc_runs.specs.Kept.{follows, is_ahead, is_idle, is_open, lies_beside};
+    ghost use Rattle.ndc_runs.specs.Kept.{follows, is_ahead, is_due, is_empty, is_idle, is_open, lies_beside, StaysSettled};
     ghost use Rattle.ndc_runs.specs.RunMap.{part_of, run_in};
     ghost use Rattle.ndc_sets.specs.Branches.{workflow_tip};
     ghost use Rattle.ndc_sets.specs.Current.{strays};
@@ -245,6 +245,48 @@ impl Runs {
         let list = self.strays(alloc)?;
         self.strays = Kept::known(list);
         Ok(())
+    }
+
+    /// Whether reapplication may be due, by what is known: there may be strays, and the current run is open.
+    pub fn may_be_due(&self) -> bool
+        ensures { result ≡ false → is_due self.now ≡ false }
+    {
+        self.may_have_strays() && self.is_open()
+    }
+
+    /// Whether reapplication is due: there are strays, and the current run is open. Where it is open, the strays are known
+    /// then, as by [`Runs::find_strays`].
+    pub fn is_due(&mut self, alloc: Global) -> Result<bool, AllocError>
+        ensures due { IfOk result (λ due. due ≡ is_due self.old) }
+        ensures same { self.new ≡ self.old }
+    {
+        if !self.is_open() {
+            return Ok(false);
+        }
+        self.has_strays(alloc)
+    }
+
+    /// Whether there are strays. Then they are known.
+    fn has_strays(&mut self, alloc: Global) -> Result<bool, AllocError>
+        ensures has { IfOk result (λ has. has ≡ not (is_empty (strays self.old))) }
+        ensures same { self.new ≡ self.old }
+    {
+        if let Some(list) = self.known_strays() {
+            return Ok(!list.is_empty());
+        }
+        let list = self.strays(alloc)?;
+        let has = !list.is_empty();
+        self.strays = Kept::known(list);
+        Ok(has)
+    }
+
+    /// Whether, by what is known, there is no stray and none once this batch is learned. Three look-ups.
+    pub fn stays_settled(&self, batch: &Batch) -> bool
+        ensures { result ≡ true → StaysSettled batch.now self.now }
+    {
+        let beside = self.lies_beside(batch);
+        let follows = self.follows(batch);
+        self.strays.stay_empty(beside, follows)
     }
 
     /// The run of the batch of this key.

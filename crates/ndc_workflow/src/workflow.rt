@@ -41,6 +41,7 @@ impl Workflow {
     ghost use Rattle.std.specs.List.{AllByRecursion};
     ghost use Rattle.std.specs.Option.{option_copied};
     ghost use Rattle.ndc_cells.specs.Cells.{both};
+    ghost use Rattle.ndc_runs.specs.Kept.{is_due};
     ghost use Rattle.ndc_sets.specs.Learned.{has_key, learned};
     ghost use Rattle.ndc_sets.specs.Sets.{batch_at, earlier};
     ghost use Rattle.ndc_sets.specs.Sound.{IsSound};
@@ -99,6 +100,15 @@ impl Workflow {
         ensures { self.new ≡ self.old }
     {
         self.runs.find_strays(alloc)
+    }
+
+    /// Whether reapplication is due: there are strays, and the current run is open. Where it is open, the strays are known
+    /// then, as by [`Workflow::find_strays`].
+    pub fn is_due(&mut self, alloc: Global) -> Result<bool, AllocError>
+        ensures due { IfOk result (λ due. due ≡ is_due (learned self.old.arrived)) }
+        ensures same { self.new ≡ self.old }
+    {
+        self.runs.is_due(alloc)
     }
 
     /// The nearest ancestor that has not arrived of the batch of this key, where the batch is put off. Over many calls

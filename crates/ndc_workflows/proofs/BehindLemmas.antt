@@ -91,7 +91,7 @@ workflow-own domains are domain workflow =
     each (Some w) e = (own-there domains are domain).each workflow w e
 
 -- batches carried by one of a workflow are of no other
-second-other : (domain workflow : Name) (b : Batch) (second : Option Batch) → is_of domain workflow b ≡ false → IfSome second (λ x. is_of b.domain b.workflow x ≡ true)
+pub second-other : (domain workflow : Name) (b : Batch) (second : Option Batch) → is_of domain workflow b ≡ false → IfSome second (λ x. is_of b.domain b.workflow x ≡ true)
     → IfSome second (λ x. is_of domain workflow x ≡ false)
 second-other domain workflow b None other own = tt
 second-other domain workflow b (Some x) other own =

@@ -7,4 +7,8 @@ pub mod PutLemmas
 pub mod ArriveLemmas
 pub mod WriteLemmas
 pub mod FindLemmas
+pub mod DueLemmas
+pub mod HoldLemmas
+pub mod AmongLemmas
+pub mod ListLemmas
 pub mod ExampleLemmas

@@ -1,3 +1,6 @@
 pub mod Named
 pub mod Workflows
 pub mod Writing
+pub mod Due
+pub mod Reapplied
+pub mod Listed

@@ -33,6 +33,7 @@ impl Domain {
     ghost use Rattle.std.specs.Option.{option_copied};
     ghost use Rattle.ndc_cells.specs.Cells.{both};
     ghost use Rattle.ndc_cells.specs.Places.{is_of};
+    ghost use Rattle.ndc_runs.specs.Kept.{is_due};
     ghost use Rattle.ndc_sets.specs.Learned.{learned};
     ghost use Rattle.ndc_sets.specs.Sound.{IsSound};
     ghost use Rattle.ndc_waiting.specs.Waiting.{IsMessage, IsNewTo};
@@ -56,6 +57,17 @@ impl Domain {
         ensures { option_copied result ≡ under workflow.now self.now }
     {
         self.workflows.get(workflow)
+    }
+
+    /// Whether reapplication is due in the workflow of this name, as [`Workflow::is_due`] finds it.
+    pub(crate) fn is_due(&mut self, alloc: Global, workflow: &Name) -> Result<bool, AllocError>
+        ensures due { IfOk result (λ due. due ≡ is_due (learned (workflow_or_empty (under workflow.now self.old)).arrived)) }
+        ensures same { self.new ≡ self.old }
+    {
+        if let Some(found) = self.workflows.get_mut(workflow) {
+            return found.is_due(alloc);
+        }
+        Ok(false)
     }
 
     /// A message of the domain arrives in its workflow. After want of memory the workflow may be anything.

@@ -2,6 +2,9 @@
 #![tactic(auto)]
 
 mod domain;
+mod domains;
+mod due;
+pub mod laws;
 mod workflows;
 
 pub use workflows::Workflows;

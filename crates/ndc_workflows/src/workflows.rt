@@ -1,32 +1,47 @@
-use crate::domain::Domain;
+ghost use Rattle.std.specs.Prelude.{◌≡◌, true, false, None, IfOk, OnOk, OnErr};
+ghost use Rattle.std.specs.Option.{option_copied};
+ghost use Rattle.ndc_cells.specs.Arrival.{arrival_of, arrived_at, learned_by};
+ghost use Rattle.ndc_cells.specs.Cells.{learned_of, IsCell};
+ghost use Rattle.ndc_runs.specs.Kept.{is_due, StaysSettled};
+ghost use Rattle.ndc_workflow.specs.Allowed.{MayArrive};
+ghost use Rattle.ndc_workflow.specs.Workflow.{workflow_of, IsWorkflow};
+ghost use Rattle.ndc_workflows.specs.Due.{HoldDue};
+ghost use Rattle.ndc_workflows.specs.Listed.{IsListedBefore, IsListedWhereDue};
+
+use crate::domains::Domains;
+use crate::due::Due;
 use ndc_cells::Message;
 use ndc_event::{Batch, Name};
+use ndc_runs::Runs;
 use ndc_state::Steps;
 use ndc_workflow::{Arrival, Workflow};
 use std::alloc::{AllocError, Global};
-use std::collections::BTreeMap;
 use std::marker::Model;
 
-/// All workflows of a cell, found by domain and then by workflow. Seen as the cell, as which it has written nothing: what
-/// has arrived, and what waits, both in order of place.
+/// All workflows of a cell, found by domain and then by workflow, and which of them reapplication may be due in. Seen as
+/// the cell, as which it has written nothing: what has arrived, and what waits, both in order of place.
 pub struct Workflows {
-    domains: BTreeMap<Name, Domain>,
+    domains: Domains,
+    due: Due,
 }
 
 impl Model for Workflows {
     ghost use Rattle.ndc_cells.specs.Cells.{Cell};
-    ghost use Rattle.ndc_workflows.specs.Workflows.{cell_of, AreDomains};
+    ghost use Rattle.ndc_workflows.specs.Due.{HoldDue};
 
     ghost Value = { Cell };
 
-    ghost view = { λ workflows. cell_of workflows.domains.entries };
+    ghost view = { λ workflows. workflows.domains };
 
-    ghost invariant = { λ workflows. AreDomains workflows.domains.entries };
+    ghost invariant = { λ workflows. HoldDue workflows.due workflows.domains };
 }
 
 impl Drop for Workflows {
     fn drop(self) {
-        let Workflows { domains: _domains } = self;
+        let Workflows {
+            domains: _domains,
+            due: _due,
+        } = self;
     }
 }
 
@@ -36,10 +51,12 @@ impl Workflows {
     ghost use Rattle.ndc_cells.specs.Arrival.{arrival_of, arrived_at, learned_by};
     ghost use Rattle.ndc_cells.specs.Cells.{empty_cell, learned_of, IsCell};
     ghost use Rattle.ndc_cells.specs.Writing.{with_batches};
+    ghost use Rattle.ndc_runs.specs.Kept.{is_due};
     ghost use Rattle.ndc_sets.specs.Sound.{IsSound};
     ghost use Rattle.ndc_workflow.specs.Allowed.{MayArrive};
     ghost use Rattle.ndc_workflow.specs.Learnable.{carrying};
     ghost use Rattle.ndc_workflow.specs.Workflow.{empty_workflow, workflow_of, IsWorkflow};
+    ghost use Rattle.ndc_workflows.specs.Due.{AreDue};
     ghost use Rattle.ndc_workflows.specs.Writing.{MayBeWritten};
 
     /// Nothing has arrived.
@@ -47,7 +64,8 @@ impl Workflows {
         ensures { result ≡ empty_cell }
     {
         Workflows {
-            domains: BTreeMap::new(alloc),
+            domains: Domains::new(alloc),
+            due: Due::new(alloc),
         }
     }
 
@@ -60,10 +78,10 @@ impl Workflows {
         ensures sound { IsSound (learned_of domain.now workflow.now self.now) }
         ensures cell { IsCell self.now }
     {
-        self.domains.get(domain)?.get(workflow)
+        self.domains.find(domain, workflow)
     }
 
-    /// A message arrives in its workflow. After want of memory nothing is said of what has arrived.
+    /// A message arrives in its workflow. After want of memory nothing has arrived any more.
     pub fn arrive<L>(
         &mut self,
         alloc: Global,
@@ -74,15 +92,16 @@ impl Workflows {
         ensures outcome { IfOk result (λ arrival. arrival.outcome ≡ arrival_of message self.old) }
         ensures learned { IfOk result (λ arrival. arrival.learned ≡ learned_by message self.old) }
         ensures cell { OnOk result (self.new ≡ arrived_at message self.old) }
+        ensures err { OnErr result (self.new ≡ empty_cell) }
     {
-        if let Some(domain) = self.domains.get_mut(&message.batch.domain) {
-            return domain.arrive(alloc, message, steps);
+        match arrive_in(&mut self.domains, &mut self.due, alloc, message, steps) {
+            Ok(arrival) => Ok(arrival),
+            Err(error) => {
+                self.domains = Domains::new(alloc);
+                self.due = Due::new(alloc);
+                Err(error)
+            }
         }
-        let name = message.batch.domain.try_copy()?;
-        let mut domain = Domain::new(alloc);
-        let arrival = domain.arrive(alloc, message, steps)?;
-        self.domains.insert(name, domain)?;
-        Ok(arrival)
     }
 
     /// Learns a batch that is written in this cell, and the one that it carries, in their workflow. For want of memory
@@ -98,13 +117,117 @@ impl Workflows {
         ensures ok { OnOk result (self.new ≡ with_batches (record { batch = batch.now; second = option_copied second.entry }) self.old) }
         ensures err { OnErr result (self.new ≡ self.old) }
     {
-        if let Some(domain) = self.domains.get_mut(&batch.domain) {
-            return domain.write(alloc, batch, second, steps);
+        list_before(&self.domains, &mut self.due, alloc, batch, second)?;
+        self.domains.write(alloc, batch, second, steps)
+    }
+
+    /// The workflows in which reapplication may be due, each as its domain and its name, in order. A workflow is among them
+    /// from when something is learned of it that may leave strays until [`Workflows::is_due`] finds that nothing is due.
+    pub fn due(&self, alloc: Global) -> Result<Vec<(Name, Name)>, AllocError>
+        ensures { IfOk result (λ list. AreDue list.items self.now) }
+    {
+        self.due.list(alloc)
+    }
+
+    /// Whether reapplication is due in a workflow: there are strays, and the current run is open. Then the strays are known
+    /// to its [`Runs`]. Where it is not due, [`Workflows::due`] has the workflow no more. In time of all learned events of
+    /// the workflow where the strays are not known, else of some look-ups.
+    pub fn is_due(
+        &mut self,
+        alloc: Global,
+        domain: &Name,
+        workflow: &Name,
+    ) -> Result<bool, AllocError>
+        ensures due { IfOk result (λ due. due ≡ is_due (learned_of domain.now workflow.now self.old)) }
+        ensures same { self.new ≡ self.old }
+    {
+        let is_due = self.domains.is_due(alloc, domain, workflow)?;
+        if !is_due {
+            self.due.take(domain, workflow)?;
         }
-        let name = batch.domain.try_copy()?;
-        let mut domain = Domain::new(alloc);
-        domain.write(alloc, batch, second, steps)?;
-        self.domains.insert(name, domain)?;
-        Ok(())
+        Ok(is_due)
+    }
+}
+
+/// A message arrives in its workflow, which is listed where reapplication may be due in it then.
+fn arrive_in<L>(
+    domains: &mut Domains,
+    due: &mut Due,
+    alloc: Global,
+    message: Message,
+    steps: &mut Steps<L>,
+) -> Result<Arrival, AllocError>
+    requires may { MayArrive message domains.old }
+    requires hold { HoldDue due.old domains.old }
+    ensures outcome { IfOk result (λ arrival. arrival.outcome ≡ arrival_of message domains.old) }
+    ensures learned { IfOk result (λ arrival. arrival.learned ≡ learned_by message domains.old) }
+    ensures cell { OnOk result (domains.new ≡ arrived_at message domains.old) }
+    ensures hold { OnOk result (HoldDue due.new domains.new) }
+{
+    let domain = message.batch.domain.try_copy()?;
+    let workflow = message.batch.workflow.try_copy()?;
+    let arrival = domains.arrive(alloc, message, steps)?;
+    list_where_due(domains, due, &domain, &workflow)?;
+    Ok(arrival)
+}
+
+/// Lists a workflow where reapplication may be due in it.
+fn list_where_due(
+    domains: &Domains,
+    due: &mut Due,
+    domain: &Name,
+    workflow: &Name,
+) -> Result<(), AllocError>
+    ensures { OnOk result (IsListedWhereDue domain.now workflow.now domains.now due.old due.new) }
+{
+    if !may_be_due(domains, domain, workflow) {
+        return Ok(());
+    }
+    due.put(domain, workflow)
+}
+
+/// Whether reapplication may be due in a workflow, by what is known of it.
+fn may_be_due(domains: &Domains, domain: &Name, workflow: &Name) -> bool
+    ensures { result ≡ false → is_due (learned_of domain.now workflow.now domains.now) ≡ false }
+{
+    match domains.find(domain, workflow) {
+        Some(found) => found.runs().may_be_due(),
+        None => false,
+    }
+}
+
+/// Lists the workflow of a batch that is to be written, unless the batch leaves no stray, by what is known of it.
+fn list_before(
+    domains: &Domains,
+    due: &mut Due,
+    alloc: Global,
+    batch: &Batch,
+    second: Option<&Batch>,
+) -> Result<(), AllocError>
+    ensures ok { OnOk result (IsListedBefore batch.now (option_copied second.entry) domains.now due.old due.new) }
+    ensures err { OnErr result (due.new ≡ due.old) }
+    ensures workflow { IsWorkflow (workflow_of batch.now.domain batch.now.workflow domains.now) }
+    ensures cell { IsCell domains.now }
+{
+    if stays_settled(domains, alloc, batch, second) {
+        return Ok(());
+    }
+    due.put(&batch.domain, &batch.workflow)
+}
+
+/// Whether a batch that carries none leaves no stray in its workflow, by what is known of it.
+fn stays_settled(domains: &Domains, alloc: Global, batch: &Batch, second: Option<&Batch>) -> bool
+    ensures alone { result ≡ true → option_copied second.entry ≡ None }
+    ensures settled { result ≡ true → StaysSettled batch.now (learned_of batch.now.domain batch.now.workflow domains.now) }
+    ensures workflow { IsWorkflow (workflow_of batch.now.domain batch.now.workflow domains.now) }
+    ensures cell { IsCell domains.now }
+{
+    let found = domains.find(&batch.domain, &batch.workflow);
+    if second.is_some() {
+        return false;
+    }
+    match found {
+        Some(found) => found.runs().stays_settled(batch),
+        None => Runs::new(alloc).stays_settled(batch),
     }
 }

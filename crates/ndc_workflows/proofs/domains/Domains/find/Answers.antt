@@ -6,7 +6,7 @@ use Rattle.ndc_workflows.specs.Workflows.{workflow_or_empty}
 use Rattle.ndc_workflows.proofs.BehindLemmas.{workflow-own}
 use Rattle.ndc_workflows.proofs.DomainLemmas.{is-cell}
 use Rattle.ndc_workflows.proofs.FindLemmas.{found-some, found-none, always-none, found-under}
-use Rattle.ndc_workflows.proofs.workflows.Workflows.find.Goals as goal
+use Rattle.ndc_workflows.proofs.domains.Domains.find.Goals as goal
 
 pub returns-in_err-get-clause-none : goal.returns-in_err-get-clause-none
 returns-in_err-get-clause-none c =

@@ -15,7 +15,7 @@ use Rattle.ndc_workflows.proofs.ArriveLemmas.{new-there, sound-there, answer-the
 use Rattle.ndc_workflows.proofs.DomainLemmas.{none-own}
 use Rattle.ndc_workflows.proofs.NameLemmas.{put-holds}
 use Rattle.ndc_workflows.proofs.PutLemmas.{map-put, same-put}
-use Rattle.ndc_workflows.proofs.workflows.Workflows.arrive.Goals as goal
+use Rattle.ndc_workflows.proofs.domains.Domains.arrive.Goals as goal
 
 pub arrive-requires-clause-own : goal.arrive-requires-clause-own
 arrive-requires-clause-own g c = c.self.invariant.each c.args.message.batch.domain c.in-Some.domain.now (sym c.in-Some.ensures.value)

@@ -1,0 +1,19 @@
+use Rattle.std.proofs.Common.{◌≡◌, sym, subst}
+use Rattle.ndc_cells.specs.Arrival.{arrived_at}
+use Rattle.ndc_cells.specs.Cells.{Cell}
+use Rattle.ndc_event.specs.declared.name.Name.{Name}
+use Rattle.ndc_workflows.specs.Due.{HoldDue}
+use Rattle.ndc_workflows.specs.Listed.{IsListedWhereDue}
+use Rattle.ndc_workflows.proofs.HoldLemmas.{hold-arrived}
+use Rattle.ndc_workflows.proofs.workflows.arrive_in.Goals as goal
+
+pub returns-clause-hold : goal.returns-clause-hold
+returns-clause-hold g c =
+    let m = c.args.message in
+    let after = c.list_where_due.new.due in
+    let cell = arrived_at m c.args.domains.now in
+    let listed = subst (λ (x : Cell). IsListedWhereDue c.in_ok-domain.domain c.in_ok-workflow.workflow x c.args.due.now after) c.in_ok-arrival.ensures.cell c.in_ok-list_where_due.ensures in
+    subst (HoldDue after) (sym c.in_ok-arrival.ensures.cell)
+    (hold-arrived m c.args.domains.now c.args.due.now after c.requires.may c.requires.hold
+    (subst (λ (d : Name). IsListedWhereDue d m.batch.workflow cell c.args.due.now after) c.in_ok-domain.ensures
+    (subst (λ (w : Name). IsListedWhereDue c.in_ok-domain.domain w cell c.args.due.now after) c.in_ok-workflow.ensures listed)))
