@@ -6,3 +6,4 @@ pub mod AskedLemmas
 pub mod ReplyLemmas
 pub mod ExampleLemmas
 pub mod RoomLemmas
+pub mod AgainLemmas

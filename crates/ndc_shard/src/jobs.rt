@@ -1,16 +1,16 @@
 ghost use Rattle.std.specs.Prelude.{◌≡◌, ◌≢◌, Err, IfOk, OnOk};
-ghost use Rattle.ndc_cells.specs.Jobs.{after_job, keys_written, reply_to};
+ghost use Rattle.ndc_cells.specs.Jobs.{after_job, keys_written, reply_to, workflows_of};
 ghost use Rattle.ndc_cells.specs.Writing.{command_of, reset_at};
-ghost use Rattle.ndc_cells.specs.declared.job.Job.TheVariants.{Arrive, Command as Commanded, Reset};
+ghost use Rattle.ndc_cells.specs.declared.job.Job.TheVariants.{Arrive, Command as Commanded, Reapply, Reset};
 ghost use Rattle.ndc_command.specs.declared.refusal.CommandError.TheVariants.{Memory};
 ghost use Rattle.ndc_shard.specs.Shards.{reply_of};
-ghost use Rattle.ndc_workflow.specs.Allowed.{MayArrive, MayBeAsked};
+ghost use Rattle.ndc_workflow.specs.Allowed.{MayArrive, MayBeAsked, MayReapply};
 
 use crate::shard::Shard;
-use ndc_cells::{JobReply, Message, Outcome, Written};
+use ndc_cells::{Job, JobReply, Message, Outcome, Written};
 use ndc_command::{Command, CommandError};
 use ndc_event::{Batch, Name};
-use ndc_rounds::Desk;
+use ndc_rounds::{Desk, Works};
 use ndc_sets::Batches;
 use ndc_state::Steps;
 use ndc_workflow::Arrival;
@@ -18,6 +18,31 @@ use std::alloc::{AllocError, Global};
 
 /// Marks the counters of steps that jobs take.
 struct Jobs;
+
+impl Works for Shard {
+    ghost use Rattle.ndc_workflow.specs.Allowed.{IsAllowed};
+
+    ghost cell = { λ shard. shard };
+
+    ghost allows = { IsAllowed };
+
+    fn do_job(&mut self, desk: &Desk, job: &Job) -> Result<JobReply, AllocError> {
+        match job {
+            Job::Command {
+                domain,
+                workflow,
+                command,
+            } => do_command(self, desk, domain, workflow, command),
+            Job::Arrive { message } => do_arrive(self, desk, message),
+            Job::Reapply => do_reapply(self, desk),
+            Job::Reset {
+                domain,
+                workflow,
+                event,
+            } => do_reset(self, desk, domain, workflow, *event),
+        }
+    }
+}
 
 /// A command to a workflow.
 fn do_command(
@@ -49,6 +74,22 @@ fn do_arrive(shard: &mut Shard, desk: &Desk, message: &Message) -> Result<JobRep
     let Arrival { outcome, learned } = arrival;
     Ok(JobReply {
         outcome: Outcome::Arrived(outcome),
+        learned,
+    })
+}
+
+/// Strays are applied again in each workflow.
+#[tactic(auto, unfolding(ndc_cells::specs::Jobs::after_job, ndc_cells::specs::Jobs::outcome_of, ndc_cells::specs::Jobs::learned_in))]
+fn do_reapply(shard: &mut Shard, desk: &Desk) -> Result<JobReply, AllocError>
+    requires { MayReapply desk.now (workflows_of shard.old.arrived) shard.old }
+    ensures cell { OnOk result (shard.new ≡ after_job desk.now Reapply shard.old) }
+    ensures reply { IfOk result (λ reply. reply ≡ reply_to desk.now Reapply shard.old) }
+{
+    let mut steps: Steps<Jobs> = Steps::new();
+    let learned = shard.reapply(desk, &mut steps)?;
+    let count = learned.as_slice().len() as u64;
+    Ok(JobReply {
+        outcome: Outcome::Reapplied { count },
         learned,
     })
 }

@@ -2,8 +2,8 @@ use crate::asking::{as_command_error, command_entries, push_batches};
 use crate::writing::write_in;
 use ndc_cells::Message;
 use ndc_command::{Command, CommandError, Refusal};
-use ndc_entries::{Entry, may_write, reset_entries};
-use ndc_event::{BatchKey, Name};
+use ndc_entries::{Entry, may_write, reapplication_entry, reset_entries};
+use ndc_event::{Batch, BatchKey, Name};
 use ndc_rounds::Desk;
 use ndc_runs::Runs;
 use ndc_sets::Batches;
@@ -40,18 +40,22 @@ impl Drop for Shard {
 }
 
 impl Shard {
-    ghost use Rattle.std.specs.Prelude.{◌≡◌, ◌≢◌, ◌<◌, [], length, slice_get, Some, IfSome, IfNone, IfOk, IfErr, OnOk};
+    ghost use Rattle.std.specs.Prelude.{◌≡◌, ◌≢◌, ◌<◌, ◌++◌, [], length, option_to_list, slice_get, Some, IfSome, IfNone, IfOk, IfErr, OnOk};
     ghost use Rattle.ndc_cells.specs.Arrival.{arrival_of, arrived_at, learned_by};
     ghost use Rattle.ndc_cells.specs.Cells.{empty_cell, learned_of};
-    ghost use Rattle.ndc_cells.specs.Jobs.{all_batches, written_at};
-    ghost use Rattle.ndc_cells.specs.Writing.{command_of, may_write, reset_at, with_all_written, with_written};
+    ghost use Rattle.ndc_cells.specs.Jobs.{all_batches, reapplied_in, reapplied_now, workflows_of, written_at};
+    ghost use Rattle.ndc_cells.specs.Writing.{command_of, may_write, reapplication_below, reapplication_of, reset_at, with_all_written, with_written};
     ghost use Rattle.ndc_command.specs.declared.refusal.CommandError.TheVariants.{Memory};
     ghost use Rattle.ndc_event.specs.Outcome.{Gives};
+    ghost use Rattle.ndc_runs.specs.Kept.{is_due};
+    ghost use Rattle.ndc_sets.specs.Branches.{workflow_tip};
+    ghost use Rattle.ndc_sets.specs.Current.{strays};
     ghost use Rattle.ndc_sets.specs.Learned.{has_key};
     ghost use Rattle.ndc_shard.specs.Shards.{AreWritable, IsFit, batches_written};
-    ghost use Rattle.ndc_workflow.specs.Allowed.{HasRoom, MayArrive, MayBeAsked};
+    ghost use Rattle.ndc_workflow.specs.Allowed.{HasRoom, MayArrive, MayBeAsked, MayReapply, MayWriteAll};
     ghost use Rattle.ndc_workflow.specs.Learnable.{carrying};
     ghost use Rattle.ndc_workflow.specs.Workflow.{workflow_of};
+    ghost use Rattle.ndc_workflows.specs.Reapplied.{MayReapplyAmong, reapplied_among, reapplied_at, written_among};
     ghost use Rattle.ndc_workflows.specs.Writing.{MayBeWritten};
 
     /// Nothing has happened.
@@ -255,6 +259,111 @@ impl Shard {
     {
         let entries = self.reset_entries(desk, domain, workflow, event)?;
         let batches = self.write_all(entries, steps)?;
+        Ok(batches)
+    }
+
+    /// Whether reapplication is due in a workflow.
+    fn is_due(&mut self, domain: &Name, workflow: &Name) -> Result<bool, AllocError>
+        ensures due { IfOk result (λ due. due ≡ is_due (learned_of domain.now workflow.now self.old)) }
+        ensures same { self.new ≡ self.old }
+    {
+        self.workflows.is_due(self.alloc, domain, workflow)
+    }
+
+    /// What reapplication writes to a workflow of which the strays may be known, with this version.
+    fn entry_again(
+        &self,
+        domain: &Name,
+        workflow: &Name,
+        version: u64,
+    ) -> Result<Option<Entry>, AllocError>
+        requires { HasRoom (learned_of domain.now workflow.now self.now) }
+        ensures { IfOk result (λ entry. option_to_list entry ≡ reapplication_below domain.now workflow.now version (workflow_tip (learned_of domain.now workflow.now self.now)) (learned_of domain.now workflow.now self.now) (strays (learned_of domain.now workflow.now self.now))) }
+    {
+        let Some(runs) = self.runs(domain, workflow) else {
+            return Ok(None);
+        };
+        let alloc = self.alloc;
+        match runs.known_strays() {
+            Some(list) => reapplication_entry(alloc, domain, workflow, version, list, runs),
+            None => {
+                let list = runs.strays(alloc)?;
+                reapplication_entry(alloc, domain, workflow, version, list.as_slice(), runs)
+            }
+        }
+    }
+
+    /// What reapplication writes to a workflow.
+    #[tactic(auto, unfolding(ndc_cells::specs::Writing::reapplication_of))]
+    fn reapplication(
+        &mut self,
+        desk: &Desk,
+        domain: &Name,
+        workflow: &Name,
+    ) -> Result<Option<Entry>, AllocError>
+        requires { HasRoom (learned_of domain.now workflow.now self.old) }
+        ensures entry { IfOk result (λ entry. option_to_list entry ≡ reapplication_of desk.now domain.now workflow.now self.old) }
+        ensures same { self.new ≡ self.old }
+        ensures fit { IsFit domain.now workflow.now self.old }
+    {
+        let Ok(version) = self.may_write(desk, domain, workflow) else {
+            return Ok(None);
+        };
+        if !self.is_due(domain, workflow)? {
+            return Ok(None);
+        }
+        self.entry_again(domain, workflow, version)
+    }
+
+    /// Strays are applied again in a workflow, and the batches that are written go last among these.
+    fn reapply_in<L>(
+        &mut self,
+        desk: &Desk,
+        domain: &Name,
+        workflow: &Name,
+        batches: &mut Vec<Batch>,
+        steps: &mut Steps<L>,
+    ) -> Result<(), AllocError>
+        requires room { HasRoom (learned_of domain.now workflow.now self.old) }
+        requires may { MayWriteAll domain.now workflow.now (reapplication_of desk.now domain.now workflow.now self.old) self.old }
+        ensures cell { OnOk result (self.new ≡ reapplied_at desk.now (domain.now, workflow.now) self.old) }
+        ensures batches { OnOk result (batches.new.items ≡ batches.old.items ++ all_batches (reapplication_of desk.now domain.now workflow.now self.old)) }
+    {
+        let Some(entry) = self.reapplication(desk, domain, workflow)? else {
+            return Ok(());
+        };
+        push_batches(batches, &entry)?;
+        self.write(entry, steps)
+    }
+
+    /// Strays are applied again in these workflows, in order.
+    fn reapply_among<L>(
+        &mut self,
+        desk: &Desk,
+        list: Vec<(Name, Name)>,
+        steps: &mut Steps<L>,
+    ) -> Result<Batches, AllocError>
+        requires { MayReapplyAmong desk.now list.items self.old }
+        ensures cell { OnOk result (self.new ≡ reapplied_among desk.now list.items self.old) }
+        ensures batches { IfOk result (λ batches. batches ≡ written_among desk.now list.items self.old) }
+    {
+        let mut batches = Vec::new(self.alloc);
+        for (domain, workflow) in list {
+            self.reapply_in(desk, &domain, &workflow, &mut batches, steps)?;
+        }
+        Ok(Batches::new(batches))
+    }
+
+    /// Strays are applied again in each workflow, in order, where the cell may write to it and its current run is open:
+    /// the batches that are written, in order. After want of memory nothing is said of the cell. It looks only at workflows
+    /// in which reapplication may be due.
+    pub fn reapply<L>(&mut self, desk: &Desk, steps: &mut Steps<L>) -> Result<Batches, AllocError>
+        requires { MayReapply desk.now (workflows_of self.old.arrived) self.old }
+        ensures cell { OnOk result (self.new ≡ reapplied_in desk.now (workflows_of self.old.arrived) self.old) }
+        ensures batches { IfOk result (λ batches. batches ≡ reapplied_now desk.now (workflows_of self.old.arrived) self.old) }
+    {
+        let list = self.workflows.due(self.alloc)?;
+        let batches = self.reapply_among(desk, list, steps)?;
         Ok(batches)
     }
 }
