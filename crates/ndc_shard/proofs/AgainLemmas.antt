@@ -1,7 +1,8 @@
 -- What reapplication writes may be written, and where it is not due nothing is written.
 use Rattle.std.proofs.Common.{◌≡◌, ◌≤◌, ◌+◌, ◌^◌, ℕ, Bool, true, false, List, [], ◌∷◌, Option, Some, None, Result, Ok, Err, IfOk, IfSome, if◌then◌else◌, refl, sym, ◌∙◌, subst, ap, arith, length}
-use Rattle.std.specs.Prelude.{is_some}
+use Rattle.std.specs.Prelude.{is_some, option_to_list}
 use Rattle.std.specs.List.{AllByRecursion}
+use Rattle.ndc_cells.specs.declared.message.Message.{Message}
 use Rattle.ndc_cells.specs.Cells.{Cell, learned_of}
 use Rattle.ndc_cells.specs.Writing.{Entry, Home, alone, batch_below, greatest_version, may_write, may_write_by, next_key, reapplication_below, reapplication_by, reapplication_of, state_under}
 use Rattle.ndc_command.specs.declared.refusal.Refusal.{Refusal}
@@ -18,7 +19,11 @@ use Rattle.ndc_sets.specs.Current.{state_to, strays}
 use Rattle.ndc_sets.specs.Sound.{IsSound}
 use Rattle.ndc_state.specs.Value.{StateValue}
 use Rattle.ndc_workflow.specs.Allowed.{HasRoom, MayWriteAll}
-use Rattle.ndc_shard.specs.Shards.{AreWritable, IsFit}
+use Rattle.ndc_workflow.specs.Learnable.{carrying}
+use Rattle.ndc_workflow.specs.Workflow.{workflow_of}
+use Rattle.ndc_workflows.specs.Due.{AreDue}
+use Rattle.ndc_workflows.specs.Writing.{MayBeWritten}
+use Rattle.ndc_shard.specs.Shards.{AreWritable, IsFit, having_written}
 use Rattle.ndc_shard.proofs.MayLemmas.{AreReached, all-may}
 
 -- what is written goes below the tip
@@ -56,3 +61,14 @@ again-writable home domain workflow cell fit room = by (may_write_by home (recor
 pub entry-writable : (home : Home) (domain workflow : Name) (cell : Cell) (entry : Entry) → entry ∷ [] ≡ reapplication_of home domain workflow cell → IsFit domain workflow cell
     → HasRoom (learned_of domain workflow cell) → MayWriteAll domain workflow (reapplication_of home domain workflow cell) cell → AreWritable (entry ∷ []) cell
 entry-writable home domain workflow cell entry e fit room may = subst (λ (l : List Entry). AreWritable l cell) (sym e) (again-writable home domain workflow cell fit room may)
+
+pub entry-may : (home : Home) (domain workflow : Name) (old new : Cell) (o : Option Entry) (entry : Entry) → new ≡ old → o ≡ Some entry → option_to_list o ≡ reapplication_of home domain workflow old
+    → IfSome o (λ _. IsFit domain workflow new) → HasRoom (learned_of domain workflow old) → MayWriteAll domain workflow (reapplication_of home domain workflow old) old
+    → MayBeWritten (carrying entry.batch entry.second) (workflow_of entry.batch.domain entry.batch.workflow new)
+entry-may home domain workflow old new o entry same some e fit room may =
+    subst (λ (c : Cell). MayBeWritten (carrying entry.batch entry.second) (workflow_of entry.batch.domain entry.batch.workflow c)) (sym same)
+    (entry-writable home domain workflow old entry (sym (ap option_to_list some) ∙ e) (subst (IsFit domain workflow) same (subst (λ (x : Option Entry). IfSome x (λ _. IsFit domain workflow new)) some fit)) room may).0
+
+-- what is due is due whatever the cell has written
+pub due-same : (messages : List Message) (list : List (Name × Name)) (cell : Cell) → AreDue list cell → AreDue list (having_written messages cell)
+due-same messages list cell are = record { ordered = are.ordered; each = are.each }

@@ -278,7 +278,8 @@ impl Shard {
         version: u64,
     ) -> Result<Option<Entry>, AllocError>
         requires { HasRoom (learned_of domain.now workflow.now self.now) }
-        ensures { IfOk result (λ entry. option_to_list entry ≡ reapplication_below domain.now workflow.now version (workflow_tip (learned_of domain.now workflow.now self.now)) (learned_of domain.now workflow.now self.now) (strays (learned_of domain.now workflow.now self.now))) }
+        ensures fit { IsFit domain.now workflow.now self.now }
+        ensures entry { IfOk result (λ entry. option_to_list entry ≡ reapplication_below domain.now workflow.now version (workflow_tip (learned_of domain.now workflow.now self.now)) (learned_of domain.now workflow.now self.now) (strays (learned_of domain.now workflow.now self.now))) }
     {
         let Some(runs) = self.runs(domain, workflow) else {
             return Ok(None);
@@ -304,7 +305,7 @@ impl Shard {
         requires { HasRoom (learned_of domain.now workflow.now self.old) }
         ensures entry { IfOk result (λ entry. option_to_list entry ≡ reapplication_of desk.now domain.now workflow.now self.old) }
         ensures same { self.new ≡ self.old }
-        ensures fit { IsFit domain.now workflow.now self.old }
+        ensures fit { IfOk result (λ entry. IfSome entry (λ _. IsFit domain.now workflow.now self.new)) }
     {
         let Ok(version) = self.may_write(desk, domain, workflow) else {
             return Ok(None);
