@@ -7,3 +7,6 @@ mod shard;
 mod writing;
 
 pub use shard::Shard;
+
+#[cfg(test)]
+mod tests;

@@ -4,6 +4,7 @@ use ndc_cells::Message;
 use ndc_command::{Command, CommandError, Refusal};
 use ndc_entries::{Entry, may_write, reapplication_entry, reset_entries};
 use ndc_event::{Batch, BatchKey, Name};
+use ndc_links::{Learns, Writes};
 use ndc_rounds::Desk;
 use ndc_runs::Runs;
 use ndc_sets::Batches;
@@ -82,31 +83,6 @@ impl Shard {
         ensures fit { IsFit domain.now workflow.now self.now }
     {
         Some(self.workflows.find(domain, workflow)?.runs())
-    }
-
-    /// Whether the batch of this key of a workflow is learned. Takes no memory.
-    pub fn has_learned(&self, domain: &Name, workflow: &Name, key: BatchKey) -> bool
-        ensures { result ≡ has_key (Some key) (learned_of domain.now workflow.now self.now) }
-    {
-        match self.runs(domain, workflow) {
-            Some(runs) => runs.has(key),
-            None => false,
-        }
-    }
-
-    /// How many messages it has written. Takes no memory.
-    pub fn written_len(&self) -> u64
-        ensures { result ≡ length self.now.written }
-    {
-        self.written.len() as u64
-    }
-
-    /// A copy of the message that it has written at a place, counted from 0 in the order of writing.
-    pub fn written_at(&self, place: u64) -> Result<Message, AllocError>
-        requires { place < length self.now.written }
-        ensures { IfOk result (λ sent. slice_get self.now.written place ≡ Some sent) }
-    {
-        self.written[place as usize].try_copy()
     }
 
     /// The version with which the cell may write to a workflow, or why it may not, as [`ndc_entries::may_write`] says.
@@ -366,5 +342,24 @@ impl Shard {
         let list = self.workflows.due(self.alloc)?;
         let batches = self.reapply_among(desk, list, steps)?;
         Ok(batches)
+    }
+}
+
+impl Learns for Shard {
+    fn has_learned(&self, domain: &Name, workflow: &Name, key: BatchKey) -> bool {
+        match self.runs(domain, workflow) {
+            Some(runs) => runs.has(key),
+            None => false,
+        }
+    }
+}
+
+impl Writes for Shard {
+    fn written_len(&self) -> u64 {
+        self.written.len() as u64
+    }
+
+    fn written_at(&self, place: u64) -> Result<Message, AllocError> {
+        self.written[place as usize].try_copy()
     }
 }
