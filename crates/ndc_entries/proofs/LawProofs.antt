@@ -87,7 +87,7 @@ above-fresh batches key above = by (batch_at key batches) refl
         absurd (before-irrefl key (subst (λ (k : BatchKey). key_lt k key ≡ true) same (above b (found-has batches key b e))))
 
 -- the tip is learned
-tip-has : (batches : List Batch) → IsSound batches → (tip : Batch) → workflow_tip batches ≡ Some tip → Has batches tip
+pub tip-has : (batches : List Batch) → IsSound batches → (tip : Batch) → workflow_tip batches ≡ Some tip → Has batches tip
 tip-has batches sound tip e =
     among-has batches tip sound.set.ordered
     (greatest-among batches tip (sym (workflow_is_greatest batches sound.set sound.closed sound.parents sound.chains) ∙ e))

@@ -51,6 +51,34 @@ impl<'a> Desk<'a> {
             table,
         }
     }
+
+    /// The clusters.
+    pub fn clusters(&self) -> &Clusters
+        ensures { result.now ≡ self.now.clusters }
+    {
+        self.clusters
+    }
+
+    /// Which of them it is.
+    pub fn me(&self) -> ClusterNo
+        ensures { result ≡ self.now.me }
+    {
+        self.me
+    }
+
+    /// The limit of histories.
+    pub fn limit(&self) -> u64
+        ensures { result ≡ self.now.limit }
+    {
+        self.limit
+    }
+
+    /// Its domain records.
+    pub fn table(&self) -> &DomainTable
+        ensures { result.now ≡ self.now.table }
+    {
+        self.table
+    }
 }
 
 /// Something that does the jobs of a cell, one after the other.

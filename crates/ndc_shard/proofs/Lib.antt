@@ -2,3 +2,8 @@ pub mod QueueLemmas
 pub mod FoundLemmas
 pub mod HistoryLemmas
 pub mod MayLemmas
+pub mod AskedLemmas
+pub mod ReplyLemmas
+pub mod ExampleLemmas
+pub mod RoomLemmas
+pub mod AgainLemmas

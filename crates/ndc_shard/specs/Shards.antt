@@ -1,8 +1,43 @@
 -- Words for a shard.
-use Rattle.std.specs.Prelude.{List}
+use Rattle.std.specs.Prelude.{List, [], ◌∷◌, Result, Ok, Err}
+use Rattle.ndc_cells.specs.declared.job.JobReply.{JobReply}
+use Rattle.ndc_cells.specs.declared.job.Outcome.TheVariants as outcome
 use Rattle.ndc_cells.specs.declared.message.Message.{Message}
-use Rattle.ndc_cells.specs.Cells.{Cell}
+use Rattle.ndc_cells.specs.Cells.{Cell, IsCell, learned_of}
+use Rattle.ndc_cells.specs.Jobs.{all_batches, keys_written}
+use Rattle.ndc_cells.specs.Writing.{Entry, with_written}
+use Rattle.ndc_command.specs.declared.refusal.CommandError.{CommandError}
+use Rattle.ndc_command.specs.declared.refusal.CommandError.TheVariants.{Memory, Refused}
+use Rattle.ndc_event.specs.Outcome.{◌>>=◌}
+use Rattle.ndc_event.specs.declared.batch.Batch.{Batch}
+use Rattle.ndc_event.specs.declared.name.Name.{Name}
+use Rattle.ndc_sets.specs.Sound.{IsSound}
+use Rattle.ndc_workflow.specs.Learnable.{carrying}
+use Rattle.ndc_workflow.specs.Workflow.{IsWorkflow, workflow_of}
+use Rattle.ndc_workflows.specs.Writing.{MayBeWritten}
 
 -- the cell that has written these messages
 abbrev pub having_written : List Message → Cell → Cell
 having_written messages cell = record cell { written = messages }
+
+-- a workflow of a cell as it should be: the cell is in order, what waits lies beside what is learned, and what is learned is sound
+pub record IsFit (domain workflow : Name) (cell : Cell) : Type 0 where
+  pub cell_is : IsCell cell
+  pub workflow_is : IsWorkflow (workflow_of domain workflow cell)
+  pub sound : IsSound (learned_of domain workflow cell)
+
+-- entries may be written one after the other
+abbrev pub AreWritable : List Entry → Cell → Type 0
+AreWritable [] cell = Unit {0}
+AreWritable (entry ∷ entries) cell =
+    MayBeWritten (carrying entry.batch entry.second) (workflow_of entry.batch.domain entry.batch.workflow cell) × AreWritable entries (with_written entry cell)
+
+-- the batches of what was to be written, in the order of writing, or the refusal
+abbrev pub batches_written : Result (List Entry) CommandError → Result (List Batch) CommandError
+batches_written written = written >>= λ entries. Ok (all_batches entries)
+
+-- the reply to a command or a reset that has written these batches, or was refused
+abbrev pub reply_of : Result (List Batch) CommandError → JobReply
+reply_of (Ok batches) = record { outcome = keys_written batches; learned = batches }
+reply_of (Err (Refused refusal)) = record { outcome = outcome.Refused refusal; learned = [] }
+reply_of (Err Memory) = record { outcome = outcome.Reapplied 0; learned = [] }

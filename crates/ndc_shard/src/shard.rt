@@ -1,10 +1,13 @@
+use crate::asking::{as_command_error, command_entries, push_batches};
 use crate::writing::write_in;
 use ndc_cells::Message;
-use ndc_command::Refusal;
-use ndc_domain::{ClusterNo, Clusters, DomainTable};
-use ndc_entries::{Entry, may_write};
-use ndc_event::{BatchKey, Name};
+use ndc_command::{Command, CommandError, Refusal};
+use ndc_entries::{Entry, may_write, reapplication_entry, reset_entries};
+use ndc_event::{Batch, BatchKey, Name};
+use ndc_links::{Learns, Writes};
+use ndc_rounds::Desk;
 use ndc_runs::Runs;
+use ndc_sets::Batches;
 use ndc_state::Steps;
 use ndc_workflow::Arrival;
 use ndc_workflows::Workflows;
@@ -13,6 +16,7 @@ use std::marker::Model;
 
 /// One shard of one cluster: its workflows, and all messages that it has written, in order. Seen as the cell.
 pub struct Shard {
+    alloc: Global,
     workflows: Workflows,
     written: Vec<Message>,
 }
@@ -29,6 +33,7 @@ impl Model for Shard {
 impl Drop for Shard {
     fn drop(self) {
         let Shard {
+            alloc: _alloc,
             workflows: _workflows,
             written: _written,
         } = self;
@@ -36,14 +41,22 @@ impl Drop for Shard {
 }
 
 impl Shard {
-    ghost use Rattle.std.specs.Prelude.{◌≡◌, ◌<◌, ℕ, [], length, slice_get, Some, IfSome, IfNone, IfOk, OnOk};
+    ghost use Rattle.std.specs.Prelude.{◌≡◌, ◌≢◌, ◌<◌, ◌++◌, [], length, option_to_list, slice_get, Some, IfSome, IfNone, IfOk, IfErr, OnOk};
     ghost use Rattle.ndc_cells.specs.Arrival.{arrival_of, arrived_at, learned_by};
     ghost use Rattle.ndc_cells.specs.Cells.{empty_cell, learned_of};
-    ghost use Rattle.ndc_cells.specs.Writing.{may_write, with_written};
+    ghost use Rattle.ndc_cells.specs.Jobs.{all_batches, reapplied_in, reapplied_now, workflows_of, written_at};
+    ghost use Rattle.ndc_cells.specs.Writing.{command_of, may_write, reapplication_below, reapplication_of, reset_at, with_all_written, with_written};
+    ghost use Rattle.ndc_command.specs.declared.refusal.CommandError.TheVariants.{Memory};
+    ghost use Rattle.ndc_event.specs.Outcome.{Gives};
+    ghost use Rattle.ndc_runs.specs.Kept.{is_due};
+    ghost use Rattle.ndc_sets.specs.Branches.{workflow_tip};
+    ghost use Rattle.ndc_sets.specs.Current.{strays};
     ghost use Rattle.ndc_sets.specs.Learned.{has_key};
-    ghost use Rattle.ndc_workflow.specs.Allowed.{MayArrive};
+    ghost use Rattle.ndc_shard.specs.Shards.{AreWritable, IsFit, batches_written};
+    ghost use Rattle.ndc_workflow.specs.Allowed.{HasRoom, MayArrive, MayBeAsked, MayReapply, MayWriteAll};
     ghost use Rattle.ndc_workflow.specs.Learnable.{carrying};
     ghost use Rattle.ndc_workflow.specs.Workflow.{workflow_of};
+    ghost use Rattle.ndc_workflows.specs.Reapplied.{MayReapplyAmong, reapplied_among, reapplied_at, written_among};
     ghost use Rattle.ndc_workflows.specs.Writing.{MayBeWritten};
 
     /// Nothing has happened.
@@ -51,67 +64,44 @@ impl Shard {
         ensures { result ≡ empty_cell }
     {
         Shard {
+            alloc,
             workflows: Workflows::new(alloc),
             written: Vec::new(alloc),
         }
     }
 
-    /// What is learned of a workflow, with its states. There is none only where nothing is.
+    /// Where its memory comes from.
+    pub(crate) fn alloc(&self) -> Global {
+        self.alloc
+    }
+
+    /// What is learned of a workflow, with its states. There is none only where nothing is. What is
+    /// learned of it is sound.
     pub fn runs(&self, domain: &Name, workflow: &Name) -> Option<&Runs>
         ensures found { IfSome result (λ runs. runs.now ≡ learned_of domain.now workflow.now self.now) }
         ensures none { IfNone result (learned_of domain.now workflow.now self.now ≡ []) }
+        ensures fit { IsFit domain.now workflow.now self.now }
     {
         Some(self.workflows.find(domain, workflow)?.runs())
     }
 
-    /// Whether the batch of this key of a workflow is learned. Takes no memory.
-    pub fn has_learned(&self, domain: &Name, workflow: &Name, key: BatchKey) -> bool
-        ensures { result ≡ has_key (Some key) (learned_of domain.now workflow.now self.now) }
-    {
-        match self.runs(domain, workflow) {
-            Some(runs) => runs.has(key),
-            None => false,
-        }
-    }
-
-    /// How many messages it has written. Takes no memory.
-    pub fn written_len(&self) -> u64
-        ensures { result ≡ length self.now.written }
-    {
-        self.written.len() as u64
-    }
-
-    /// A copy of the message that it has written at a place, counted from 0 in the order of writing.
-    pub fn written_at(&self, place: u64) -> Result<Message, AllocError>
-        requires { place < length self.now.written }
-        ensures { IfOk result (λ sent. slice_get self.now.written place ≡ Some sent) }
-    {
-        self.written[place as usize].try_copy()
-    }
-
     /// The version with which the cell may write to a workflow, or why it may not, as [`ndc_entries::may_write`] says.
-    pub fn may_write(
-        &self,
-        alloc: Global,
-        clusters: &Clusters,
-        me: ClusterNo,
-        table: &DomainTable,
-        domain: &Name,
-        workflow: &Name,
-    ) -> Result<u64, Refusal>
-        ensures { (limit : ℕ) → result ≡ may_write (record { clusters = clusters.now; me = me; limit = limit; table = table.now }) domain.now workflow.now self.now }
+    pub fn may_write(&self, desk: &Desk, domain: &Name, workflow: &Name) -> Result<u64, Refusal>
+        ensures { result ≡ may_write desk.now domain.now workflow.now self.now }
     {
+        let clusters = desk.clusters();
+        let me = desk.me();
+        let table = desk.table();
         let record = table.find(domain);
         match self.runs(domain, workflow) {
             Some(runs) => may_write(clusters, me, record, runs),
-            None => may_write(clusters, me, record, &Runs::new(alloc)),
+            None => may_write(clusters, me, record, &Runs::new(self.alloc)),
         }
     }
 
     /// A message arrives. After want of memory nothing is said of what has arrived.
     pub fn arrive<L>(
         &mut self,
-        alloc: Global,
         message: Message,
         steps: &mut Steps<L>,
     ) -> Result<Arrival, AllocError>
@@ -120,22 +110,256 @@ impl Shard {
         ensures learned { IfOk result (λ arrival. arrival.learned ≡ learned_by message self.old) }
         ensures cell { OnOk result (self.new ≡ arrived_at message self.old) }
     {
-        let arrival = self.workflows.arrive(alloc, message, steps)?;
+        let arrival = self.workflows.arrive(self.alloc, message, steps)?;
         Ok(arrival)
     }
 
     /// Writes an entry: its batches are learned in their workflow, and its message goes last among those written. After
     /// want of memory nothing is said of the cell.
-    pub fn write<L>(
-        &mut self,
-        alloc: Global,
-        entry: Entry,
-        steps: &mut Steps<L>,
-    ) -> Result<(), AllocError>
+    pub fn write<L>(&mut self, entry: Entry, steps: &mut Steps<L>) -> Result<(), AllocError>
         requires { MayBeWritten (carrying entry.batch entry.second) (workflow_of entry.batch.domain entry.batch.workflow self.old) }
         ensures { OnOk result (self.new ≡ with_written entry self.old) }
     {
-        write_in(&mut self.workflows, &mut self.written, alloc, entry, steps)?;
+        write_in(
+            &mut self.workflows,
+            &mut self.written,
+            self.alloc,
+            entry,
+            steps,
+        )?;
         Ok(())
+    }
+
+    /// Writes entries in order, and gives the batches of them.
+    fn write_all<L>(
+        &mut self,
+        entries: Vec<Entry>,
+        steps: &mut Steps<L>,
+    ) -> Result<Batches, AllocError>
+        requires { AreWritable entries.items self.old }
+        ensures cell { OnOk result (self.new ≡ with_all_written entries.items self.old) }
+        ensures batches { IfOk result (λ batches. batches ≡ all_batches entries.items) }
+    {
+        let mut batches = Vec::new(self.alloc);
+        for entry in entries {
+            push_batches(&mut batches, &entry)?;
+            self.write(entry, steps)?;
+        }
+        Ok(Batches::new(batches))
+    }
+
+    /// What a command writes.
+    #[tactic(auto, unfolding(ndc_cells::specs::Writing::command_of))]
+    fn command_entries(
+        &self,
+        desk: &Desk,
+        domain: &Name,
+        workflow: &Name,
+        command: &Command,
+    ) -> Result<Vec<Entry>, CommandError>
+        requires { HasRoom (learned_of domain.now workflow.now self.now) }
+        ensures entries { Gives Memory (λ entries. entries.items) result (command_of desk.now domain.now workflow.now command.now self.now) }
+        ensures fit { IfOk result (λ _. IsFit domain.now workflow.now self.now) }
+    {
+        let version = as_command_error(self.may_write(desk, domain, workflow))?;
+        let alloc = self.alloc;
+        let limit = desk.limit();
+        match self.runs(domain, workflow) {
+            Some(runs) => command_entries(alloc, domain, workflow, command, limit, version, runs),
+            None => {
+                let none = Runs::new(alloc);
+                command_entries(alloc, domain, workflow, command, limit, version, &none)
+            }
+        }
+    }
+
+    /// What a reset writes.
+    #[tactic(auto, unfolding(ndc_cells::specs::Writing::reset_at))]
+    fn reset_entries(
+        &self,
+        desk: &Desk,
+        domain: &Name,
+        workflow: &Name,
+        event: u64,
+    ) -> Result<Vec<Entry>, CommandError>
+        requires { HasRoom (learned_of domain.now workflow.now self.now) }
+        ensures entries { Gives Memory (λ entries. entries.items) result (reset_at desk.now domain.now workflow.now event self.now) }
+        ensures fit { IfOk result (λ _. IsFit domain.now workflow.now self.now) }
+    {
+        let version = as_command_error(self.may_write(desk, domain, workflow))?;
+        let alloc = self.alloc;
+        let limit = desk.limit();
+        match self.runs(domain, workflow) {
+            Some(runs) => reset_entries(alloc, domain, workflow, event, limit, version, runs),
+            None => {
+                let none = Runs::new(alloc);
+                reset_entries(alloc, domain, workflow, event, limit, version, &none)
+            }
+        }
+    }
+
+    /// A command to a workflow: what it writes, in order, or its refusal, which leaves the cell as it was. After want of
+    /// memory nothing is said of the cell.
+    pub fn command<L>(
+        &mut self,
+        desk: &Desk,
+        domain: &Name,
+        workflow: &Name,
+        command: &Command,
+        steps: &mut Steps<L>,
+    ) -> Result<Batches, CommandError>
+        requires { MayBeAsked desk.now domain.now workflow.now (command_of desk.now domain.now workflow.now command.now self.old) self.old }
+        ensures batches { Gives Memory (λ batches. batches) result (batches_written (command_of desk.now domain.now workflow.now command.now self.old)) }
+        ensures cell { OnOk result (self.new ≡ written_at (command_of desk.now domain.now workflow.now command.now self.old) self.old) }
+        ensures refused { IfErr result (λ error. error ≢ Memory → self.new ≡ self.old) }
+    {
+        let entries = self.command_entries(desk, domain, workflow, command)?;
+        let batches = self.write_all(entries, steps)?;
+        Ok(batches)
+    }
+
+    /// A new run repeats the current one of a workflow up to an event, counted from 1: what is written, in order, or the
+    /// refusal, which leaves the cell as it was. After want of memory nothing is said of the cell.
+    pub fn reset<L>(
+        &mut self,
+        desk: &Desk,
+        domain: &Name,
+        workflow: &Name,
+        event: u64,
+        steps: &mut Steps<L>,
+    ) -> Result<Batches, CommandError>
+        requires { MayBeAsked desk.now domain.now workflow.now (reset_at desk.now domain.now workflow.now event self.old) self.old }
+        ensures batches { Gives Memory (λ batches. batches) result (batches_written (reset_at desk.now domain.now workflow.now event self.old)) }
+        ensures cell { OnOk result (self.new ≡ written_at (reset_at desk.now domain.now workflow.now event self.old) self.old) }
+        ensures refused { IfErr result (λ error. error ≢ Memory → self.new ≡ self.old) }
+    {
+        let entries = self.reset_entries(desk, domain, workflow, event)?;
+        let batches = self.write_all(entries, steps)?;
+        Ok(batches)
+    }
+
+    /// Whether reapplication is due in a workflow.
+    fn is_due(&mut self, domain: &Name, workflow: &Name) -> Result<bool, AllocError>
+        ensures due { IfOk result (λ due. due ≡ is_due (learned_of domain.now workflow.now self.old)) }
+        ensures same { self.new ≡ self.old }
+    {
+        self.workflows.is_due(self.alloc, domain, workflow)
+    }
+
+    /// What reapplication writes to a workflow of which the strays may be known, with this version.
+    fn entry_again(
+        &self,
+        domain: &Name,
+        workflow: &Name,
+        version: u64,
+    ) -> Result<Option<Entry>, AllocError>
+        requires { HasRoom (learned_of domain.now workflow.now self.now) }
+        ensures fit { IsFit domain.now workflow.now self.now }
+        ensures entry { IfOk result (λ entry. option_to_list entry ≡ reapplication_below domain.now workflow.now version (workflow_tip (learned_of domain.now workflow.now self.now)) (learned_of domain.now workflow.now self.now) (strays (learned_of domain.now workflow.now self.now))) }
+    {
+        let Some(runs) = self.runs(domain, workflow) else {
+            return Ok(None);
+        };
+        let alloc = self.alloc;
+        match runs.known_strays() {
+            Some(list) => reapplication_entry(alloc, domain, workflow, version, list, runs),
+            None => {
+                let list = runs.strays(alloc)?;
+                reapplication_entry(alloc, domain, workflow, version, list.as_slice(), runs)
+            }
+        }
+    }
+
+    /// What reapplication writes to a workflow.
+    #[tactic(auto, unfolding(ndc_cells::specs::Writing::reapplication_of))]
+    fn reapplication(
+        &mut self,
+        desk: &Desk,
+        domain: &Name,
+        workflow: &Name,
+    ) -> Result<Option<Entry>, AllocError>
+        requires { HasRoom (learned_of domain.now workflow.now self.old) }
+        ensures entry { IfOk result (λ entry. option_to_list entry ≡ reapplication_of desk.now domain.now workflow.now self.old) }
+        ensures same { self.new ≡ self.old }
+        ensures fit { IfOk result (λ entry. IfSome entry (λ _. IsFit domain.now workflow.now self.new)) }
+    {
+        let Ok(version) = self.may_write(desk, domain, workflow) else {
+            return Ok(None);
+        };
+        if !self.is_due(domain, workflow)? {
+            return Ok(None);
+        }
+        self.entry_again(domain, workflow, version)
+    }
+
+    /// Strays are applied again in a workflow, and the batches that are written go last among these.
+    fn reapply_in<L>(
+        &mut self,
+        desk: &Desk,
+        domain: &Name,
+        workflow: &Name,
+        batches: &mut Vec<Batch>,
+        steps: &mut Steps<L>,
+    ) -> Result<(), AllocError>
+        requires room { HasRoom (learned_of domain.now workflow.now self.old) }
+        requires may { MayWriteAll domain.now workflow.now (reapplication_of desk.now domain.now workflow.now self.old) self.old }
+        ensures cell { OnOk result (self.new ≡ reapplied_at desk.now (domain.now, workflow.now) self.old) }
+        ensures batches { OnOk result (batches.new.items ≡ batches.old.items ++ all_batches (reapplication_of desk.now domain.now workflow.now self.old)) }
+    {
+        let Some(entry) = self.reapplication(desk, domain, workflow)? else {
+            return Ok(());
+        };
+        push_batches(batches, &entry)?;
+        self.write(entry, steps)
+    }
+
+    /// Strays are applied again in these workflows, in order.
+    fn reapply_among<L>(
+        &mut self,
+        desk: &Desk,
+        list: Vec<(Name, Name)>,
+        steps: &mut Steps<L>,
+    ) -> Result<Batches, AllocError>
+        requires { MayReapplyAmong desk.now list.items self.old }
+        ensures cell { OnOk result (self.new ≡ reapplied_among desk.now list.items self.old) }
+        ensures batches { IfOk result (λ batches. batches ≡ written_among desk.now list.items self.old) }
+    {
+        let mut batches = Vec::new(self.alloc);
+        for (domain, workflow) in list {
+            self.reapply_in(desk, &domain, &workflow, &mut batches, steps)?;
+        }
+        Ok(Batches::new(batches))
+    }
+
+    /// Strays are applied again in each workflow, in order, where the cell may write to it and its current run is open:
+    /// the batches that are written, in order. After want of memory nothing is said of the cell. It looks only at workflows
+    /// in which reapplication may be due.
+    pub fn reapply<L>(&mut self, desk: &Desk, steps: &mut Steps<L>) -> Result<Batches, AllocError>
+        requires { MayReapply desk.now (workflows_of self.old.arrived) self.old }
+        ensures cell { OnOk result (self.new ≡ reapplied_in desk.now (workflows_of self.old.arrived) self.old) }
+        ensures batches { IfOk result (λ batches. batches ≡ reapplied_now desk.now (workflows_of self.old.arrived) self.old) }
+    {
+        let list = self.workflows.due(self.alloc)?;
+        let batches = self.reapply_among(desk, list, steps)?;
+        Ok(batches)
+    }
+}
+
+impl Learns for Shard {
+    fn has_learned(&self, domain: &Name, workflow: &Name, key: BatchKey) -> bool {
+        match self.runs(domain, workflow) {
+            Some(runs) => runs.has(key),
+            None => false,
+        }
+    }
+}
+
+impl Writes for Shard {
+    fn written_len(&self) -> u64 {
+        self.written.len() as u64
+    }
+
+    fn written_at(&self, place: u64) -> Result<Message, AllocError> {
+        self.written[place as usize].try_copy()
     }
 }

@@ -79,6 +79,13 @@ impl Domains {
         Ok(false)
     }
 
+    /// The cell is in order.
+    pub(crate) fn is_in_order(&self)
+        ensures { IsCell self.now }
+    {
+        let _domains = &self.domains;
+    }
+
     /// A message arrives in its workflow. After want of memory nothing is said of what has arrived.
     pub(crate) fn arrive<L>(
         &mut self,

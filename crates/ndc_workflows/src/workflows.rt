@@ -124,8 +124,10 @@ impl Workflows {
     /// The workflows in which reapplication may be due, each as its domain and its name, in order. A workflow is among them
     /// from when something is learned of it that may leave strays until [`Workflows::is_due`] finds that nothing is due.
     pub fn due(&self, alloc: Global) -> Result<Vec<(Name, Name)>, AllocError>
-        ensures { IfOk result (λ list. AreDue list.items self.now) }
+        ensures list { IfOk result (λ list. AreDue list.items self.now) }
+        ensures cell { IsCell self.now }
     {
+        self.domains.is_in_order();
         self.due.list(alloc)
     }
 

@@ -1,0 +1,52 @@
+-- One cluster: a start is written, or refused without a record; the first batch of a run arrives.
+use Rattle.std.proofs.Common.{◌≡◌, ◌≤◌, ◌^◌, List, [], ◌∷◌, None, Ok, Err, refl, sym, subst, arith}
+use Rattle.std.proofs.lemmas.List.Elements.{All-from_recursion}
+use Rattle.ndc_cells.specs.declared.job.Job.{Job}
+use Rattle.ndc_cells.specs.declared.job.Job.TheVariants as job
+use Rattle.ndc_cells.specs.Arrival.{arrived_at}
+use Rattle.ndc_cells.specs.Cells.{Cell, empty_cell}
+use Rattle.ndc_cells.specs.Writing.{Home, command_of, may_write}
+use Rattle.ndc_command.specs.Plan.{plan_of, start_of, within}
+use Rattle.ndc_command.specs.Stage.{refuse}
+use Rattle.ndc_event.specs.declared.batch.Event.{Event}
+use Rattle.ndc_runs.proofs.ExampleLemmas.{first-sound}
+use Rattle.ndc_sets.specs.Worked.{begun_again}
+use Rattle.ndc_workflow.specs.Allowed.{IsAllowed, MayArrive}
+use Rattle.ndc_shard.specs.Worked.{alpha, begun, home_with, start}
+
+start-may : IsAllowed (home_with (alpha ∷ [])) start empty_cell
+unfolding command_of may_write plan_of start_of within refuse
+start-may = record {
+  least = omega arith;
+  limit = omega arith;
+  room = record { tasks = omega arith; ids = tt };
+  takes = (record { sound = first-sound; new = (refl, tt); awaited = tt }, tt);
+}
+
+refused-may : IsAllowed (home_with []) start empty_cell
+unfolding command_of may_write
+refused-may = record { least = omega arith; limit = omega arith; room = record { tasks = omega arith; ids = tt }; takes = tt }
+
+begun-may : MayArrive begun empty_cell
+unfolding arrived_at
+begun-may = record {
+  message = record { back = λ key e. absurd (cc); second = tt };
+  own = tt;
+  new = λ h. (refl, tt);
+  sound = first-sound;
+  ids = (All-from_recursion (λ (event : Event). event.id ≤ 10 ^ 12) (begun_again 1 None).events (omega arith, (omega arith, tt)), tt);
+}
+
+module _ (home : Home) (asked : Job) (cell : Cell) (empty : cell ≡ empty_cell) where
+  allowed-as : (other : Home) (one : Job) → home ≡ other → asked ≡ one → IsAllowed other one empty_cell → IsAllowed home asked cell
+  allowed-as other one e f may =
+      subst (λ (h : Home). IsAllowed h asked cell) (sym e) (subst (λ (j : Job). IsAllowed other j cell) (sym f) (subst (IsAllowed other one) (sym empty) may))
+
+  pub start-allowed : home ≡ home_with (alpha ∷ []) → asked ≡ start → IsAllowed home asked cell
+  start-allowed e f = allowed-as (home_with (alpha ∷ [])) start e f start-may
+
+  pub refused-allowed : home ≡ home_with [] → asked ≡ start → IsAllowed home asked cell
+  refused-allowed e f = allowed-as (home_with []) start e f refused-may
+
+  pub begun-allowed : asked ≡ job.Arrive begun → IsAllowed home asked cell
+  begun-allowed f = allowed-as home (job.Arrive begun) refl f begun-may

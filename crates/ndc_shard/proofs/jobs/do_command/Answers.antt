@@ -1,0 +1,16 @@
+use Rattle.std.proofs.Common.{◌∙◌}
+use Rattle.ndc_cells.specs.Jobs.{after_job, outcome_of, learned_in}
+use Rattle.ndc_cells.specs.Writing.{command_of}
+use Rattle.ndc_shard.proofs.ReplyLemmas.{cell-same, reply-same}
+use Rattle.ndc_shard.proofs.jobs.do_command.Goals as goal
+
+pub returns-clause-cell : goal.returns-clause-cell
+unfolding after_job
+returns-clause-cell c =
+    cell-same (command_of c.args.desk.now c.args.domain.now c.args.workflow.now c.args.command.now c.args.shard.now) c.command-written.result c.args.shard.now c.command-written.new.self
+    c.command-written.ensures.batches c.in_ok-reply.ensures.calm c.command-written.ensures.cell c.command-written.ensures.refused
+
+pub returns-clause-reply : goal.returns-clause-reply
+unfolding outcome_of learned_in
+returns-clause-reply c =
+    c.in_ok-reply.ensures.reply ∙ reply-same (command_of c.args.desk.now c.args.domain.now c.args.workflow.now c.args.command.now c.args.shard.now) c.command-written.result c.command-written.ensures.batches c.in_ok-reply.ensures.calm
