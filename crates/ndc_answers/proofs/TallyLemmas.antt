@@ -1,5 +1,5 @@
 -- Replies counted one after the other are their notes counted.
-use Rattle.std.proofs.Common.{◌≡◌, ℕ, ◌+◌, List, [], ◌∷◌, ◌++◌, map, sum, length, refl, sym, ap, ◌∙◌, arith}
+use Rattle.std.proofs.Common.{◌≡◌, ℕ, zero, suc, ◌+◌, ◌≤◌, List, [], ◌∷◌, ◌++◌, map, sum, length, drop, take, refl, sym, ap, ◌∙◌, arith}
 use Rattle.std.specs.List.{sum_by}
 use Rattle.std.proofs.lemmas.List.Sums.{sum_by-cons}
 use Rattle.ndc_cells.specs.declared.job.Job.{Job}
@@ -32,14 +32,27 @@ no-notes : (t : Tally) → with_notes [] t ≡ t
 unfolding tally
 no-notes t = same-tally _ _ _ _ _ t.learned t.known t.put_off t.arrived t.applied (omega arith) (omega arith) (omega arith) (omega arith) (omega arith)
 
-pub replies_as_notes : (jobs : List ShardJob) (replies : List JobReply) (t : Tally) (cluster : ClusterNo) → length jobs ≡ length replies → with_replies jobs replies t ≡ with_notes (notes_of cluster jobs replies) t
-replies_as_notes [] replies t cluster e = sym (no-notes t)
-replies_as_notes (asked ∷ jobs) [] t cluster e = absurd (cc)
-replies_as_notes (asked ∷ jobs) (reply ∷ replies) t cluster e =
-    replies_as_notes jobs replies (with_reply asked.job reply t) cluster (omega (arith, e)) ∙ sym (with-note (record { cluster = cluster; job = asked.job; reply = reply }) (notes_of cluster jobs replies) t)
+pub replies_as_notes : (jobs : List ShardJob) (replies : List JobReply) (t : Tally) (cluster : ClusterNo) → with_replies jobs replies t ≡ with_notes (notes_of cluster jobs replies) t
+replies_as_notes [] replies t cluster = sym (no-notes t)
+replies_as_notes (asked ∷ jobs) [] t cluster = sym (no-notes t)
+replies_as_notes (asked ∷ jobs) (reply ∷ replies) t cluster =
+    replies_as_notes jobs replies (with_reply asked.job reply t) cluster ∙ sym (with-note (record { cluster = cluster; job = asked.job; reply = reply }) (notes_of cluster jobs replies) t)
 
-pub seen_as_notes : (cluster : ClusterNo) (jobs : List ShardJob) (replies : List JobReply) → length jobs ≡ length replies → seen_by cluster replies ≡ seen_of (notes_of cluster jobs replies)
-seen_as_notes cluster [] [] e = refl
-seen_as_notes cluster [] (reply ∷ replies) e = absurd (cc)
-seen_as_notes cluster (asked ∷ jobs) [] e = absurd (cc)
-seen_as_notes cluster (asked ∷ jobs) (reply ∷ replies) e = ap (λ (l : List Seen). seen_at cluster reply.learned ++ l) (seen_as_notes cluster jobs replies (omega (arith, e)))
+-- replies to no job tell nothing
+pub seen_as_notes : (cluster : ClusterNo) (jobs : List ShardJob) (replies : List JobReply) → seen_by cluster (take (length jobs) replies) ≡ seen_of (notes_of cluster jobs replies)
+seen_as_notes cluster [] replies = refl
+seen_as_notes cluster (asked ∷ jobs) [] = refl
+seen_as_notes cluster (asked ∷ jobs) (reply ∷ replies) = ap (λ (l : List Seen). seen_at cluster reply.learned ++ l) (seen_as_notes cluster jobs replies)
+
+-- where no reply is left, no job counts
+no-reply : (jobs : List ShardJob) (t : Tally) → with_replies jobs [] t ≡ t
+no-reply [] t = refl
+no-reply (asked ∷ jobs) t = refl
+
+pub none-left : (jobs : List ShardJob) (replies : List JobReply) (place : ℕ) (t : Tally) → length replies ≤ place → with_replies (drop place jobs) (drop place replies) t ≡ t
+none-left jobs [] zero t most = no-reply jobs t
+none-left jobs (reply ∷ replies) zero t most = absurd (omega (arith, most))
+none-left [] [] (suc place) t most = refl
+none-left (asked ∷ jobs) [] (suc place) t most = no-reply (drop place jobs) t
+none-left [] (reply ∷ replies) (suc place) t most = refl
+none-left (asked ∷ jobs) (reply ∷ replies) (suc place) t most = none-left jobs replies place t (omega (arith, most))

@@ -143,20 +143,21 @@ impl Tally {
 
     /// Adds what jobs came to, job by job.
     fn add_all(&mut self, jobs: &[ShardJob], replies: &[JobReply]) -> Result<(), AllocError>
-        requires { length jobs.now ≡ length replies.now }
         ensures { OnOk result (self.new ≡ with_replies jobs.now replies.now self.old) }
     {
         for place in 0..jobs.len() {
+            if replies.len() <= place {
+                return Ok(());
+            }
             *self = self.with(&jobs[place].job, &replies[place])?;
         }
         Ok(())
     }
 
-    /// Adds what jobs came to, of which each has its reply; on which cluster they were done does not count. Numbers
+    /// Adds what jobs came to, by their replies in order; on which cluster they were done does not count. Numbers
     /// above 2^64 - 1, for which there is no memory, are said to be want of it.
     #[tactic(auto, using(crate::proofs::TallyLemmas::replies_as_notes))]
     pub fn add(&mut self, jobs: &[ShardJob], replies: &[JobReply]) -> Result<(), AllocError>
-        requires { length jobs.now ≡ length replies.now }
         ensures { OnOk result ((cluster : ClusterNo) → self.new ≡ with_notes (notes_of cluster jobs.now replies.now) self.old) }
     {
         self.add_all(jobs, replies)?;
@@ -196,7 +197,7 @@ fn add_replies(
     Ok(())
 }
 
-/// Adds what jobs on a cluster made learned, of which each has its reply, in the order of being told.
+/// Adds what jobs on a cluster made learned, by their replies in order, in the order of being told.
 #[tactic(auto, using(crate::proofs::TallyLemmas::seen_as_notes))]
 pub fn add_seen(
     seen: &mut Vec<Seen>,
@@ -204,9 +205,10 @@ pub fn add_seen(
     jobs: &[ShardJob],
     replies: Vec<JobReply>,
 ) -> Result<(), AllocError>
-    requires { length jobs.now ≡ length replies.items }
     ensures { OnOk result (seen.new.items ≡ seen.old.items ++ seen_of (notes_of cluster jobs.now replies.items)) }
 {
-    add_replies(seen, cluster, replies)?;
+    let mut answered = replies;
+    answered.truncate(jobs.len());
+    add_replies(seen, cluster, answered)?;
     Ok(())
 }
