@@ -1,5 +1,5 @@
 -- One cluster: a start is written, or refused without a record; the first batch of a run arrives.
-use Rattle.std.proofs.Common.{◌≡◌, ◌≤◌, ◌^◌, ◌∙◌, ℕ, List, [], ◌∷◌, None, Ok, Err, codes, refl, sym, subst, arith}
+use Rattle.std.proofs.Common.{◌≡◌, ◌≤◌, ◌^◌, ◌∙◌, ℕ, List, [], ◌∷◌, None, Ok, codes, refl, sym, subst, arith}
 use Rattle.std.proofs.lemmas.List.Elements.{All-from_recursion}
 use Rattle.ndc_cells.specs.declared.job.Job.{Job}
 use Rattle.ndc_cells.specs.declared.job.Job.TheVariants as job
