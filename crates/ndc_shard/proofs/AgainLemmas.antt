@@ -1,13 +1,11 @@
 -- What reapplication writes may be written, and where it is not due nothing is written.
-use Rattle.std.proofs.Common.{◌≡◌, ◌≤◌, ◌+◌, ◌^◌, ℕ, Bool, true, false, List, [], ◌∷◌, Option, Some, None, Result, Ok, Err, IfOk, IfSome, if◌then◌else◌, refl, sym, ◌∙◌, subst, ap, arith, length}
+use Rattle.std.proofs.Common.{◌≡◌, ◌≤◌, ◌^◌, ℕ, Bool, true, false, List, [], ◌∷◌, Option, Some, None, Result, Ok, Err, IfOk, IfSome, if◌then◌else◌, refl, sym, ◌∙◌, subst, ap}
 use Rattle.std.specs.Prelude.{is_some, option_to_list}
-use Rattle.std.specs.List.{AllByRecursion}
 use Rattle.ndc_cells.specs.declared.message.Message.{Message}
 use Rattle.ndc_cells.specs.Cells.{Cell, learned_of}
-use Rattle.ndc_cells.specs.Writing.{Entry, Home, alone, batch_below, greatest_version, may_write, may_write_by, next_key, reapplication_below, reapplication_by, reapplication_of, state_under}
+use Rattle.ndc_cells.specs.Writing.{Entry, Home, alone, batch_below, greatest_version, may_write, may_write_by, next_key, reapplication_below, reapplication_by, reapplication_of}
 use Rattle.ndc_command.specs.declared.refusal.Refusal.{Refusal}
 use Rattle.ndc_domain.specs.Records.{record_of}
-use Rattle.ndc_entries.specs.Written.{AreWrittenTo, HasIdsUpTo}
 use Rattle.ndc_entries.proofs.IdLemmas.{reapplied-ids}
 use Rattle.ndc_entries.proofs.LawProofs.{reapplication-behind, tip-has, writes_ahead}
 use Rattle.ndc_event.specs.declared.batch.Batch.{Batch}

@@ -4,7 +4,7 @@ use Rattle.std.specs.Prelude.{is_some}
 use Rattle.std.specs.List.{AllByRecursion}
 use Rattle.std.proofs.lemmas.List.Elements.{All-weaker}
 use Rattle.ndc_cells.specs.Cells.{Cell, learned_of}
-use Rattle.ndc_cells.specs.Writing.{Entry, Home, alone, as_command_error, batch_below, batches_in, command_entries, command_of, entry_of, first_batch, greatest_version, is_close_full, key_behind, may_write, may_write_by, next_key, reapplication_below, reset_at, reset_below, reset_close, reset_entries, reset_refused}
+use Rattle.ndc_cells.specs.Writing.{Entry, Home, alone, as_command_error, batch_below, batches_in, command_entries, command_of, entry_of, first_batch, greatest_version, is_close_full, key_behind, may_write, may_write_by, next_key, reset_at, reset_below, reset_close, reset_entries, reset_refused}
 use Rattle.ndc_command.specs.Laws.{begins_run}
 use Rattle.ndc_command.specs.Plan.{plan_of}
 use Rattle.ndc_command.specs.declared.command.Command.{Command}

@@ -1,5 +1,5 @@
 -- One cluster: a start is written, or refused without a record; the first batch of a run arrives.
-use Rattle.std.proofs.Common.{◌≡◌, ◌≤◌, ◌^◌, List, [], ◌∷◌, None, Ok, Err, refl, sym, subst, arith}
+use Rattle.std.proofs.Common.{◌≡◌, ◌≤◌, ◌^◌, ◌∙◌, ℕ, List, [], ◌∷◌, None, Ok, codes, refl, sym, subst, arith}
 use Rattle.std.proofs.lemmas.List.Elements.{All-from_recursion}
 use Rattle.ndc_cells.specs.declared.job.Job.{Job}
 use Rattle.ndc_cells.specs.declared.job.Job.TheVariants as job
@@ -8,11 +8,15 @@ use Rattle.ndc_cells.specs.Cells.{Cell, empty_cell}
 use Rattle.ndc_cells.specs.Writing.{Home, command_of, may_write}
 use Rattle.ndc_command.specs.Plan.{plan_of, start_of, within}
 use Rattle.ndc_command.specs.Stage.{refuse}
+use Rattle.ndc_domain.specs.Clusters.{ClusterList, cluster_no}
+use Rattle.ndc_domain.specs.Members.{members_of, numbers, numbers_where}
+use Rattle.ndc_domain.specs.Records.{register_of}
+use Rattle.ndc_domain.specs.declared.record.DomainRecord.{DomainRecord}
 use Rattle.ndc_event.specs.declared.batch.Event.{Event}
 use Rattle.ndc_runs.proofs.ExampleLemmas.{first-sound}
 use Rattle.ndc_sets.specs.Worked.{begun_again}
 use Rattle.ndc_workflow.specs.Allowed.{IsAllowed, MayArrive}
-use Rattle.ndc_shard.specs.Worked.{alpha, begun, home_with, start}
+use Rattle.ndc_shard.specs.Worked.{alpha, begun, home_with, one_cluster, start}
 
 start-may : IsAllowed (home_with (alpha ∷ [])) start empty_cell
 unfolding command_of may_write plan_of start_of within refuse
@@ -50,3 +54,22 @@ module _ (home : Home) (asked : Job) (cell : Cell) (empty : cell ≡ empty_cell)
 
   pub begun-allowed : asked ≡ job.Arrive begun → IsAllowed home asked cell
   begun-allowed f = allowed-as home (job.Arrive begun) refl f begun-may
+
+-- the first record of the cluster
+alpha-registered : (answer : ℕ × List DomainRecord)
+    → register_of one_cluster (cluster_no 0) (codes "alpha") (cluster_no 0) 7 (members_of (cluster_no 0 ∷ [])) [] ≡ Ok answer → answer.1 ≡ alpha ∷ []
+unfolding numbers numbers_where
+alpha-registered answer told =
+    let is : register_of one_cluster (cluster_no 0) (codes "alpha") (cluster_no 0) 7 (members_of (cluster_no 0 ∷ [])) [] ≡ Ok (1, alpha ∷ []) = refl in
+    let both : Ok answer ≡ Ok (1, alpha ∷ []) = sym told ∙ is in
+    let same : answer ≡ (1, alpha ∷ []) = cc in
+    subst (λ (one : ℕ × List DomainRecord). one.1 ≡ alpha ∷ []) (sym same) refl
+
+pub registered-alpha : (clusters : ClusterList) (name members : List ℕ) (table : List DomainRecord) (answer : ℕ × List DomainRecord)
+    → clusters ≡ one_cluster → name ≡ codes "alpha" → members ≡ members_of (cluster_no 0 ∷ []) → table ≡ []
+    → register_of clusters (cluster_no 0) name (cluster_no 0) 7 members table ≡ Ok answer → answer.1 ≡ alpha ∷ []
+registered-alpha clusters name members table answer e f g h told =
+    let first = subst (λ (c : ClusterList). register_of c (cluster_no 0) name (cluster_no 0) 7 members table ≡ Ok answer) e told in
+    let second = subst (λ (n : List ℕ). register_of one_cluster (cluster_no 0) n (cluster_no 0) 7 members table ≡ Ok answer) f first in
+    let third = subst (λ (m : List ℕ). register_of one_cluster (cluster_no 0) (codes "alpha") (cluster_no 0) 7 m table ≡ Ok answer) g second in
+    alpha-registered answer (subst (λ (t : List DomainRecord). register_of one_cluster (cluster_no 0) (codes "alpha") (cluster_no 0) 7 (members_of (cluster_no 0 ∷ [])) t ≡ Ok answer) h third)

@@ -1,6 +1,5 @@
 -- What a command or a reset replies, and the cell behind it.
 use Rattle.std.proofs.Common.{◌≡◌, ◌≢◌, List, Result, Ok, Err, IfErr, OnOk, refl, sym, ◌∙◌, ap}
-use Rattle.ndc_cells.specs.declared.job.JobReply.{JobReply}
 use Rattle.ndc_cells.specs.Cells.{Cell}
 use Rattle.ndc_cells.specs.Jobs.{written_at, written_now, written_outcome}
 use Rattle.ndc_cells.specs.Writing.{Entry}

@@ -1,5 +1,5 @@
 -- Room for numbers where a cell may be asked to write.
-use Rattle.std.proofs.Common.{◌≡◌, ◌≤◌, ◌+◌, ◌^◌, ℕ, List, [], Option, Some, None, IfSome, length, sym, subst, arith}
+use Rattle.std.proofs.Common.{◌≡◌, ◌≤◌, ◌+◌, ◌^◌, List, [], Option, Some, None, IfSome, length, sym, subst, arith}
 use Rattle.ndc_cells.specs.Writing.{greatest_task, state_under}
 use Rattle.ndc_event.specs.declared.batch.Batch.{Batch}
 use Rattle.ndc_sets.specs.Branches.{workflow_tip}

@@ -1,5 +1,5 @@
 -- One cluster, which writes with version 1, and its record of a domain.
-use Rattle.std.specs.Prelude.{ℕ, List, [], ◌∷◌, None, codes}
+use Rattle.std.specs.Prelude.{List, [], ◌∷◌, None, codes}
 use Rattle.ndc_cells.specs.declared.job.Job.{Job}
 use Rattle.ndc_cells.specs.declared.job.Job.TheVariants as job
 use Rattle.ndc_cells.specs.declared.message.Message.{Message}

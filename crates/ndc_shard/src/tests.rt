@@ -145,7 +145,7 @@ fn a_start_is_written(rt: HostRuntime) -> Result<(), Fail> {
     let desk = Desk::new(&clusters, A, 100, &table);
     let mut shard = Shard::new(alloc);
     let reply = started(&mut shard, &desk, alloc)?;
-    match reply.outcome {
+    match &reply.outcome {
         Outcome::Written(written) => assert!(rt; written.key == KEY && written.second.is_none()),
         _ => assert!(rt; false),
     }
@@ -162,8 +162,8 @@ fn a_start_without_a_record_is_refused(rt: HostRuntime) -> Result<(), Fail> {
     let desk = Desk::new(&clusters, A, 100, &table);
     let mut shard = Shard::new(alloc);
     let reply = refused(&mut shard, &desk, alloc)?;
-    match reply.outcome {
-        Outcome::Refused(refusal) => assert_eq!(rt; refusal, Refusal::UnknownDomain),
+    match &reply.outcome {
+        Outcome::Refused(refusal) => assert_eq!(rt; *refusal, Refusal::UnknownDomain),
         _ => assert!(rt; false),
     }
     assert_eq!(rt; shard.written_len(), 0);
@@ -180,7 +180,7 @@ fn a_message_arrives(rt: HostRuntime) -> Result<(), Fail> {
     let workflow = name(alloc, "w1")?;
     let mut shard = Shard::new(alloc);
     let reply = arrived(&mut shard, &desk, alloc)?;
-    match reply.outcome {
+    match &reply.outcome {
         Outcome::Arrived(Arrived::Learned { keys }) => assert_eq!(rt; keys.as_slice().len(), 1),
         _ => assert!(rt; false),
     }
