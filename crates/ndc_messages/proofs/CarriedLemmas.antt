@@ -1,5 +1,5 @@
 -- What the batches that have arrived of a workflow carry.
-use Rattle.std.proofs.Common.{◌≡◌, Bool, true, false, List, [], ◌∷◌, ◌++◌, Option, Some, None, if◌then◌else◌, refl, sym, ◌∙◌, subst, ap, true≢false}
+use Rattle.std.proofs.Common.{◌≡◌, Bool, true, false, List, [], ◌++◌, Option, Some, None, if◌then◌else◌, refl, sym, ◌∙◌, subst, ap, true≢false}
 use Rattle.std.specs.Prelude.{◌&&◌, find}
 use Rattle.std.specs.List.{AllByRecursion, filter_map}
 use Rattle.ndc_cells.specs.declared.message.Message.{Message}
@@ -52,9 +52,10 @@ each-learned w is = all-there (learned w.arrived) is.apart.set.ordered
 pub none-yet : (w : WorkflowValue) → IsWorkflow w → (items : List Message) (batches : List Batch) → items ≡ [] → batches ≡ learned w.arrived
     → (items ++ filter_map (own_message (learned w.arrived) w.arrived) batches ≡ filter_map (own_message (learned w.arrived) w.arrived) (learned w.arrived))
     × AllByRecursion (λ b. batch_at b.key (learned w.arrived) ≡ Some b) batches
-none-yet w is items batches none all =
-    (ap (λ (l : List Message). l ++ filter_map (own_message (learned w.arrived) w.arrived) batches) none ∙ ap (filter_map (own_message (learned w.arrived) w.arrived)) all,
-    subst (λ (l : List Batch). AllByRecursion (λ b. batch_at b.key (learned w.arrived) ≡ Some b) l) (sym all) (each-learned w is))
+none-yet w is items batches none all = (
+  ap (λ (l : List Message). l ++ filter_map (own_message (learned w.arrived) w.arrived) batches) none ∙ ap (filter_map (own_message (learned w.arrived) w.arrived)) all,
+  subst (λ (l : List Batch). AllByRecursion (λ b. batch_at b.key (learned w.arrived) ≡ Some b) l) (sym all) (each-learned w is),
+)
 
 and-false : (t : Bool) → (t && false) ≡ false
 and-false true = refl

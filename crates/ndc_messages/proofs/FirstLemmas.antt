@@ -1,5 +1,5 @@
 -- The first batch for which a test holds, by its key, as batches arrive.
-use Rattle.std.proofs.Common.{◌≡◌, Bool, true, false, List, [], ◌∷◌, ◌++◌, Option, Some, None, cond, if◌then◌else◌, refl, sym, ◌∙◌, subst, ap, true≢false}
+use Rattle.std.proofs.Common.{◌≡◌, Bool, true, false, List, [], ◌∷◌, ◌++◌, Option, Some, None, if◌then◌else◌, refl, sym, ◌∙◌, subst, ap, true≢false}
 use Rattle.std.specs.Prelude.{find, option_to_list}
 use Rattle.std.specs.List.{AllByRecursion}
 use Rattle.ndc_cells.specs.declared.message.Message.{Message}

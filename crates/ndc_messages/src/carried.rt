@@ -105,13 +105,7 @@ fn lesser(key: BatchKey, other: Option<BatchKey>) -> BatchKey
 {
     match other {
         None => key,
-        Some(other) => {
-            if other.is_before(key) {
-                other
-            } else {
-                key
-            }
-        }
+        Some(other) => { if other.is_before(key) { other } else { key } }
     }
 }
 

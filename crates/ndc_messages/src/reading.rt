@@ -52,11 +52,7 @@ pub fn message_at(
 }
 
 /// What the batches that have arrived carry, by their keys.
-fn carried_in(
-    alloc: Global,
-    workflow: &Workflow,
-    known: &[&Batch],
-) -> Result<Carried, AllocError>
+fn carried_in(alloc: Global, workflow: &Workflow, known: &[&Batch]) -> Result<Carried, AllocError>
     requires workflow { IsWorkflow workflow.now }
     requires learned { map (λ b. b.now) known.now ≡ learned workflow.now.arrived }
     ensures { IfOk result (λ carried. (one : Key) → noted_at one carried ≡ first_key (is_under workflow.now.arrived one) workflow.now.arrived) }

@@ -1,4 +1,4 @@
-use Rattle.std.proofs.Common.{None, rules, ◌∙◌, ap, map}
+use Rattle.std.proofs.Common.{rules, ◌∙◌, ap, map}
 use Rattle.ndc_messages.specs.Messages.{is_under, least_of, noted_at}
 use Rattle.ndc_messages.proofs.CarriedLemmas.{least-found}
 use Rattle.ndc_messages.proofs.reading.carried_in.Goals as goal
