@@ -2,8 +2,10 @@
 #![tactic(auto)]
 
 mod carried;
+mod cell;
 mod reading;
 
+pub use cell::message_there;
 pub use reading::{message_at, messages};
 
 #[cfg(test)]

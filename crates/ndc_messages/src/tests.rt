@@ -2,9 +2,11 @@ ghost use Rattle.std.specs.Prelude.{◌≡◌, IfOk, None};
 ghost use Rattle.ndc_sets.specs.Worked.{begun_again};
 
 use super::*;
+use ndc_cells::Place;
 use ndc_event::{Batch, BatchKey, Event, EventKind, Events, Name, RunId};
 use ndc_state::Steps;
 use ndc_workflow::Workflow;
+use ndc_workflows::Workflows;
 use std::alloc::{AllocError, Global};
 use std::test::Fail;
 
@@ -76,5 +78,18 @@ fn a_message_is_found_by_its_key(rt: HostRuntime) -> Result<(), Fail> {
     let workflow = first_written(alloc, &mut steps)?;
     assert!(rt; message_at(alloc, &workflow, key(1))?.is_some());
     assert!(rt; message_at(alloc, &workflow, key(2))?.is_none());
+    Ok(())
+}
+
+#[test]
+fn an_empty_cell_has_no_message(rt: HostRuntime) -> Result<(), Fail> {
+    let alloc = rt.alloc();
+    let workflows = Workflows::new(alloc);
+    let place = Place {
+        domain: name(alloc, "alpha")?,
+        workflow: name(alloc, "w1")?,
+        key: key(1),
+    };
+    assert!(rt; message_there(alloc, &workflows, &place)?.is_none());
     Ok(())
 }
