@@ -34,6 +34,12 @@ pub least-found : (test : Batch → Bool) (w : WorkflowValue) → IsWorkflow w �
 least-found test w is known waiting found result first second one two =
     two ∙ ap (λ (l : List Batch). least_of test l found) second ∙ ap (least_of test (batches_of w.waiting)) (one ∙ ap (λ (l : List Batch). least_of test l None) first) ∙ least-all test w is
 
+-- the same, where the first of what is learned was found
+pub least-behind : (test : Batch → Bool) (w : WorkflowValue) → IsWorkflow w → (waiting : List Batch) (found result : Option BatchKey) → waiting ≡ batches_of w.waiting
+    → found ≡ first_key test (learned w.arrived) → result ≡ least_of test waiting found → result ≡ first_key test w.arrived
+least-behind test w is waiting found result second one two =
+    least-found test w is (learned w.arrived) waiting found result refl second (one ∙ sym (least-first test (learned w.arrived) is.apart.set.ordered)) two
+
 arrived-set : (w : WorkflowValue) → IsWorkflow w → IsSet w.arrived
 arrived-set w is = subst (λ (v : WorkflowValue). IsSet v.arrived) (sym is.parts) (set-all (learned w.arrived) w.waiting is.apart)
 

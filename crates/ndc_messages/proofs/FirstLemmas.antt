@@ -96,6 +96,9 @@ module _ (test : Batch → Bool) where
       by true rest = found-stays x.key xs rise.0
       by false rest = rest
 
+  pub least-known : (known batches : List Batch) (result : Option BatchKey) → Rise known → batches ≡ known → result ≡ least_of test batches None → result ≡ first_key test known
+  least-known known batches result rise same e = e ∙ ap (λ (l : List Batch). least_of test l None) same ∙ least-first known rise
+
   -- the first of all that have arrived is the least of what was found, and of those that arrived since
   pub first-all : (more batches : List Batch) → Rise more → Rise batches → AllByRecursion (λ b. batch_at b.key batches ≡ None) more
       → first_key test (all_in more batches) ≡ least_of test more (first_key test batches)

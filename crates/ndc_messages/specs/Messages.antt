@@ -2,7 +2,7 @@
 use Rattle.std.specs.Prelude.{Bool, false, List, [], ◌∷◌, Option, Some, None, if◌then◌else◌}
 use Rattle.std.specs.Map.{lookup}
 use Rattle.ndc_cells.specs.declared.message.Message.{Message}
-use Rattle.ndc_cells.specs.Cells.{own_message}
+use Rattle.ndc_cells.specs.Cells.{carries, own_message}
 use Rattle.ndc_cells.specs.Places.{is_of}
 use Rattle.ndc_event.specs.Key.{key_eq, key_lt}
 use Rattle.ndc_event.specs.declared.batch.Batch.{Batch}
@@ -52,6 +52,11 @@ least_of test (b ∷ batches) found = least_of test batches (least_with test b f
 abbrev pub first_key : (Batch → Bool) → List Batch → Option BatchKey
 first_key test [] = None
 first_key test (b ∷ batches) = if test b then Some b.key else first_key test batches
+
+-- the key of the other batch, where there is one and it is carried by the first
+abbrev pub key_if_carried : Batch → Option Batch → Option BatchKey
+key_if_carried b None = None
+key_if_carried b (Some other) = if carries b other then Some other.key else None
 
 -- the key that is noted for a carrier's key
 abbrev pub noted_at : BatchKey → List (BatchKey × BatchKey) → Option BatchKey

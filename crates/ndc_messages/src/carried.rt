@@ -93,7 +93,7 @@ fn is_beside(batch: &Batch, other: &Batch) -> bool
 }
 
 /// Whether the second batch is carried by the first.
-fn carries(batch: &Batch, other: &Batch) -> bool
+pub(crate) fn carries(batch: &Batch, other: &Batch) -> bool
     ensures { result ≡ carries batch.now other.now }
 {
     is_beside(batch, other) && other.carrier == Some(batch.key)

@@ -3,6 +3,7 @@
 
 mod carried;
 mod cell;
+mod next;
 mod reading;
 
 pub use cell::message_there;

@@ -6,13 +6,16 @@ ghost use Rattle.ndc_messages.specs.Messages.{first_key, is_under, noted_at, own
 ghost use Rattle.ndc_sets.specs.Learned.{learned};
 ghost use Rattle.ndc_sets.specs.Paths.{events_to, versions_of};
 ghost use Rattle.ndc_sets.specs.Sets.{batch_at};
+ghost use Rattle.ndc_sets.specs.Sound.{IsSound};
 ghost use Rattle.ndc_tree.specs.Reading.{named};
 ghost use Rattle.ndc_workflow.specs.Workflow.{IsWorkflow};
 
 use crate::carried::{Carried, least_carried};
+use crate::next::next_carried;
 use ndc_cells::Message;
 use ndc_event::{Batch, BatchKey};
 use ndc_history::VersionHistory;
+use ndc_runs::Runs;
 use ndc_workflow::Workflow;
 use std::alloc::{AllocError, Global};
 
@@ -46,7 +49,29 @@ pub fn message_at(
     if batch.carrier.is_some() {
         return Ok(None);
     }
-    let second = second_key(alloc, workflow, batch)?;
+    let found = first_carried(alloc, workflow.runs(), batch)?;
+    let second = second_key(alloc, workflow, batch, found)?;
+    let message = message_with(alloc, workflow, batch, second)?;
+    Ok(Some(message))
+}
+
+/// The same, where what is learned is sound. In one pass over what is put off.
+pub(crate) fn message_in(
+    alloc: Global,
+    workflow: &Workflow,
+    key: BatchKey,
+) -> Result<Option<Message>, AllocError>
+    requires { IsSound (learned workflow.now.arrived) }
+    ensures { IfOk result (λ message. message ≡ own_message_of workflow.now.arrived (batch_at key (learned workflow.now.arrived))) }
+{
+    let Some(batch) = workflow.runs().get(key) else {
+        return Ok(None);
+    };
+    if batch.carrier.is_some() {
+        return Ok(None);
+    }
+    let found = next_carried(workflow.runs(), batch);
+    let second = second_key(alloc, workflow, batch, found)?;
     let message = message_with(alloc, workflow, batch, second)?;
     Ok(Some(message))
 }
@@ -85,17 +110,30 @@ fn push_message(
     Ok(())
 }
 
-/// The least key of the batches that are carried by this one.
+/// The least key of the learned batches that are carried by this one.
+fn first_carried(
+    alloc: Global,
+    runs: &Runs,
+    batch: &Batch,
+) -> Result<Option<BatchKey>, AllocError>
+    ensures { IfOk result (λ key. key ≡ first_key (carries batch.now) runs.now) }
+{
+    let known = runs.batches(alloc)?;
+    Ok(least_carried(batch, known.as_slice(), None))
+}
+
+/// The least key of all batches that are carried by this one, where that of the learned ones was found.
 fn second_key(
     alloc: Global,
     workflow: &Workflow,
     batch: &Batch,
+    found: Option<BatchKey>,
 ) -> Result<Option<BatchKey>, AllocError>
+    requires workflow { IsWorkflow workflow.now }
+    requires found { found ≡ first_key (carries batch.now) (learned workflow.now.arrived) }
     ensures { IfOk result (λ key. named key workflow.now.arrived ≡ find (carries batch.now) workflow.now.arrived) }
 {
-    let learned = workflow.runs().batches(alloc)?;
     let waiting = workflow.put_off().batches(alloc)?;
-    let found = least_carried(batch, learned.as_slice(), None);
     Ok(least_carried(batch, waiting.as_slice(), found))
 }
 
