@@ -1,6 +1,6 @@
 -- What a learned batch carries has the key just behind its own.
 use Rattle.std.proofs.Common.{◌≡◌, ◌+◌, ◌≤◌, Bool, true, false, not, ◌==◌, List, [], ◌∷◌, Option, Some, None, if◌then◌else◌, refl, sym, ◌∙◌, subst, ap, true≢false, arith}
-use Rattle.std.specs.Prelude.{◌&&◌, is_some}
+use Rattle.std.specs.Prelude.{is_some}
 use Rattle.std.specs.List.{AllByRecursion}
 use Rattle.std.proofs.lemmas.Bool.{and_parts, eqb-true}
 use Rattle.ndc_cells.specs.Cells.{carries}
@@ -11,7 +11,7 @@ use Rattle.ndc_event.specs.Key.{key_eq}
 use Rattle.ndc_event.specs.declared.batch.Batch.{Batch}
 use Rattle.ndc_event.specs.declared.key.BatchKey.{BatchKey}
 use Rattle.ndc_sets.specs.Paths.{is_wanted}
-use Rattle.ndc_sets.specs.Sets.{Rise, ComeAfter, Has, batch_at}
+use Rattle.ndc_sets.specs.Sets.{Rise, ComeAfter, batch_at}
 use Rattle.ndc_sets.specs.Sound.{IsSound}
 use Rattle.ndc_sets.proofs.BranchLemmas.{has-among}
 use Rattle.ndc_sets.proofs.FaultLemmas.{passes}

@@ -111,11 +111,7 @@ fn push_message(
 }
 
 /// The least key of the learned batches that are carried by this one.
-fn first_carried(
-    alloc: Global,
-    runs: &Runs,
-    batch: &Batch,
-) -> Result<Option<BatchKey>, AllocError>
+fn first_carried(alloc: Global, runs: &Runs, batch: &Batch) -> Result<Option<BatchKey>, AllocError>
     ensures { IfOk result (λ key. key ≡ first_key (carries batch.now) runs.now) }
 {
     let known = runs.batches(alloc)?;

@@ -1,7 +1,5 @@
-use Rattle.std.proofs.Common.{None, rules, sym, ◌∙◌, ap, map}
+use Rattle.std.proofs.Common.{rules, map}
 use Rattle.ndc_cells.specs.Cells.{carries}
-use Rattle.ndc_event.specs.declared.batch.Batch.{Batch}
-use Rattle.ndc_messages.specs.Messages.{least_of}
 use Rattle.ndc_messages.proofs.FirstLemmas.{least-known}
 use Rattle.ndc_messages.proofs.reading.first_carried.Goals as goal
 
