@@ -8,6 +8,7 @@ use Rattle.ndc_cells.specs.Places.{is_of}
 use Rattle.ndc_event.specs.Key.{key_eq}
 use Rattle.ndc_event.specs.declared.batch.Batch.{Batch}
 use Rattle.ndc_event.specs.declared.key.BatchKey.{BatchKey}
+use Rattle.ndc_run.specs.Learning.{is_key}
 use Rattle.ndc_sets.specs.Learned.{learned}
 use Rattle.ndc_sets.specs.Paths.{is_wanted}
 use Rattle.ndc_sets.specs.Sets.{IsSet, Has, batch_at}
@@ -18,7 +19,7 @@ use Rattle.ndc_waiting.proofs.FreeLemmas.{all-there}
 use Rattle.ndc_waiting.proofs.LearnLemmas.{set-all}
 use Rattle.ndc_workflow.specs.Workflow.{WorkflowValue, IsWorkflow}
 use Rattle.ndc_workflow.proofs.PutOffLemmas.{found-known}
-use Rattle.ndc_messages.specs.Messages.{carrier_in, first_key, is_beside, is_key, is_under, least_of, least_with, lesser, noted_at}
+use Rattle.ndc_messages.specs.Messages.{carrier_in, first_key, is_beside, is_under, least_of, least_with, lesser, noted_at}
 use Rattle.ndc_messages.proofs.FirstLemmas.{all-in, first-all, first-batch, least-first}
 
 -- the least key, when all that is learned, and all that waits, was gone over

@@ -7,6 +7,7 @@ use Rattle.ndc_cells.specs.Places.{is_of}
 use Rattle.ndc_event.specs.Key.{key_eq, key_lt}
 use Rattle.ndc_event.specs.declared.batch.Batch.{Batch}
 use Rattle.ndc_event.specs.declared.key.BatchKey.{BatchKey}
+use Rattle.ndc_run.specs.Learning.{is_key}
 use Rattle.ndc_sets.specs.Learned.{learned}
 use Rattle.ndc_sets.specs.Sets.{batch_at}
 
@@ -24,11 +25,6 @@ is_beside (Some b) other = is_of b.domain b.workflow other
 abbrev pub carrier_in : List Batch → Batch → Option BatchKey → Option BatchKey
 carrier_in all other None = None
 carrier_in all other (Some key) = if is_beside (batch_at key all) other then Some key else None
-
--- whether the key, where there is one, is this
-abbrev pub is_key : BatchKey → Option BatchKey → Bool
-is_key key None = false
-is_key key (Some other) = key_eq key other
 
 -- whether a batch is carried by the one of this key among these
 abbrev pub is_under : List Batch → BatchKey → Batch → Bool
