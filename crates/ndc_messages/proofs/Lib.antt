@@ -1,0 +1,4 @@
+mod FirstLemmas
+mod CarriedLemmas
+mod PlaceLemmas
+mod NextLemmas

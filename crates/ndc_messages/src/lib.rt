@@ -1,0 +1,13 @@
+//! The messages of what a workflow has learned.
+#![tactic(auto)]
+
+mod carried;
+mod cell;
+mod next;
+mod reading;
+
+pub use cell::message_there;
+pub use reading::{message_at, messages};
+
+#[cfg(test)]
+mod tests;
