@@ -1,0 +1,175 @@
+ghost use Rattle.std.specs.Prelude.{◌≡◌, ◌<◌, true, IfOk};
+ghost use Rattle.ndc_act.specs.WellFormed.{IsWellFormedAct, IsWellFormedHeader};
+ghost use Rattle.ndc_fair_jobs.specs.Lines.{LineIsAllowed};
+ghost use Rattle.ndc_model.specs.Facts.{IsReached};
+ghost use Rattle.ndc_model.specs.Lines.{act_step};
+ghost use Rattle.ndc_model.specs.Steps.{answered};
+ghost use Rattle.ndc_steps.specs.Told.{leaving};
+ghost use Rattle.ndc_world.specs.Built.{is_built, is_read};
+
+use ndc_act::{Act, Header};
+use ndc_links::Reads;
+use ndc_network::Network;
+use ndc_port::Gate;
+use ndc_steps::{Step, answered, domains, handovers, lanes, letters, moving, reading, writing};
+use std::alloc::{AllocError, Global};
+use std::thread::Threads;
+
+/// What a line asks for is done: a line that is no burst.
+#[tactic(auto, unfolding(ndc_model::specs::Lines::act_step))]
+pub(crate) fn act<R: Threads + Sync, G: Gate, C: Reads + Drop + Send>(
+    network: &mut Network<C>,
+    rt: &R,
+    alloc: Global,
+    gate: &G,
+    workers: u32,
+    header: &Header,
+    lines: u64,
+    act: &Act,
+) -> Result<Step, AllocError>
+    requires workers { 0 < workers }
+    requires header { IsWellFormedHeader header.now }
+    requires act { IsWellFormedAct header.now act.now }
+    requires built { is_built act.now ≡ true }
+    requires reached { IsReached header.now lines network.old }
+    requires allowed { LineIsAllowed C.allows header.now act.now network.old }
+    ensures { IfOk result (λ step. leaving network.new step ≡ act_step header.now act.now network.old) }
+{
+    match act {
+        Act::Command {
+            cluster,
+            domain,
+            workflow,
+            command,
+        } => writing::command(
+            network, rt, alloc, gate, workers, header, *cluster, domain, workflow, command,
+        ),
+        Act::Burst { .. } => Ok(answered(alloc, Vec::new(alloc))),
+        Act::Register {
+            at,
+            domain,
+            target,
+            days,
+            members,
+        } => domains::register(network, alloc, header, *at, domain, *target, *days, *members),
+        Act::Retain { at, domain, days } => domains::retain(network, alloc, *at, domain, *days),
+        Act::Join { at, domain, member } => domains::join(network, alloc, *at, domain, *member),
+        Act::Failover { at, domain, target } => {
+            domains::failover(network, alloc, header, *at, domain, *target)
+        }
+        Act::Domains { to, from } => domains::domains(network, alloc, *to, *from),
+        Act::Pull { reader, source } => lanes::pull(network, alloc, header, *reader, *source),
+        Act::PullSome {
+            reader,
+            source,
+            shard,
+            count,
+        } => lanes::pull_some(network, alloc, header, *reader, *source, *shard, *count),
+        Act::Lose {
+            reader,
+            source,
+            shard,
+            place,
+        } => lanes::lose(network, alloc, *reader, *source, *shard, *place),
+        Act::Repeat {
+            reader,
+            source,
+            shard,
+            place,
+        } => lanes::repeat(network, alloc, *reader, *source, *shard, *place),
+        Act::Move {
+            reader,
+            source,
+            shard,
+            place,
+            to,
+        } => lanes::move_to(network, alloc, *reader, *source, *shard, *place, *to),
+        Act::Work { cluster } => {
+            moving::work(network, rt, alloc, gate, workers, header, *cluster)
+        }
+        Act::Rewind { reader, source } => lanes::rewind(network, alloc, *reader, *source),
+        Act::Trim { source } => lanes::trim(network, alloc, header, *source),
+        Act::Resend { cluster } => {
+            moving::resend(network, rt, alloc, gate, workers, header, *cluster)
+        }
+        Act::Bootstrap { reader, source } => {
+            moving::bootstrap(network, rt, alloc, gate, workers, header, *reader, *source)
+        }
+        Act::Settle => moving::settle(network, rt, alloc, gate, workers, header),
+        Act::Handover { at, domain, target } => {
+            handovers::handover(network, alloc, header, *at, domain, *target)
+        }
+        Act::Complete { at, domain } => {
+            handovers::complete(network, alloc, header, *at, domain)
+        }
+        Act::Reset {
+            cluster,
+            domain,
+            workflow,
+            event,
+        } => writing::reset(
+            network, rt, alloc, gate, workers, header, *cluster, domain, workflow, *event,
+        ),
+        Act::Purge { reader } => letters::purge(network, alloc, *reader),
+        _ => Ok(answered(alloc, read(network, alloc, header, lines, act)?)),
+    }
+}
+
+/// What a line answers that changes nothing.
+#[tactic(auto, unfolding(ndc_model::specs::Lines::act_step))]
+fn read<C: Reads + Drop>(
+    network: &Network<C>,
+    alloc: Global,
+    header: &Header,
+    lines: u64,
+    act: &Act,
+) -> Result<Vec<u8>, AllocError>
+    requires header { IsWellFormedHeader header.now }
+    requires act { IsWellFormedAct header.now act.now }
+    requires built { is_read act.now ≡ true }
+    requires reached { IsReached header.now lines network.now }
+    ensures { IfOk result (λ text. answered network.now text.items ≡ act_step header.now act.now network.now) }
+{
+    match act {
+        Act::Domain { at, domain } => domains::domain(network, alloc, header, *at, domain),
+        Act::MembersOf { at, domain } => domains::members(network, alloc, header, *at, domain),
+        Act::LevelsOf {
+            reader,
+            source,
+            shard,
+        } => lanes::levels(network, alloc, header, *reader, *source, *shard),
+        Act::History {
+            cluster,
+            domain,
+            workflow,
+        } => reading::history(network, alloc, header, *cluster, domain, workflow),
+        Act::Branches {
+            cluster,
+            domain,
+            workflow,
+        } => reading::branches(network, alloc, header, *cluster, domain, workflow),
+        Act::Current {
+            cluster,
+            domain,
+            workflow,
+        } => reading::current(network, alloc, header, *cluster, domain, workflow),
+        Act::StateOf {
+            cluster,
+            domain,
+            workflow,
+        } => reading::state(network, alloc, header, *cluster, domain, workflow),
+        Act::Dump {
+            cluster,
+            domain,
+            workflow,
+        } => reading::dump(network, alloc, header, *cluster, domain, workflow),
+        Act::Compare {
+            one,
+            two,
+            domain,
+            workflow,
+        } => reading::compare(network, alloc, header, *one, *two, domain, workflow),
+        Act::LettersOf { reader } => letters::letters(network, alloc, header, *reader),
+        _ => unreachable!(),
+    }
+}

@@ -1,0 +1,102 @@
+ghost use Rattle.std.specs.Prelude.{◌≡◌, ◌<◌, ◌++◌, IfOk, OnOk};
+ghost use Rattle.ndc_act.specs.WellFormed.{IsCluster};
+ghost use Rattle.ndc_cells.specs.Jobs.{cells_after, replies_to};
+ghost use Rattle.ndc_cells.specs.declared.job.Job.TheVariants as job;
+ghost use Rattle.ndc_fair_jobs.specs.Lines.{burst_jobs, job_for};
+ghost use Rattle.ndc_model.specs.Fair.{IsShaped};
+ghost use Rattle.ndc_model.specs.Moves.{notes_of};
+ghost use Rattle.ndc_model.specs.Steps.{seen_of};
+ghost use Rattle.ndc_model.specs.World.{cluster_at, home_at, with_cells};
+ghost use Rattle.ndc_network.specs.Conditions.{MayDoAll};
+ghost use Rattle.ndc_world.specs.Bursts.{burst_text};
+
+use ndc_act::{BurstJob, Header};
+use ndc_answers::{add_seen, behind_number, outcome};
+use ndc_cells::{Job, JobReply, ShardJob};
+use ndc_domain::ClusterNo;
+use ndc_network::Network;
+use ndc_port::Gate;
+use ndc_links::Reads;
+use ndc_steps::{Step, shard_of};
+use std::alloc::{AllocError, Global};
+use std::thread::Threads;
+
+/// The command of a line in a burst as a job.
+fn job_of(header: &Header, one: &BurstJob) -> Result<ShardJob, AllocError>
+    requires { 0 < header.now.shards }
+    ensures { IfOk result (λ asked. asked ≡ job_for header.now one.now.domain one.now.workflow (job.Command one.now.domain one.now.workflow one.now.command)) }
+{
+    Ok(ShardJob {
+        shard: shard_of(&one.domain, &one.workflow, header.shards),
+        job: Job::Command {
+            domain: one.domain.try_copy()?,
+            workflow: one.workflow.try_copy()?,
+            command: one.command.try_copy()?,
+        },
+    })
+}
+
+/// The commands of a burst as jobs, in order.
+fn jobs_of(
+    alloc: Global,
+    header: &Header,
+    burst: &[BurstJob],
+) -> Result<Vec<ShardJob>, AllocError>
+    requires { 0 < header.now.shards }
+    ensures { IfOk result (λ jobs. jobs.items ≡ burst_jobs header.now burst.now) }
+{
+    let mut jobs = Vec::new(alloc);
+    for one in burst {
+        jobs.push(job_of(header, one)?)?;
+    }
+    Ok(jobs)
+}
+
+/// Each answer behind the number of its line, in order.
+fn answers_of(
+    alloc: Global,
+    burst: &[BurstJob],
+    replies: &[JobReply],
+) -> Result<Vec<u8>, AllocError>
+    ensures { IfOk result (λ text. text.items ≡ burst_text burst.now replies.now) }
+{
+    let mut text = Vec::new(alloc);
+    for place in 0..burst.len() {
+        if replies.len() <= place {
+            return Ok(text);
+        }
+        let answer = outcome(alloc, &replies[place].outcome)?;
+        let line = behind_number(alloc, burst[place].number, answer.as_slice())?;
+        text.extend_from_slice(line.as_slice())?;
+    }
+    Ok(text)
+}
+
+/// The commands of a burst are done side by side, and their answers are given together, each behind its number.
+pub(crate) fn burst<R: Threads + Sync, G: Gate, C: Reads + Drop + Send>(
+    network: &mut Network<C>,
+    rt: &R,
+    alloc: Global,
+    gate: &G,
+    workers: u32,
+    header: &Header,
+    cluster: ClusterNo,
+    burst: &[BurstJob],
+) -> Result<Step, AllocError>
+    requires workers { 0 < workers }
+    requires cluster { IsCluster header.now cluster }
+    requires shards { 0 < header.now.shards }
+    requires shaped { IsShaped header.now network.old }
+    requires allowed { MayDoAll C.allows header.now cluster (burst_jobs header.now burst.now) network.old }
+    ensures world { OnOk result (network.new ≡ with_cells cluster (cells_after (home_at header.now cluster network.old) (burst_jobs header.now burst.now) (cluster_at cluster network.old).cells) network.old) }
+    ensures answer { IfOk result (λ step. step.answer ≡ burst_text burst.now (replies_to (home_at header.now cluster network.old) (burst_jobs header.now burst.now) (cluster_at cluster network.old).cells)) }
+    ensures seen { IfOk result (λ step. step.seen ≡ seen_of (notes_of cluster (burst_jobs header.now burst.now)
+        (replies_to (home_at header.now cluster network.old) (burst_jobs header.now burst.now) (cluster_at cluster network.old).cells))) }
+{
+    let jobs = jobs_of(alloc, header, burst)?;
+    let replies = network.do_jobs(rt, alloc, gate, workers, header, cluster, jobs.as_slice())?;
+    let answer = answers_of(alloc, burst, replies.as_slice())?;
+    let mut seen = Vec::new(alloc);
+    add_seen(&mut seen, cluster, jobs.as_slice(), replies)?;
+    Ok(Step::new(answer, seen))
+}
