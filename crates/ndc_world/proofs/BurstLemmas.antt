@@ -8,7 +8,6 @@ use Rattle.ndc_act.specs.declared.script.Header.{Header}
 use Rattle.ndc_cells.specs.declared.job.Job.TheVariants as job
 use Rattle.ndc_cells.specs.declared.job.JobReply.{JobReply}
 use Rattle.ndc_cells.specs.declared.job.ShardJob.{ShardJob}
-use Rattle.ndc_cells.specs.Cells.{Cell}
 use Rattle.ndc_cells.specs.Jobs.{cells_after, cells_behind, replies_to, reply_to}
 use Rattle.ndc_domain.specs.declared.clusters.ClusterNo.{ClusterNo}
 use Rattle.ndc_fair_arrivals.proofs.BringLemmas.{after-more, world_after}

@@ -1,5 +1,5 @@
 -- What worlds that are as they should be give to the calls of lines.
-use Rattle.std.proofs.Common.{◌≡◌, ℕ, ◌<◌, ◌≤◌, ◌^◌, List, [], ◌∷◌, Option, Some, None, IfSome, length, find, Bool, true, false, if◌then◌else◌, refl, arith}
+use Rattle.std.proofs.Common.{ℕ, ◌<◌, ◌^◌, List, [], ◌∷◌, Option, Some, None, IfSome, length, Bool, true, false, if◌then◌else◌, arith}
 use Rattle.std.specs.List.{AllByRecursion}
 use Rattle.std.specs.Str.{bytes_eq}
 use Rattle.ndc_act.specs.WellFormed.{IsCluster}
@@ -13,7 +13,6 @@ use Rattle.ndc_act.specs.WellFormed.{IsWellFormedHeader}
 use Rattle.ndc_laws.proofs.HeadlineLemmas.{ranges}
 use Rattle.ndc_model.specs.Reading.{learned_at}
 use Rattle.ndc_text.specs.Ranges.{InRange}
-use Rattle.ndc_graceful.specs.declared.handover.Handover.{Handover}
 use Rattle.ndc_letters.specs.declared.letter.Letter.{Letter}
 use Rattle.ndc_model.specs.Facts.{IsHandoverFit, IsLetterFit, IsReached}
 use Rattle.ndc_model.specs.Fair.{AreMembersKnown, IsRecordInRange}

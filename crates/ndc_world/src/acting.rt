@@ -51,7 +51,9 @@ pub(crate) fn act<R: Threads + Sync, G: Gate, C: Reads + Drop + Send>(
             target,
             days,
             members,
-        } => domains::register(network, alloc, header, *at, domain, *target, *days, *members),
+        } => domains::register(
+            network, alloc, header, *at, domain, *target, *days, *members,
+        ),
         Act::Retain { at, domain, days } => domains::retain(network, alloc, *at, domain, *days),
         Act::Join { at, domain, member } => domains::join(network, alloc, *at, domain, *member),
         Act::Failover { at, domain, target } => {
@@ -99,9 +101,7 @@ pub(crate) fn act<R: Threads + Sync, G: Gate, C: Reads + Drop + Send>(
         Act::Handover { at, domain, target } => {
             handovers::handover(network, alloc, header, *at, domain, *target)
         }
-        Act::Complete { at, domain } => {
-            handovers::complete(network, alloc, header, *at, domain)
-        }
+        Act::Complete { at, domain } => { handovers::complete(network, alloc, header, *at, domain) }
         Act::Reset {
             cluster,
             domain,

@@ -14,9 +14,9 @@ use ndc_act::{BurstJob, Header};
 use ndc_answers::{add_seen, behind_number, outcome};
 use ndc_cells::{Job, JobReply, ShardJob};
 use ndc_domain::ClusterNo;
+use ndc_links::Reads;
 use ndc_network::Network;
 use ndc_port::Gate;
-use ndc_links::Reads;
 use ndc_steps::{Step, shard_of};
 use std::alloc::{AllocError, Global};
 use std::thread::Threads;
@@ -37,11 +37,7 @@ fn job_of(header: &Header, one: &BurstJob) -> Result<ShardJob, AllocError>
 }
 
 /// The commands of a burst as jobs, in order.
-fn jobs_of(
-    alloc: Global,
-    header: &Header,
-    burst: &[BurstJob],
-) -> Result<Vec<ShardJob>, AllocError>
+fn jobs_of(alloc: Global, header: &Header, burst: &[BurstJob]) -> Result<Vec<ShardJob>, AllocError>
     requires { 0 < header.now.shards }
     ensures { IfOk result (λ jobs. jobs.items ≡ burst_jobs header.now burst.now) }
 {

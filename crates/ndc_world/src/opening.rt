@@ -3,9 +3,9 @@ ghost use Rattle.ndc_cells.specs.Cells.{empty_cell};
 ghost use Rattle.ndc_model.specs.World.{all_clusters};
 ghost use Rattle.ndc_network.specs.Networks.{opening_site};
 
+use crate::begins::Begins;
 use ndc_act::{Header, clusters_below};
 use ndc_sites::Site;
-use crate::begins::Begins;
 use std::alloc::{AllocError, Global};
 
 /// So many cells in which nothing has happened.

@@ -2,6 +2,7 @@ ghost use Rattle.std.specs.Prelude.{◌≡◌, IfOk};
 ghost use Rattle.ndc_model.specs.World.{opening_world};
 
 use crate::acting::act;
+use crate::begins::Begins;
 use crate::bursts::burst;
 use crate::opening::opening_sites;
 use ndc_act::{Act, BurstJob, Header, Line};
@@ -10,7 +11,6 @@ use ndc_domain::ClusterNo;
 use ndc_index::Seen;
 use ndc_network::Network;
 use ndc_port::Gate;
-use crate::begins::Begins;
 use std::alloc::{AllocError, Global};
 use std::marker::Model;
 use std::thread::Threads;
@@ -177,7 +177,16 @@ impl<'a, C: Begins + Drop> World<'a, C> {
             mut network,
             lines,
         } = self;
-        let step = burst(&mut network, rt, alloc, gate, workers, header, cluster, jobs)?;
+        let step = burst(
+            &mut network,
+            rt,
+            alloc,
+            gate,
+            workers,
+            header,
+            cluster,
+            jobs,
+        )?;
         let (answers, seen) = step.into_parts();
         let world = World {
             header,
