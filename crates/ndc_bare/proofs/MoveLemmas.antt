@@ -1,5 +1,5 @@
 -- Moves do not look at progress reports.
-use Rattle.std.proofs.Common.{◌≡◌, ℕ, zero, suc, Bool, true, false, List, [], ◌∷◌, ◌++◌, drop, map, max, slice_index_or, slice_set, Some, None, refl, sym, ◌∙◌, ap, if◌then◌else◌}
+use Rattle.std.proofs.Common.{◌≡◌, ℕ, zero, suc, Bool, true, false, List, [], ◌∷◌, ◌++◌, drop, map, max, slice_index_or, slice_set, Some, None, refl, ◌∙◌, ap, if◌then◌else◌}
 use Rattle.std.specs.List.{filter, flat_map, fold}
 use Rattle.ndc_act.specs.declared.script.Header.{Header}
 use Rattle.ndc_cells.specs.declared.job.ShardJob.{ShardJob}
@@ -7,15 +7,15 @@ use Rattle.ndc_cells.specs.declared.message.Message.{Message}
 use Rattle.ndc_cells.specs.Cells.{both}
 use Rattle.ndc_cells.specs.Jobs.{cell_for, cells_after, replies_to}
 use Rattle.ndc_cells.specs.Places.{in_order}
-use Rattle.ndc_cells.specs.Writing.{Home, same_cluster}
+use Rattle.ndc_cells.specs.Writing.{same_cluster}
 use Rattle.ndc_domain.specs.Merge.{merged}
 use Rattle.ndc_domain.specs.declared.clusters.ClusterNo.{ClusterNo}
 use Rattle.ndc_domain.specs.declared.record.DomainRecord.{DomainRecord}
 use Rattle.ndc_event.specs.declared.batch.Batch.{Batch}
-use Rattle.ndc_model.specs.Moves.{Trace, after_settlement, all_arrive, all_written, arrives, bootstrapped, by_link, done_levels, due, due_arrived, flights_arrived, from_world, jobs_done, learned_of_domains, map_from, merged_all, messages_among, missing_ancestors, notes_of, pulled_all, pulled_link, pulled_shard, quietly, reapplied_all, renewed, renewed_link, resent, rewound, sent_again, settled_once, trimmed_all, trimmed_level, without_flights, without_flights_to, worked}
+use Rattle.ndc_model.specs.Moves.{Trace, after_settlement, all_arrive, all_written, arrives, bootstrapped, by_link, done_levels, due, due_arrived, flights_arrived, from_world, jobs_done, learned_of_domains, map_from, merged_all, messages_among, missing_ancestors, notes_of, pulled_all, pulled_link, pulled_shard, quietly, reapplied_all, renewed, renewed_link, resent, sent_again, settled_once, trimmed_all, trimmed_level, without_flights, without_flights_to, worked}
 use Rattle.ndc_model.specs.Queues.{after_pull, after_renewal, is_addressed}
 use Rattle.ndc_queue.specs.Levels.{trim_level}
-use Rattle.ndc_model.specs.World.{Cluster, Link, World, all_clusters, cell_at, changed_first, cluster_at, home_at, is_link, link_at, new_cluster, others_of, shards_of, with_cells, with_cluster, with_late, with_link, with_table, lane_in, queue_at, trimmed_at}
+use Rattle.ndc_model.specs.World.{Cluster, Link, World, all_clusters, cell_at, changed_first, cluster_at, home_at, is_link, link_at, new_cluster, others_of, shards_of, with_cluster, with_late, with_link, with_table, lane_in, queue_at, trimmed_at}
 use Rattle.ndc_bare.specs.Bare.{bare, bare_cluster, bare_trace}
 
 -- functions that agree on each item map, change and flatten alike

@@ -1,6 +1,6 @@
 -- Lines that are not on progress reports do not look at them.
-use Rattle.std.proofs.Common.{◌≡◌, ℕ, suc, Bool, true, false, List, [], ◌∷◌, ◌++◌, ◌-◌, length, map, sum, decimal, codes, slice_get, remove, Option, Some, None, Result, Ok, Err, refl, sym, ◌∙◌, ap, if◌then◌else◌}
-use Rattle.std.specs.Prelude.{is_some, option_map, option_to_list}
+use Rattle.std.proofs.Common.{◌≡◌, ℕ, suc, Bool, true, false, List, [], ◌∷◌, ◌++◌, ◌-◌, length, map, sum, decimal, codes, slice_get, remove, Option, Some, None, Result, Ok, Err, refl, ◌∙◌, ap, if◌then◌else◌}
+use Rattle.std.specs.Prelude.{is_some, option_map}
 use Rattle.std.specs.List.{cons_option, filter, filter_map, flat_map}
 use Rattle.ndc_act.specs.declared.script.Act.{Act}
 use Rattle.ndc_act.specs.declared.script.Act.TheVariants as act
@@ -28,12 +28,12 @@ use Rattle.ndc_graceful.specs.declared.handover.ReadyError.TheVariants.{Bootstra
 use Rattle.ndc_letters.specs.declared.letter.Letter.{Letter}
 use Rattle.ndc_letters.specs.Letters.{is_whole, letter_of, place_of_letter}
 use Rattle.ndc_model.specs.Handovers.{complete_by, complete_open, complete_step, handed_over, handover_begun, handover_step, handover_to, levels_of, open_handover, queue_ends, ready_in, taken_version, version_or_zero, with_handover, without_handover}
-use Rattle.ndc_model.specs.Letters.{damage_at, damage_step, damaged, letter_job, letters_answer, letters_merged, mergeletters_step, purge_step, with_letters}
+use Rattle.ndc_model.specs.Letters.{damage_at, damaged, letter_job, letters_answer, letters_merged, purge_step, with_letters}
 use Rattle.ndc_model.specs.Lines.{act_step}
-use Rattle.ndc_model.specs.Moves.{Trace, arrives, from_world, jobs_done, map_from, pulled_all, pulled_shard, quietly, renewed, rewound, trimmed_all, trimmed_level, worked}
+use Rattle.ndc_model.specs.Moves.{Trace, arrives, from_world, jobs_done, map_from, pulled_all, pulled_shard, quietly, renewed, rewound, trimmed_all, trimmed_level}
 use Rattle.ndc_model.specs.Reading.{branches_answer, compare_answer, current_answer, dump_answer, history_answer, learned_at, read_answer, state_answer}
-use Rattle.ndc_model.specs.Sending.{arrived_words, bootstrap_step, flight_step, gap_line, gap_lines, gaps_answer, levels_answer, lose_step, missing_text, move_step, pull_count, pull_some_step, pull_step, repeat_step, resend_step, settle_step, trim_step, work_step, work_words}
-use Rattle.ndc_model.specs.Steps.{Stepped, answered, applied_by, command_step, learned_by, moved, outcome_answer, reset_step, seen_of, total, writing_step}
+use Rattle.ndc_model.specs.Sending.{arrived_words, flight_step, gap_line, gap_lines, gaps_answer, levels_answer, missing_text, pull_count, pull_some_step, pull_step, trim_step, work_words}
+use Rattle.ndc_model.specs.Steps.{answered, applied_by, command_step, learned_by, moved, outcome_answer, reset_step, seen_of, total, writing_step}
 use Rattle.ndc_model.specs.Tables.{domain_answer, domains_step, failover_words, join_step, members_answer, register_words, retain_words, table_step}
 use Rattle.ndc_model.specs.Queues.{Lane, put_in_flight}
 use Rattle.ndc_queue.specs.Lists.{after_loss, after_move, after_repeat}
@@ -42,9 +42,9 @@ use Rattle.ndc_resend.specs.Gaps.{item_or_zero}
 use Rattle.ndc_sets.specs.Paths.{first_id, last_item_of, path_to}
 use Rattle.ndc_state.specs.Replay.{history_of}
 use Rattle.ndc_text.specs.Views.{item_text, key_text}
-use Rattle.ndc_model.specs.World.{Cluster, Link, World, cell_at, cluster_at, home_at, flight_at, is_late_in, lane_at, link_at, shards_of, trimmed_at, with_flight, with_table}
-use Rattle.ndc_bare.specs.Bare.{bare, bare_cluster, bare_step, bare_trace, is_on_reports}
-use Rattle.ndc_bare.proofs.MoveLemmas.{all-written-bare, bootstrap-bare, changed-bare, cluster-bare, flat-same, jobs-bare, level-bare, map-same, pull-bare, pull-some-bare, renew-bare, resend-bare, same-at, settle-bare, table-bare, trim-bare, work-bare}
+use Rattle.ndc_model.specs.World.{Link, World, cell_at, cluster_at, home_at, flight_at, is_late_in, lane_at, link_at, shards_of, trimmed_at, with_flight, with_table}
+use Rattle.ndc_bare.specs.Bare.{bare, bare_step, bare_trace, is_on_reports}
+use Rattle.ndc_bare.proofs.MoveLemmas.{all-written-bare, bootstrap-bare, changed-bare, flat-same, jobs-bare, level-bare, map-same, pull-bare, pull-some-bare, renew-bare, resend-bare, same-at, settle-bare, table-bare, trim-bare, work-bare}
 
 -- functions that agree on each item pick alike
 picked-same : {X Y : Type 0} (f g : X → Option Y) → ((x : X) → f x ≡ g x) → (xs : List X) → filter_map f xs ≡ filter_map g xs

@@ -1,1 +1,3 @@
 pub mod Bare
+pub mod Standing
+pub mod Reporting

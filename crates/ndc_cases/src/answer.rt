@@ -3,12 +3,14 @@ ghost use Rattle.std.specs.Prelude.{◌≡◌, [], IfOk};
 ghost use Rattle.ndc_act.specs.Print.{script_text};
 ghost use Rattle.ndc_read.specs.Body.{script_of};
 
-use ndc_port::{MemSink, MemSource};
+use ndc_index::{Indexer, KindsIndexer, OpenIndexer, SignalsIndexer};
+use ndc_port::{MemSink, MemSource, OpenGate};
 use ndc_script::{Script, ScriptError, generate, parse, print};
 use ndc_text::{TextError, print_batch, read_batch, read_batch_1};
 use ndc_top::ndc_top;
 use ndc_words::number_of;
 use std::alloc::{AllocError, Global};
+use std::thread::Threads;
 
 /// How many bytes a call may print.
 const ROOM: usize = 1_048_576;
@@ -45,8 +47,13 @@ fn printed(alloc: Global, output: Vec<u8>) -> Answer
     }
 }
 
-/// What the program answers on these words.
-fn ndc_answer(alloc: Global, words: &[&[u8]], input: &[u8]) -> Result<Answer, AllocError>
+/// What the program answers on these words, with the three indexers that it ships.
+fn ndc_answer<R: Threads + Sync>(
+    rt: &R,
+    alloc: Global,
+    words: &[&[u8]],
+    input: &[u8],
+) -> Result<Answer, AllocError>
     ensures { IfOk result (λ answer. answer.status ≡ 0 → answer.told.items ≡ []) }
 {
     let mut given = Vec::new(alloc);
@@ -56,7 +63,20 @@ fn ndc_answer(alloc: Global, words: &[&[u8]], input: &[u8]) -> Result<Answer, Al
     let mut source = MemSource::new(Vec::from_slice(alloc, input)?, Vec::new(alloc));
     let mut out = MemSink::new(alloc, ROOM, Vec::new(alloc))?;
     let mut err = MemSink::new(alloc, ROOM, Vec::new(alloc))?;
-    let status = ndc_top(alloc, given.as_slice(), &mut source, &mut out, &mut err);
+    let mut indexers: Vec<Box<dyn Indexer>> = Vec::new(alloc);
+    indexers.push(Box::new(alloc, KindsIndexer::new(alloc))?)?;
+    indexers.push(Box::new(alloc, OpenIndexer::new(alloc))?)?;
+    indexers.push(Box::new(alloc, SignalsIndexer::new(alloc))?)?;
+    let status = ndc_top(
+        rt,
+        alloc,
+        given.as_slice(),
+        &mut source,
+        &mut out,
+        &mut err,
+        &OpenGate {},
+        indexers,
+    );
     Ok(Answer {
         status,
         output: Vec::from_slice(alloc, out.bytes())?,
@@ -103,13 +123,18 @@ fn batch_answer(alloc: Global, bare: bool, input: &[u8]) -> Result<Answer, Alloc
 }
 
 /// What a call answers on this input. Refused with status 2 where there is no such call.
-pub fn answer_of(alloc: Global, call: &[u8], input: &[u8]) -> Result<Answer, AllocError> {
+pub fn answer_of<R: Threads + Sync>(
+    rt: &R,
+    alloc: Global,
+    call: &[u8],
+    input: &[u8],
+) -> Result<Answer, AllocError> {
     let words: Vec<&[u8]> = call
         .split(|byte| *byte == b' ')
         .filter(|word| !word.is_empty())
         .collect(alloc)?;
     match words.as_slice() {
-        [program, rest @ ..] if *program == b"ndc".as_slice() => ndc_answer(alloc, rest, input),
+        [program, rest @ ..] if *program == b"ndc".as_slice() => ndc_answer(rt, alloc, rest, input),
         [word] if *word == b"script".as_slice() => script_answer(alloc, input),
         [word, count, seed] if *word == b"generated".as_slice() => {
             generated_answer(alloc, count, seed)

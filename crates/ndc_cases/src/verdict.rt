@@ -13,8 +13,6 @@ pub enum Verdict {
     Passes,
     /// It answers otherwise.
     Differs,
-    /// It calls or asks what is not built yet.
-    NotBuilt,
 }
 
 /// What comes of cases, counted.
@@ -22,7 +20,6 @@ pub enum Verdict {
 pub struct Counts {
     pub passed: u64,
     pub differing: u64,
-    pub unbuilt: u64,
 }
 
 /// Whether the answer is the wanted one, to the last byte.
@@ -34,20 +31,12 @@ fn is_wanted(case: &Case, answer: &Answer) -> bool
         && answer.told.as_slice() == case.told()
 }
 
-/// Whether the call was refused since it is not built yet: by its words, or at a line of a script.
-fn is_unbuilt(case: &Case, answer: &Answer) -> bool {
-    (case.status() != 2 && answer.told.starts_with(b"ndc: words: "))
-        || answer.told.ends_with(b": Unbuilt\n")
-}
-
 /// What comes of a case by its answer. It passes exactly where the status and all bytes are the wanted ones.
 pub fn verdict_of(case: &Case, answer: &Answer) -> Verdict
     ensures { (result ≡ Passes) ↔ (((answer.now.status == case.now.status) && bytes_eq answer.now.output.items case.now.output && bytes_eq answer.now.told.items case.now.told) ≡ true) }
 {
     if is_wanted(case, answer) {
         Verdict::Passes
-    } else if is_unbuilt(case, answer) {
-        Verdict::NotBuilt
     } else {
         Verdict::Differs
     }
@@ -55,16 +44,15 @@ pub fn verdict_of(case: &Case, answer: &Answer) -> Verdict
 
 impl Counts {
     ghost use Rattle.std.specs.Prelude.{◌≡◌, ◌≢◌};
-    ghost use Rattle.ndc_cases.specs.declared.verdict.Verdict.TheVariants.{Passes, Differs, NotBuilt};
+    ghost use Rattle.ndc_cases.specs.declared.verdict.Verdict.TheVariants.{Passes, Differs};
 
     /// Nothing was counted yet.
     pub fn new() -> Counts
-        ensures { result ≡ record { passed = 0; differing = 0; unbuilt = 0 } }
+        ensures { result ≡ record { passed = 0; differing = 0 } }
     {
         Counts {
             passed: 0,
             differing: 0,
-            unbuilt: 0,
         }
     }
 
@@ -72,12 +60,10 @@ impl Counts {
     pub fn count(&mut self, verdict: Verdict)
         ensures passed { verdict ≢ Passes → self.new.passed ≡ self.old.passed }
         ensures differing { verdict ≢ Differs → self.new.differing ≡ self.old.differing }
-        ensures unbuilt { verdict ≢ NotBuilt → self.new.unbuilt ≡ self.old.unbuilt }
     {
         match verdict {
             Verdict::Passes => self.passed = self.passed.saturating_add(1),
             Verdict::Differs => self.differing = self.differing.saturating_add(1),
-            Verdict::NotBuilt => self.unbuilt = self.unbuilt.saturating_add(1),
         }
     }
 }

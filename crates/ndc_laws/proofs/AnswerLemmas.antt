@@ -21,7 +21,8 @@ use Rattle.ndc_fair_arrivals.proofs.WrittenLemmas.{arrived-written, ordered, own
 use Rattle.ndc_fair_writing.proofs.LandLemmas.{cell-here}
 use Rattle.ndc_laws.specs.Promised.{FirstMissing, LacksAncestor}
 use Rattle.ndc_laws.proofs.AncestorLemmas.{arrived-set, waits-for-ancestors}
-use Rattle.ndc_laws.proofs.MissingLemmas.{first-missing, none-missing}
+use Rattle.ndc_laws.proofs.MissingLemmas.{first-missing}
+use Rattle.ndc_shown.proofs.MissingLemmas.{none-missing}
 use Rattle.ndc_model.specs.Facts.{IsReached}
 use Rattle.ndc_model.specs.Fair.{IsMessageTrue, is_named, written_of}
 use Rattle.ndc_model.specs.Moves.{all_written, arrives}

@@ -11,7 +11,7 @@ use Rattle.ndc_fair_writing.specs.OneWriter.{EachHasOneCurrent}
 use Rattle.ndc_fair_writing.proofs.OneWriterLemmas.{learned_sound}
 use Rattle.ndc_fair_writing.proofs.WriterLemmas.{within}
 use Rattle.ndc_laws.specs.Promised.{AnswerAlike, ComparesSame, LearnedTheSame, StatesAreReplays, TipsDiffer}
-use Rattle.ndc_laws.proofs.DumpLemmas.{shown-same}
+use Rattle.ndc_shown.proofs.DumpLemmas.{shown-same}
 use Rattle.ndc_model.specs.Facts.{IsReached}
 use Rattle.ndc_model.specs.Fair.{written_of}
 use Rattle.ndc_model.specs.Lines.{act_step}

@@ -1,4 +1,3 @@
-pub mod DumpLemmas
 pub mod HeadlineLemmas
 pub mod AncestorLemmas
 pub mod StrayLemmas

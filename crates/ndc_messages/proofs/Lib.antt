@@ -2,3 +2,4 @@ mod FirstLemmas
 mod CarriedLemmas
 mod PlaceLemmas
 mod NextLemmas
+pub mod DomainLemmas

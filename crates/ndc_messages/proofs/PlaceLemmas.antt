@@ -25,7 +25,7 @@ all-kept test (x ∷ xs) = by (test x) refl (all-kept test xs)
     by true e rest = (e, rest)
     by false e rest = rest
 
-all-learned : (P : Batch → Type 0) (known xs : List Batch) → AllByRecursion P xs → AllByRecursion P (learned_behind known xs)
+pub all-learned : (P : Batch → Type 0) (known xs : List Batch) → AllByRecursion P xs → AllByRecursion P (learned_behind known xs)
 all-learned P known [] all = tt
 all-learned P known (x ∷ xs) all = by (has_key (earlier x) known) (all-learned P (known ++ x ∷ []) xs all.1) (all-learned P known xs all.1)
   where
@@ -55,10 +55,10 @@ second-same b (x ∷ xs) = by (is_of b.domain b.workflow x) refl (second-same b 
     by true e rest = ap (λ (o : Option Batch). if carries b x then Some x else o) rest
     by false e rest = ap (λ u. if u && is_wanted x.carrier b then Some x else find (carries b) xs) e ∙ rest
 
-abbrev own_in : List Batch → Batch → Option Message
+abbrev pub own_in : List Batch → Batch → Option Message
 own_in arrived b = own_message (learned arrived) arrived b
 
-own-same : (domain workflow : Name) (cell : Cell) (b : Batch) → is_of domain workflow b ≡ true → own_message (learned_of b.domain b.workflow cell) cell.arrived b ≡ own_in (arrived_of domain workflow cell) b
+pub own-same : (domain workflow : Name) (cell : Cell) (b : Batch) → is_of domain workflow b ≡ true → own_message (learned_of b.domain b.workflow cell) cell.arrived b ≡ own_in (arrived_of domain workflow cell) b
 own-same domain workflow cell b own =
     ap (λ (s : Option Batch). if is_some b.carrier then None else Some (record { batch = b; history = versions_of (events_to b.key (learned_of b.domain b.workflow cell)); second = s })) (second-same b cell.arrived)
     ∙ ap (λ (n : Name). own_in (arrived_of n b.workflow cell) b) (names-of domain workflow b own).0 ∙ ap (λ (n : Name). own_in (arrived_of domain n cell) b) (names-of domain workflow b own).1

@@ -1,5 +1,6 @@
 -- The messages of what is learned of a workflow, and what its batches carry.
 use Rattle.std.specs.Prelude.{Bool, false, List, [], ◌∷◌, Option, Some, None, if◌then◌else◌}
+use Rattle.std.specs.List.{filter_map}
 use Rattle.std.specs.Map.{lookup}
 use Rattle.ndc_cells.specs.declared.message.Message.{Message}
 use Rattle.ndc_cells.specs.Cells.{carries, own_message}
@@ -10,11 +11,16 @@ use Rattle.ndc_event.specs.declared.key.BatchKey.{BatchKey}
 use Rattle.ndc_run.specs.Learning.{is_key}
 use Rattle.ndc_sets.specs.Learned.{learned}
 use Rattle.ndc_sets.specs.Sets.{batch_at}
+use Rattle.ndc_workflow.specs.Workflow.{WorkflowValue}
 
 -- the own message of a learned batch, where there is one, as these batches of its workflow that have arrived have it
 abbrev pub own_message_of : List Batch → Option Batch → Option Message
 own_message_of arrived None = None
 own_message_of arrived (Some b) = own_message (learned arrived) arrived b
+
+-- the own messages of what is learned of a workflow, in key order
+abbrev pub messages_in : WorkflowValue → List Message
+messages_in w = filter_map (own_message (learned w.arrived) w.arrived) (learned w.arrived)
 
 -- whether a batch is of the workflow of this one, where there is one
 abbrev pub is_beside : Option Batch → Batch → Bool

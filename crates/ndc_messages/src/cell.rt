@@ -1,8 +1,10 @@
 ghost use Rattle.std.specs.Prelude.{◌≡◌, IfOk};
 ghost use Rattle.ndc_cells.specs.Cells.{message_at as message_at_place};
+ghost use Rattle.ndc_model.specs.Moves.{learned_of_domains};
 
-use crate::reading::message_in;
-use ndc_cells::{Message, Place};
+use crate::reading::{message_in, messages};
+use ndc_cells::Message;
+use ndc_event::{BatchKey, Name};
 use ndc_workflows::Workflows;
 use std::alloc::{AllocError, Global};
 
@@ -11,12 +13,32 @@ use std::alloc::{AllocError, Global};
 pub fn message_there(
     alloc: Global,
     workflows: &Workflows,
-    place: &Place,
+    domain: &Name,
+    workflow: &Name,
+    key: BatchKey,
 ) -> Result<Option<Message>, AllocError>
-    ensures { IfOk result (λ message. message ≡ message_at_place workflows.now place.now) }
+    ensures { IfOk result (λ message. message ≡ message_at_place workflows.now (record { domain = domain.now; workflow = workflow.now; key = key })) }
 {
-    match workflows.find(&place.domain, &place.workflow) {
+    match workflows.find(domain, workflow) {
         None => Ok(None),
-        Some(workflow) => message_in(alloc, workflow, place.key),
+        Some(found) => message_in(alloc, found, key),
     }
+}
+
+/// The messages of what the cell has learned of these domains, in order of place: workflow by workflow those of
+/// [`messages`].
+pub fn messages_of(
+    alloc: Global,
+    workflows: &Workflows,
+    domains: &[Name],
+) -> Result<Vec<Message>, AllocError>
+    ensures { IfOk result (λ list. list.items ≡ learned_of_domains domains.now workflows.now) }
+{
+    let found = workflows.of_domains(alloc, domains)?;
+    let mut list = Vec::new(alloc);
+    for workflow in found.as_slice() {
+        let mut more = messages(alloc, workflow)?;
+        list.append(&mut more)?;
+    }
+    Ok(list)
 }

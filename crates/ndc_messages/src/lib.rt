@@ -6,7 +6,7 @@ mod cell;
 mod next;
 mod reading;
 
-pub use cell::message_there;
+pub use cell::{message_there, messages_of};
 pub use reading::{message_at, messages};
 
 #[cfg(test)]

@@ -2,7 +2,6 @@ ghost use Rattle.std.specs.Prelude.{◌≡◌, IfOk, None};
 ghost use Rattle.ndc_sets.specs.Worked.{begun_again};
 
 use super::*;
-use ndc_cells::Place;
 use ndc_event::{Batch, BatchKey, Event, EventKind, Events, Name, RunId};
 use ndc_state::Steps;
 use ndc_workflow::Workflow;
@@ -85,11 +84,9 @@ fn a_message_is_found_by_its_key(rt: HostRuntime) -> Result<(), Fail> {
 fn an_empty_cell_has_no_message(rt: HostRuntime) -> Result<(), Fail> {
     let alloc = rt.alloc();
     let workflows = Workflows::new(alloc);
-    let place = Place {
-        domain: name(alloc, "alpha")?,
-        workflow: name(alloc, "w1")?,
-        key: key(1),
-    };
-    assert!(rt; message_there(alloc, &workflows, &place)?.is_none());
+    let domain = name(alloc, "alpha")?;
+    let workflow = name(alloc, "w1")?;
+    assert!(rt; message_there(alloc, &workflows, &domain, &workflow, key(1))?.is_none());
+    assert!(rt; messages_of(alloc, &workflows, &[domain])?.is_empty());
     Ok(())
 }

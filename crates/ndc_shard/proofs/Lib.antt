@@ -7,3 +7,4 @@ pub mod ReplyLemmas
 pub mod ExampleLemmas
 pub mod RoomLemmas
 pub mod AgainLemmas
+pub mod ReadingLemmas

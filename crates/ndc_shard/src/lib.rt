@@ -3,6 +3,8 @@
 
 mod asking;
 mod jobs;
+mod lacking;
+mod reading;
 mod shard;
 mod writing;
 

@@ -3,8 +3,7 @@ use crate::writing::write_in;
 use ndc_cells::Message;
 use ndc_command::{Command, CommandError, Refusal};
 use ndc_entries::{Entry, may_write, reapplication_entry, reset_entries};
-use ndc_event::{Batch, BatchKey, Name};
-use ndc_links::{Learns, Writes};
+use ndc_event::{Batch, Name};
 use ndc_rounds::Desk;
 use ndc_runs::Runs;
 use ndc_sets::Batches;
@@ -52,7 +51,7 @@ impl Shard {
     ghost use Rattle.ndc_sets.specs.Branches.{workflow_tip};
     ghost use Rattle.ndc_sets.specs.Current.{strays};
     ghost use Rattle.ndc_sets.specs.Learned.{has_key};
-    ghost use Rattle.ndc_shard.specs.Shards.{AreWritable, IsFit, batches_written};
+    ghost use Rattle.ndc_shard.specs.Shards.{AreWritable, IsFit, batches_written, having_written};
     ghost use Rattle.ndc_workflow.specs.Allowed.{HasRoom, MayArrive, MayBeAsked, MayReapply, MayWriteAll};
     ghost use Rattle.ndc_workflow.specs.Learnable.{carrying};
     ghost use Rattle.ndc_workflow.specs.Workflow.{workflow_of};
@@ -73,6 +72,20 @@ impl Shard {
     /// Where its memory comes from.
     pub(crate) fn alloc(&self) -> Global {
         self.alloc
+    }
+
+    /// Its workflows, to be read: as a cell they differ from it by what was written alone.
+    pub(crate) fn workflows(&self) -> &Workflows
+        ensures { having_written self.now.written result.now ≡ self.now }
+    {
+        &self.workflows
+    }
+
+    /// All messages that it has written, in order.
+    pub(crate) fn written(&self) -> &[Message]
+        ensures { result.now ≡ self.now.written }
+    {
+        self.written.as_slice()
     }
 
     /// What is learned of a workflow, with its states. There is none only where nothing is. What is
@@ -342,24 +355,5 @@ impl Shard {
         let list = self.workflows.due(self.alloc)?;
         let batches = self.reapply_among(desk, list, steps)?;
         Ok(batches)
-    }
-}
-
-impl Learns for Shard {
-    fn has_learned(&self, domain: &Name, workflow: &Name, key: BatchKey) -> bool {
-        match self.runs(domain, workflow) {
-            Some(runs) => runs.has(key),
-            None => false,
-        }
-    }
-}
-
-impl Writes for Shard {
-    fn written_len(&self) -> u64 {
-        self.written.len() as u64
-    }
-
-    fn written_at(&self, place: u64) -> Result<Message, AllocError> {
-        self.written[place as usize].try_copy()
     }
 }

@@ -11,7 +11,7 @@ use ndc_command::{Command, Refusal};
 use ndc_domain::{ClusterNo, Clusters, DomainTable, Members};
 use ndc_event::{Batch, BatchKey, Event, EventKind, Events, Name, RunId};
 use ndc_history::VersionHistory;
-use ndc_links::{Learns, Writes};
+use ndc_links::{Learns, Reads, Writes};
 use ndc_rounds::{Desk, Works};
 use std::alloc::{AllocError, Global};
 use std::test::Fail;
@@ -111,6 +111,23 @@ fn done<C: Works>(cell: &mut C, desk: &Desk, job: &Job) -> Result<JobReply, Allo
     cell.do_job(desk, job)
 }
 
+// Whether something where the first batch of a workflow is learned, and nothing put off, is read so.
+fn is_read<C: Reads>(
+    cell: &C,
+    alloc: Global,
+    domain: &Name,
+    workflow: &Name,
+) -> Result<bool, AllocError> {
+    let domains = [domain.try_copy()?];
+    let is_learned = cell.learned_of(alloc, &domains)?.len() == 1;
+    let is_sent = cell.message_at(alloc, domain, workflow, KEY)?.is_some();
+    let is_here = cell.behind(alloc)?.is_empty();
+    let is_whole = cell.put_off(alloc, domain, workflow)?.is_empty();
+    let is_known = cell.runs(domain, workflow).is_some();
+    let has_arrived = cell.has_arrived(domain, workflow, KEY);
+    Ok(is_learned && is_sent && is_here && is_whole && is_known && has_arrived)
+}
+
 // A workflow is started.
 fn started(shard: &mut Shard, desk: &Desk, alloc: Global) -> Result<JobReply, AllocError>
     requires empty { shard.old ≡ empty_cell }
@@ -186,5 +203,19 @@ fn a_message_arrives(rt: HostRuntime) -> Result<(), Fail> {
     }
     assert!(rt; shard.has_learned(&domain, &workflow, KEY));
     assert_eq!(rt; shard.written_len(), 0);
+    Ok(())
+}
+
+#[test]
+fn what_has_arrived_is_read(rt: HostRuntime) -> Result<(), Fail> {
+    let alloc = rt.alloc();
+    let clusters = clusters(alloc)?;
+    let table = DomainTable::new(alloc);
+    let desk = Desk::new(&clusters, A, 100, &table);
+    let domain = name(alloc, "alpha")?;
+    let workflow = name(alloc, "w1")?;
+    let mut shard = Shard::new(alloc);
+    arrived(&mut shard, &desk, alloc)?;
+    assert!(rt; is_read(&shard, alloc, &domain, &workflow)?);
     Ok(())
 }

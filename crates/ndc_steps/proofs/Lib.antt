@@ -1,6 +1,10 @@
+pub mod ActivityLemmas
 pub mod AskLemmas
+pub mod DamageLemmas
 pub mod FindLemmas
+pub mod GapLemmas
 pub mod HandoverLemmas
 pub mod HashLemmas
+pub mod MergeLemmas
 pub mod ShapeLemmas
 pub mod TellLemmas

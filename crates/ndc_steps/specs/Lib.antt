@@ -1,3 +1,5 @@
 pub mod Links
 pub mod Telling
 pub mod Told
+pub mod Versions
+pub mod Waiting

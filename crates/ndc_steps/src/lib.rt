@@ -1,12 +1,15 @@
 //! What each kind of line does to the clusters of a script, and what it answers.
 #![tactic(auto)]
 
+mod activities;
 pub mod domains;
+pub mod gaps;
 pub mod handovers;
 pub mod lanes;
 pub mod letters;
 pub mod moving;
 pub mod reading;
+pub mod reports;
 mod shard;
 mod sites;
 mod step;

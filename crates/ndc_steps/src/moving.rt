@@ -41,13 +41,13 @@ fn tell(tally: &mut Tally, seen: &mut Vec<Seen>, done: Done) -> Result<(), Alloc
 
 /// What jobs came to: how much, and what they made learned, in the order of being told.
 #[derive(Drop)]
-struct Telling {
-    tally: Tally,
-    seen: Vec<Seen>,
+pub(crate) struct Telling {
+    pub(crate) tally: Tally,
+    pub(crate) seen: Vec<Seen>,
 }
 
 /// Counts all that was done, in order, and lists what it made learned.
-fn tell_all(alloc: Global, dones: Vec<Done>) -> Result<Telling, AllocError>
+pub(crate) fn tell_all(alloc: Global, dones: Vec<Done>) -> Result<Telling, AllocError>
     ensures tally { IfOk result (λ telling. telling.tally ≡ tally_of (flat_map notes_in dones.items)) }
     ensures seen { IfOk result (λ telling. telling.seen.items ≡ seen_of (flat_map notes_in dones.items)) }
 {

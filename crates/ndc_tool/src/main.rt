@@ -1,9 +1,12 @@
-//! `ndc`, the operator's tool: runs scripts of many clusters and prints what each line answers.
+//! `ndc`, the operator's tool: runs scripts of many clusters and prints what each line answers, shows dumps, and makes
+//! scripts.
 #![tactic(auto)]
 
-use ndc_port::{StdSink, StdSource};
+use ndc_index::{Indexer, KindsIndexer, OpenIndexer, SignalsIndexer};
+use ndc_port::{OpenGate, StdSink, StdSource};
 use ndc_top::ndc_top;
 use std::process::ExitCode;
+use std::thread::Threads;
 use std::{env, io};
 
 /// The words behind the program's name.
@@ -15,20 +18,40 @@ fn words_of(rt: &HostRuntime) -> io::Result<Vec<String>> {
     Ok(words)
 }
 
-fn main(rt: HostRuntime) -> ExitCode {
+/// Runs the program with its indexers over the standard streams, and gives the status that it ends with.
+fn run<R: Threads + Sync>(rt: &HostRuntime, threads: &R) -> io::Result<u8> {
+    let alloc = rt.alloc();
     // Words that cannot be read are refused like wrong ones.
-    let words = match words_of(&rt) {
+    let words = match words_of(rt) {
         Ok(words) => words,
-        Err(_) => Vec::new(rt.alloc()),
+        Err(_) => Vec::new(alloc),
     };
+    let mut indexers: Vec<Box<dyn Indexer>> = Vec::new(alloc);
+    indexers.push(Box::new(alloc, KindsIndexer::new(alloc))?)?;
+    indexers.push(Box::new(alloc, OpenIndexer::new(alloc))?)?;
+    indexers.push(Box::new(alloc, SignalsIndexer::new(alloc))?)?;
     let mut source = StdSource::new(rt.stdin());
     let mut out = StdSink::out(rt.stdout());
     let mut err = StdSink::err(rt.stderr());
-    ExitCode::from(ndc_top(
-        rt.alloc(),
+    Ok(ndc_top(
+        threads,
+        alloc,
         words.as_slice(),
         &mut source,
         &mut out,
         &mut err,
+        &OpenGate {},
+        indexers,
     ))
+}
+
+fn main(rt: HostRuntime) -> ExitCode {
+    match run(&rt, &rt) {
+        Ok(status) => ExitCode::from(status),
+        // No memory for the first few boxes.
+        Err(_) => {
+            let _told = eprintln!(&rt; "ndc: out of memory");
+            ExitCode::from(8)
+        }
+    }
 }

@@ -1,5 +1,6 @@
 pub mod Ends
 pub mod Endings
 pub mod ShowEndings
-pub mod Lines
 pub mod Pieces
+pub mod AskingLemmas
+pub mod DemoLemmas

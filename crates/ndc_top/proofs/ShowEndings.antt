@@ -5,9 +5,9 @@ use Rattle.ndc_port.proofs.Steps.{Sent_start, Sent_stop}
 use Rattle.ndc_dump.specs.Read.{dump_of}
 use Rattle.ndc_top.specs.declared.fault.Fault.{Fault}
 use Rattle.ndc_top.specs.declared.fault.Fault.TheVariants as fault
-use Rattle.ndc_top.specs.declared.words.ShownAs.{ShownAs}
+use Rattle.ndc_top.specs.declared.show.ShownAs.{ShownAs}
 use Rattle.ndc_top.specs.Show.{shown_text, ShowsFront, DumpFault, ShowFault}
-use Rattle.ndc_top.specs.Top.{most_bytes, Seen}
+use Rattle.ndc_top.specs.Top.{Streams, most_bytes}
 use Rattle.ndc_top.proofs.Endings.{some_weaker, some_always, ok_always, ok_front}
 
 -- where nothing was written, a front of what is shown was
@@ -19,7 +19,7 @@ unshown how left before after same =
     (Sent_stop before before (shown_text how dump) (shown_text how dump) (Sent_start before (shown_text how dump)))))
 
 -- a fault of reading is one of showing, which has written nothing
-pub dump_fault : (how : ShownAs) (old new : Seen) (f : Fault) → new.written ≡ old.written → DumpFault old.left old.source_faults new.source_faults f → ShowFault how old new f
+pub dump_fault : (how : ShownAs) (old new : Streams) (f : Fault) → new.written ≡ old.written → DumpFault old.left old.source_faults new.source_faults f → ShowFault how old new f
 dump_fault how old new fault.Words same r = absurd r
 dump_fault how old new (fault.Script line cause) same r = absurd r
 dump_fault how old new (fault.DumpLine line cause) same r = (r, same)
@@ -30,7 +30,7 @@ dump_fault how old new fault.Limit same r = (r, same)
 dump_fault how old new fault.Memory same r = unshown how old.left old.written new.written same
 
 -- whatever the fault, a front of what is shown was written
-pub shown_end : (how : ShownAs) (old new : Seen) (f : Fault) → ShowFault how old new f → ShowsFront how old.left old.written new.written
+pub shown_end : (how : ShownAs) (old new : Streams) (f : Fault) → ShowFault how old new f → ShowsFront how old.left old.written new.written
 shown_end how old new fault.Words r = absurd r
 shown_end how old new (fault.Script line cause) r = absurd r
 shown_end how old new (fault.DumpLine line cause) r = unshown how old.left old.written new.written r.1

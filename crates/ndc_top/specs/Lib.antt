@@ -1,8 +1,6 @@
-pub mod World
-pub mod Answer
-pub mod Report
-pub mod Built
-pub mod Words
+pub mod Asking
 pub mod Faulty
 pub mod Top
+pub mod Running
 pub mod Show
+pub mod Demo

@@ -8,11 +8,11 @@ use Rattle.ndc_dump.specs.declared.dump.Dump.{Dump}
 use Rattle.ndc_dump.specs.declared.error.DumpError.{DumpError}
 use Rattle.ndc_dump.specs.declared.error.DumpError.TheVariants as error
 use Rattle.ndc_top.specs.Faulty.{dump_line, dump_batch_line}
-use Rattle.ndc_top.specs.Top.{most_bytes, Seen, Tells}
+use Rattle.ndc_top.specs.Top.{Streams, Tells, most_bytes}
 use Rattle.ndc_top.specs.declared.fault.Fault.{Fault}
 use Rattle.ndc_top.specs.declared.fault.Fault.TheVariants as fault
-use Rattle.ndc_top.specs.declared.words.ShownAs.{ShownAs}
-use Rattle.ndc_top.specs.declared.words.ShownAs.TheVariants as shown
+use Rattle.ndc_top.specs.declared.show.ShownAs.{ShownAs}
+use Rattle.ndc_top.specs.declared.show.ShownAs.TheVariants as shown
 
 -- what is shown of a dump: its text, printed again from its batches, or the tree of its workflow
 unfoldable pub shown_text : ShownAs → Dump → List ℕ
@@ -45,7 +45,7 @@ DumpFault left before after fault.Limit = IfSome left (λ bytes. most_bytes < le
 DumpFault left before after fault.Memory = ⊤
 
 -- why showing a dump ends with a fault, between what was there and what is there
-abbrev pub ShowFault : ShownAs → Seen → Seen → Fault → Type 0
+abbrev pub ShowFault : ShownAs → Streams → Streams → Fault → Type 0
 ShowFault how old new fault.Words = ⊥
 ShowFault how old new (fault.Script line cause) = ⊥
 ShowFault how old new (fault.DumpLine line cause) =

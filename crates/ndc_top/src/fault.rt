@@ -2,9 +2,8 @@ ghost use Rattle.std.specs.Prelude.{◌≡◌, ◌≤◌, map, OnOk, OnErr};
 ghost use Rattle.std.specs.List.{concat};
 ghost use Rattle.ndc_port.specs.Bytes.{Appends, AppendsFront};
 ghost use Rattle.ndc_port.specs.Fault.{Rose};
-ghost use Rattle.ndc_top.specs.Top.{script_cause_name, cause_name, script_line};
+ghost use Rattle.ndc_top.specs.Top.{script_cause_name, script_line};
 
-use crate::built::Cause;
 use crate::faulty::{tell_batch, tell_line};
 use ndc_dump::{KeyCause, LineCause};
 use ndc_event::BatchKey;
@@ -14,10 +13,10 @@ use ndc_script::ScriptCause;
 /// What ends the program before its work is done.
 #[derive(Clone, Copy, Debug, PartialEq, Eq)]
 pub enum Fault {
-    /// The program does not take these words.
+    /// The program does not take these words, or an indexer that they name is not there.
     Words,
-    /// The input is no script that runs: the first such line, from 1, and its cause.
-    Script { line: u64, cause: Cause },
+    /// The input is no script: the first faulty line, from 1, and its cause.
+    Script { line: u64, cause: ScriptCause },
     /// The input is no dump: the first faulty line, from 1, and its cause.
     DumpLine { line: u64, cause: LineCause },
     /// The input is no dump: the first batch that does not fit the others, and its cause.
@@ -47,16 +46,6 @@ fn script_cause_name(cause: ScriptCause) -> &'static str
         ScriptCause::BadLine => "BadLine",
         ScriptCause::UnknownName => "UnknownName",
         ScriptCause::LineLimit => "LineLimit",
-    }
-}
-
-/// How a cause is printed.
-fn cause_name(cause: Cause) -> &'static str
-    ensures { result.now ≡ cause_name cause }
-{
-    match cause {
-        Cause::Faulty(cause) => script_cause_name(cause),
-        Cause::Unbuilt => "Unbuilt",
     }
 }
 
@@ -106,7 +95,7 @@ impl Fault {
 }
 
 /// Writes the line that tells of a faulty line of a script.
-fn tell_script<E: Sink>(err: &mut E, line: u64, cause: Cause) -> Result<(), Failed>
+fn tell_script<E: Sink>(err: &mut E, line: u64, cause: ScriptCause) -> Result<(), Failed>
     ensures whole { OnOk result (Appends (E.written err.old) (E.written err.new) (script_line line cause)) }
     ensures front { OnErr result (AppendsFront (E.written err.old) (E.written err.new) (script_line line cause)) }
     ensures cause { OnErr result (Rose (E.faults err.old) (E.faults err.new)) }
@@ -118,7 +107,7 @@ fn tell_script<E: Sink>(err: &mut E, line: u64, cause: Cause) -> Result<(), Fail
         b"ndc: script line ".as_slice(),
         number,
         b": ".as_slice(),
-        cause_name(cause).as_bytes(),
+        script_cause_name(cause).as_bytes(),
         b"\n".as_slice(),
     ];
     write_pieces(err, &pieces)

@@ -1,18 +1,16 @@
-//! The program's top call, over any source and sinks: it reads a script, runs it and prints the report, or reads a
-//! dump and shows it.
+//! The program's top call, over any source and sinks: it reads a script, runs it and prints the report; reads a dump
+//! and shows it; makes a script; or shows what becomes of one.
 #![tactic(auto)]
 
-mod answer;
-mod built;
+mod demo;
 mod fault;
 mod faulty;
-mod refusal;
+mod make;
+mod output;
 mod run;
 mod show;
 #[cfg(test)]
 mod tests;
 mod top;
-mod words;
-mod world;
 
 pub use top::ndc_top;

@@ -1,78 +1,121 @@
-ghost use Rattle.std.specs.Prelude.{◌≡◌, ◌≤◌, OnOk, OnErr, Err};
-ghost use Rattle.ndc_port.specs.Bytes.{Appends, AppendsFront};
+//! The run of a script.
+ghost use Rattle.std.specs.Prelude.{◌≡◌, ◌≢◌, ◌<◌, ◌≤◌, ◌++◌, AllPairs, true, false, Some, [], ◌∷◌, IsOk, IsErr, IsErrAnd, map, length, IfOk, IfErr, IfSome, OnOk, Ok};
+ghost use Rattle.ndc_act.specs.WellFormed.{IsWellFormed};
+ghost use Rattle.ndc_index.specs.Seats.{all_known, shown};
 ghost use Rattle.ndc_port.specs.Fault.{Rose};
-ghost use Rattle.ndc_top.specs.declared.run.RunError.{RunError};
-ghost use Rattle.ndc_top.specs.declared.run.RunError.TheVariants as run_error;
-ghost use Rattle.ndc_top.specs.Report.{step_of, report_of};
-ghost use Rattle.ndc_act.specs.WellFormed.{IsWellFormed, IsWellFormedAct};
+ghost use Rattle.ndc_read.specs.Body.{script_of};
+ghost use Rattle.ndc_report.specs.Seats.{AreNew};
+ghost use Rattle.ndc_top.specs.Running.{FrontOfReport, ReadFault, RunFault, Succeeds, TellsError};
+ghost use Rattle.ndc_top.specs.Top.{IsAmong, Streams, Tells, most_bytes, status_line, status_of};
 
-use crate::world::World;
-use ndc_port::{Failed, Sink, write_all};
-use ndc_script::{Header, Line, Script};
-use std::alloc::{AllocError, Global};
+use crate::fault::Fault;
+use crate::output::end;
+use crate::top::MOST_BYTES;
+use ndc_event::Name;
+use ndc_index::{ChooseError, Indexer, Indexers};
+use ndc_port::{Gate, ReadError, Sink, Source, read_all};
+use ndc_report::{RunError, run_script};
+use ndc_script::{Script, ScriptError, parse};
+use ndc_shard::Shard;
+use std::alloc::Global;
+use std::thread::Threads;
 
-/// What ends the run of a script early.
-#[derive(Clone, Copy, Debug, PartialEq, Eq)]
-pub enum RunError {
-    /// Writing an answer failed.
-    Write,
-    /// Memory ran out.
-    Memory,
-}
-
-impl From<AllocError> for RunError {
-    ghost use Rattle.std.specs.Prelude.{◌≡◌};
-    ghost use Rattle.ndc_top.specs.declared.run.RunError.TheVariants.{Memory};
-
-    ghost from_gives = { λ _ e. e ≡ Memory };
-
-    fn from(_error: AllocError) -> RunError {
-        RunError::Memory
+/// Reads a script.
+fn read_script<S: Source>(alloc: Global, source: &mut S) -> Result<Script, Fault>
+    ensures script { IfOk result (λ script. IfSome (S.left source.old) (λ bytes. (length bytes ≤ most_bytes) × (script_of bytes ≡ Ok script))) }
+    ensures well_formed { IfOk result IsWellFormed }
+    ensures end { OnOk result (IfSome (S.left source.old) (λ _. S.left source.new ≡ Some [])) }
+    ensures fault { IfErr result (ReadFault (S.left source.old) (S.faults source.old) (S.faults source.new)) }
+    ensures count { S.faults source.old ≤ S.faults source.new }
+{
+    let bytes = match read_all(alloc, source, MOST_BYTES) {
+        Ok(bytes) => bytes,
+        Err(ReadError::Fault) => return Err(Fault::Read),
+        Err(ReadError::TooLong) => return Err(Fault::Limit),
+        Err(ReadError::Memory) => return Err(Fault::Memory),
+    };
+    match parse(alloc, bytes.as_slice()) {
+        Ok(script) => Ok(script),
+        Err(ScriptError::Refused { line, cause }) => Err(Fault::Script { line, cause }),
+        Err(ScriptError::Memory) => Err(Fault::Memory),
     }
 }
 
-impl From<Failed> for RunError {
-    ghost use Rattle.std.specs.Prelude.{◌≡◌};
-    ghost use Rattle.ndc_top.specs.declared.run.RunError.TheVariants.{Write};
-
-    ghost from_gives = { λ _ e. e ≡ Write };
-
-    fn from(_error: Failed) -> RunError {
-        RunError::Write
-    }
-}
-
-/// Runs a line and writes its answer in one piece.
-fn print_line<K: Sink>(
+/// Chooses the indexers that are asked for, reads a script, runs it and writes its report.
+fn run<R: Threads + Sync, S: Source, K: Sink, G: Gate>(
+    rt: &R,
     alloc: Global,
-    header: &Header,
-    world: &mut World,
-    line: &Line,
+    gate: &G,
+    workers: u32,
+    index: &[Name],
+    late: &[Name],
+    source: &mut S,
     out: &mut K,
-) -> Result<(), RunError>
-    requires { IsWellFormedAct header.now line.now.act }
-    ensures whole { OnOk result (Appends (K.written out.old) (K.written out.new) (step_of header.now world.old line.now).answer) }
-    ensures world { OnOk result (world.new ≡ (step_of header.now world.old line.now).world) }
-    ensures front { OnErr result (AppendsFront (K.written out.old) (K.written out.new) (step_of header.now world.old line.now).answer) }
-    ensures cause { result ≡ Err run_error.Write → Rose (K.faults out.old) (K.faults out.new) }
-    ensures count { K.faults out.old ≤ K.faults out.new }
+    indexers: Vec<Box<dyn Indexer>>,
+) -> Result<(), Fault>
+    requires workers { 0 < workers }
+    requires differ { AllPairs (λ one two. one ≢ two) (index.now ++ late.now) }
+    requires new { AreNew (map (λ b. shown (title b) (failing b) (list b)) indexers.items) }
+    ensures known { OnOk result (all_known (map (λ b. shown (title b) (failing b) (list b)) indexers.items) (index.now ++ late.now) ≡ true) }
+    ensures unknown { all_known (map (λ b. shown (title b) (failing b) (list b)) indexers.items) (index.now ++ late.now) ≡ false → IfErr result (λ fault. IsAmong (status_of fault) (2 ∷ 8 ∷ [])) }
+    ensures done { OnOk result (Succeeds (map (λ b. shown (title b) (failing b) (list b)) indexers.items) index.now late.now (S.left source.old) (S.left source.new) (K.written out.old) (K.written out.new)) }
+    ensures fault { IfErr result (RunFault (map (λ b. shown (title b) (failing b) (list b)) indexers.items) index.now late.now
+        (record { left = S.left source.old; source_faults = S.faults source.old; written = K.written out.old; out_faults = K.faults out.old })
+        (record { left = S.left source.new; source_faults = S.faults source.new; written = K.written out.new; out_faults = K.faults out.new })) }
+    ensures source_count { S.faults source.old ≤ S.faults source.new }
+    ensures out_count { K.faults out.old ≤ K.faults out.new }
 {
-    let text = world.step(alloc, header, line)?;
-    write_all(out, text.as_slice())?;
-    Ok(())
+    let chosen = match Indexers::choose(alloc, indexers, index, late) {
+        Ok(chosen) => chosen,
+        Err(ChooseError::UnknownIndexer) => return Err(Fault::Words),
+        Err(ChooseError::Memory) => return Err(Fault::Memory),
+    };
+    let script = match read_script(alloc, source) {
+        Ok(script) => script,
+        Err(fault) => return Err(fault),
+    };
+    match run_script::<R, G, K, Shard>(rt, alloc, gate, workers, &script, chosen, out) {
+        Ok(()) => Ok(()),
+        Err(RunError::Write) => Err(Fault::Write),
+        Err(RunError::Memory) => Err(Fault::Memory),
+    }
 }
 
-/// Runs a script and writes its report, the answer of each line in one piece as soon as the line has run.
-pub fn run_script<K: Sink>(alloc: Global, script: &Script, out: &mut K) -> Result<(), RunError>
-    requires { IsWellFormed script.now }
-    ensures whole { OnOk result (Appends (K.written out.old) (K.written out.new) (report_of script.now)) }
-    ensures front { OnErr result (AppendsFront (K.written out.old) (K.written out.new) (report_of script.now)) }
-    ensures cause { result ≡ Err run_error.Write → Rose (K.faults out.old) (K.faults out.new) }
-    ensures count { K.faults out.old ≤ K.faults out.new }
+/// Runs a script that is read, tells of the fault that comes, and answers the status.
+pub fn run_input<R: Threads + Sync, S: Source, K: Sink, E: Sink, G: Gate>(
+    rt: &R,
+    alloc: Global,
+    gate: &G,
+    workers: u32,
+    index: &[Name],
+    late: &[Name],
+    source: &mut S,
+    out: &mut K,
+    err: &mut E,
+    indexers: Vec<Box<dyn Indexer>>,
+) -> u8
+    requires workers { 0 < workers }
+    requires differ { AllPairs (λ one two. one ≢ two) (index.now ++ late.now) }
+    requires new { AreNew (map (λ b. shown (title b) (failing b) (list b)) indexers.items) }
+    ensures words { result ≡ 2 → all_known (map (λ b. shown (title b) (failing b) (list b)) indexers.items) (index.now ++ late.now) ≡ false }
+    ensures unknown { all_known (map (λ b. shown (title b) (failing b) (list b)) indexers.items) (index.now ++ late.now) ≡ false → IsAmong result (2 ∷ 8 ∷ []) }
+    ensures dump { result ≢ 7 }
+    ensures done { result ≡ 0 → Succeeds (map (λ b. shown (title b) (failing b) (list b)) indexers.items) index.now late.now (S.left source.old) (S.left source.new) (K.written out.old) (K.written out.new) }
+    ensures silent { result ≡ 0 → E.written err.new ≡ E.written err.old }
+    ensures script { result ≡ 3 → IfSome (S.left source.old) (λ bytes. (length bytes ≤ most_bytes)
+        × IsErrAnd (script_of bytes) (TellsError (E.written err.old) (E.written err.new) (E.faults err.old) (E.faults err.new))) }
+    ensures read { result ≡ 4 → Rose (S.faults source.old) (S.faults source.new) }
+    ensures write { result ≡ 5 → Rose (K.faults out.old) (K.faults out.new) }
+    ensures limit { result ≡ 6 → IfSome (S.left source.old) (λ bytes. most_bytes < length bytes) }
+    ensures told { IfSome (status_line result) (Tells (E.written err.old) (E.written err.new) (E.faults err.old) (E.faults err.new)) }
+    ensures above { IfSome (S.left source.old) (λ bytes. most_bytes < length bytes → IsAmong result (2 ∷ 4 ∷ 6 ∷ 8 ∷ [])) }
+    ensures unread { IfSome (S.left source.old) (λ bytes. length bytes ≤ most_bytes → IsErr (script_of bytes) → IsAmong result (2 ∷ 3 ∷ 4 ∷ 8 ∷ [])) }
+    ensures complete { IfSome (S.left source.old) (λ bytes. length bytes ≤ most_bytes → IsOk (script_of bytes) → IsAmong result (0 ∷ 2 ∷ 4 ∷ 5 ∷ 8 ∷ [])) }
+    ensures early { IsAmong result (2 ∷ 3 ∷ 4 ∷ 6 ∷ 7 ∷ []) → K.written out.new ≡ K.written out.old }
+    ensures front { result ≢ 0 → FrontOfReport (map (λ b. shown (title b) (failing b) (list b)) indexers.items) index.now late.now (S.left source.old) (K.written out.old) (K.written out.new) }
 {
-    let mut world = World::new(alloc);
-    for line in script.lines.as_slice() {
-        print_line(alloc, &script.header, &mut world, line, out)?;
+    match run(rt, alloc, gate, workers, index, late, source, out, indexers) {
+        Ok(()) => 0,
+        Err(fault) => end(fault, err),
     }
-    Ok(())
 }

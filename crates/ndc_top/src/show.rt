@@ -4,17 +4,25 @@ ghost use Rattle.ndc_port.specs.Bytes.{Appends, AppendsFront};
 ghost use Rattle.ndc_port.specs.Fault.{Rose};
 ghost use Rattle.ndc_sets.specs.View.{view_of};
 ghost use Rattle.ndc_dump.specs.Read.{dump_of};
-ghost use Rattle.ndc_top.specs.declared.run.RunError.TheVariants as run_error;
+ghost use Rattle.ndc_report.specs.declared.error.RunError.TheVariants as run_error;
 ghost use Rattle.ndc_top.specs.Show.{shown_text, Shows, ShowsFront, DumpFault, ShowFault, TellsDumpError};
 ghost use Rattle.ndc_top.specs.Top.{most_bytes, Tells, status_line, IsAmong};
 
 use crate::fault::Fault;
-use crate::run::RunError;
 use crate::top::MOST_BYTES;
-use crate::words::ShownAs;
 use ndc_dump::{Dump, DumpError, dump_text, read_dump, tree_text};
 use ndc_port::{ReadError, Sink, Source, read_all, write_all};
+use ndc_report::RunError;
 use std::alloc::{AllocError, Global};
+
+/// How a dump is shown.
+#[derive(Clone, Copy, Debug, PartialEq, Eq)]
+pub enum ShownAs {
+    /// Printed again from its batches.
+    Dump,
+    /// As the tree of its workflow.
+    Tree,
+}
 
 /// What is shown of a dump.
 #[tactic(auto, unfolding(crate::specs::Show::shown_text))]

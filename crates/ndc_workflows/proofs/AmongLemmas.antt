@@ -14,7 +14,7 @@ use Rattle.ndc_runs.specs.Kept.{is_due, is_empty, is_open}
 use Rattle.ndc_sets.specs.Branches.{workflow_tip}
 use Rattle.ndc_sets.specs.Current.{state_to, strays}
 use Rattle.ndc_workflow.specs.Allowed.{HasRoom, MayWriteAll}
-use Rattle.ndc_workflows.specs.Due.{is_listed, is_named}
+use Rattle.ndc_workflows.specs.Due.{is_named}
 use Rattle.ndc_workflows.specs.Reapplied.{reapplied_at, reapplied_among, written_among, MayReapplyAmong}
 
 -- whether reapplication is due in a workflow

@@ -1,9 +1,8 @@
 -- What may arrive at a cell of domains may arrive in its workflow.
-use Rattle.std.proofs.Common.{◌≡◌, Bool, true, false, ◌&&◌, List, [], ◌∷◌, Option, Some, None, cond, refl, sym, ◌∙◌, subst, ap}
+use Rattle.std.proofs.Common.{◌≡◌, Bool, true, false, ◌&&◌, List, [], ◌∷◌, Option, Some, cond, refl, sym, ◌∙◌, subst, ap}
 use Rattle.std.specs.Prelude.{find, is_some}
 use Rattle.std.specs.List.{filter}
 use Rattle.ndc_cells.specs.declared.message.Message.{Message}
-use Rattle.ndc_cells.specs.declared.job.Arrived.{Arrived}
 use Rattle.ndc_cells.specs.Arrival as cells
 use Rattle.ndc_cells.specs.Arrival.{arrival_of, learned_by}
 use Rattle.ndc_cells.specs.Places.{is_of}
@@ -17,7 +16,7 @@ use Rattle.ndc_workflow.specs.Allowed.{MayArrive}
 use Rattle.ndc_workflow.specs.Workflow.{WorkflowValue, after_arrival, answer_to, has_arrived, made_learned, workflow_of}
 use Rattle.ndc_workflow.proofs.CellLemmas.{answer-same, learned-same, workflow-same}
 use Rattle.ndc_workflows.specs.Named.{under, IsPut}
-use Rattle.ndc_workflows.specs.Workflows.{DomainValue, AreDomains, cell_of, found, workflow_or_empty, workflows_in}
+use Rattle.ndc_workflows.specs.Workflows.{DomainValue, AreDomains, cell_of, workflow_or_empty, workflows_in}
 use Rattle.ndc_workflows.proofs.BehindLemmas.{arrived-behind, found-others, found-there}
 use Rattle.ndc_workflows.proofs.DomainLemmas.{is-cell, waiting-ordered, workflow-there}
 

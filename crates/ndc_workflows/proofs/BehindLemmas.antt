@@ -1,5 +1,5 @@
 -- A cell of domains behind a change to one of its workflows.
-use Rattle.std.proofs.Common.{◌≡◌, Bool, true, false, ◌&&◌, not, List, [], ◌∷◌, Option, Some, None, cond, map, refl, sym, ◌∙◌, subst, ap, true≢false}
+use Rattle.std.proofs.Common.{◌≡◌, Bool, true, false, ◌&&◌, not, List, [], ◌∷◌, Option, Some, None, map, refl, sym, ◌∙◌, subst, ap, true≢false}
 use Rattle.std.specs.Prelude.{IfSome, option_to_list, if◌then◌else◌}
 use Rattle.std.specs.List.{AllByRecursion, filter}
 use Rattle.std.specs.Str.{bytes_eq}
@@ -7,10 +7,9 @@ use Rattle.std.proofs.lemmas.Bool.{and_parts}
 use Rattle.std.proofs.lemmas.List.{map-id}
 use Rattle.std.proofs.lemmas.Slice.Eq.{bytes_eq-Decides}
 use Rattle.ndc_cells.specs.declared.message.Message.{Message}
-use Rattle.ndc_cells.specs.declared.place.Place.{Place}
 use Rattle.ndc_cells.specs.Arrival.{arrived_at, cell_with, message_placed}
 use Rattle.ndc_cells.specs.Arrival as cells
-use Rattle.ndc_cells.specs.Cells.{Cell, IsCell, is_learned_in}
+use Rattle.ndc_cells.specs.Cells.{Cell, is_learned_in}
 use Rattle.ndc_cells.specs.Places.{AreBehind, AreInOrder, is_at, is_of, place_lt, place_of, placed}
 use Rattle.ndc_cells.specs.Writing.{Entry, with_batches}
 use Rattle.ndc_cells.proofs.CellLemmas.{others_arrived}
@@ -22,12 +21,12 @@ use Rattle.ndc_sets.proofs.Lists.{filter-cases}
 use Rattle.ndc_waiting.specs.Waiting.{IsMessage}
 use Rattle.ndc_waiting.proofs.KeptLemmas.{both-back}
 use Rattle.ndc_workflow.specs.Learnable.{carrying}
-use Rattle.ndc_workflow.specs.Workflow.{WorkflowValue, IsWorkflow, after_arrival, still_waiting, with_written, workflow_of}
+use Rattle.ndc_workflow.specs.Workflow.{WorkflowValue, after_arrival, with_written, workflow_of}
 use Rattle.ndc_workflow.proofs.CellLemmas.{other_same, workflow-same, written_same}
 use Rattle.ndc_workflow.proofs.PutOffLemmas.{all_wait}
 use Rattle.ndc_workflows.specs.Named.{under, IsPut}
 use Rattle.ndc_workflows.specs.Workflows.{DomainValue, cell_of, workflow_or_empty, workflows_in, found, IsOwn, AreOwn, AreDomains}
-use Rattle.ndc_workflows.proofs.NameLemmas.{name-itself, put-there, put-holds}
+use Rattle.ndc_workflows.proofs.NameLemmas.{put-there, put-holds}
 use Rattle.ndc_workflows.proofs.DomainLemmas.{own-there, workflow-there, arrived-ordered, waiting-ordered, is-cell}
 use Rattle.ndc_workflows.proofs.OwnLemmas.{own-or-empty}
 use Rattle.ndc_workflows.proofs.SameLemmas.{names-of, of-itself, same_in_order}

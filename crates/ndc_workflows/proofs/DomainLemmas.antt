@@ -1,17 +1,13 @@
 -- A cell of domains: its workflows are what stands under their names, and another cell with the same workflows is the same.
 use Rattle.std.proofs.Common.{◌≡◌, Bool, true, false, ◌&&◌, List, [], ◌∷◌, ◌++◌, inl, inr, Option, Some, None, cond, map, refl, sym, ◌∙◌, subst, ap}
-use Rattle.std.specs.Prelude.{if◌then◌else◌}
 use Rattle.std.specs.List.{AllByRecursion, filter}
 use Rattle.std.specs.List.Sorted.{IsStrictlySortedBy}
 use Rattle.std.specs.Str.{bytes_eq}
-use Rattle.std.specs.declared.cmp.Ordering.TheVariants.{Less}
 use Rattle.std.proofs.lemmas.List.{map-id}
-use Rattle.std.proofs.lemmas.Slice.Eq.{bytes_eq-Decides}
 use Rattle.ndc_cells.specs.declared.message.Message.{Message}
-use Rattle.ndc_cells.specs.Cells.{Cell, IsCell, both}
-use Rattle.ndc_cells.specs.Places.{AreBehind, AreInOrder, is_of, place_lt, place_of}
+use Rattle.ndc_cells.specs.Cells.{IsCell, both}
+use Rattle.ndc_cells.specs.Places.{AreBehind, AreInOrder, is_of, place_of}
 use Rattle.ndc_cells.proofs.PlaceLemmas.{place-from}
-use Rattle.ndc_domain.specs.Records.{names_cmp}
 use Rattle.ndc_event.specs.declared.batch.Batch.{Batch}
 use Rattle.ndc_event.specs.declared.name.Name.{Name}
 use Rattle.ndc_event.specs.Key.{key_lt}
@@ -20,12 +16,12 @@ use Rattle.ndc_sets.specs.Sets.{ComeAfter, IsSet, PointsBack, Rise}
 use Rattle.ndc_waiting.specs.Waiting.{batches_of}
 use Rattle.ndc_waiting.proofs.FreeLemmas.{own-all}
 use Rattle.ndc_waiting.proofs.LearnLemmas.{set-all}
-use Rattle.ndc_waiting.proofs.OrderLemmas.{rise-back, all-back}
-use Rattle.ndc_workflow.specs.Workflow.{WorkflowValue, IsWorkflow, beside, empty_workflow, workflow_of}
-use Rattle.ndc_workflows.specs.Named.{under, HoldUnder, IsPut, all_under}
-use Rattle.ndc_workflows.specs.Workflows.{DomainValue, arrived_in, waiting_in, cell_of, workflow_or_empty, workflows_in, found, IsOwn, AreOwn, AreDomains}
+use Rattle.ndc_waiting.proofs.OrderLemmas.{rise-back}
+use Rattle.ndc_workflow.specs.Workflow.{WorkflowValue, empty_workflow, workflow_of}
+use Rattle.ndc_workflows.specs.Named.{under, all_under}
+use Rattle.ndc_workflows.specs.Workflows.{DomainValue, arrived_in, cell_of, workflow_or_empty, workflows_in, found, IsOwn, AreOwn, AreDomains}
 use Rattle.ndc_workflows.proofs.NameLemmas.{hold-as, all-items, items_of, named-items, all-ordered}
-use Rattle.ndc_workflows.proofs.SameLemmas.{names-of, of-names, same_in_order}
+use Rattle.ndc_workflows.proofs.SameLemmas.{names-of}
 
 -- nothing stands in no domain
 pub none-own : (domain : Name) → AreOwn domain []

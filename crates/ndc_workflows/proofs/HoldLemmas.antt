@@ -1,6 +1,5 @@
 -- Reapplication is due in no workflow but those that are listed.
-use Rattle.std.proofs.Common.{◌≡◌, Bool, true, false, not, ◌&&◌, ◌||◌, List, [], Option, Some, None, Result, Ok, Err, OnOk, OnErr, refl, sym, ◌∙◌, subst, ap, true≢false}
-use Rattle.std.specs.Prelude.{IfSome}
+use Rattle.std.proofs.Common.{◌≡◌, Bool, true, false, not, ◌&&◌, ◌||◌, List, Option, None, Result, Ok, Err, OnOk, OnErr, refl, sym, ◌∙◌, subst, ap, true≢false}
 use Rattle.std.specs.Str.{bytes_eq}
 use Rattle.ndc_cells.specs.declared.message.Message.{Message}
 use Rattle.ndc_cells.specs.Arrival.{arrived_at}
@@ -12,7 +11,6 @@ use Rattle.ndc_event.specs.declared.batch.Batch.{Batch}
 use Rattle.ndc_event.specs.declared.name.Name.{Name}
 use Rattle.ndc_runs.specs.Kept.{is_due, is_empty, is_open, StaysSettled}
 use Rattle.ndc_sets.specs.Branches.{workflow_tip}
-use Rattle.ndc_sets.specs.Current.{strays}
 use Rattle.ndc_sets.specs.Learned.{learned}
 use Rattle.ndc_sets.specs.Sets.{arrived, batch_at}
 use Rattle.ndc_sets.specs.Sound.{IsSound}
@@ -20,7 +18,7 @@ use Rattle.ndc_waiting.specs.Learning.{with_message}
 use Rattle.ndc_waiting.specs.Waiting.{IsNewTo}
 use Rattle.ndc_workflow.specs.Allowed.{MayArrive}
 use Rattle.ndc_workflow.specs.Learnable.{carrying}
-use Rattle.ndc_workflow.specs.Workflow.{WorkflowValue, IsWorkflow, beside, with_written, workflow_of}
+use Rattle.ndc_workflow.specs.Workflow.{WorkflowValue, IsWorkflow, beside, workflow_of}
 use Rattle.ndc_workflow.proofs.CellLemmas.{written_same}
 use Rattle.ndc_workflow.proofs.PutOffLemmas.{new-to-known}
 use Rattle.ndc_workflow.proofs.WriteLemmas.{CanBeWritten, written-is, written-learned}

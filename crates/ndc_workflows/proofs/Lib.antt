@@ -12,3 +12,7 @@ pub mod HoldLemmas
 pub mod AmongLemmas
 pub mod ListLemmas
 pub mod ExampleLemmas
+pub mod KeptLemmas
+pub mod FirstLemmas
+pub mod WaitLemmas
+pub mod NamedLemmas

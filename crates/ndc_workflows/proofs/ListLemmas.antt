@@ -1,15 +1,12 @@
 -- The workflows of a cell by name, and those in which reapplication is due.
-use Rattle.std.proofs.Common.{◌≡◌, ℕ, Bool, true, false, not, ◌&&◌, ◌||◌, List, [], ◌∷◌, ◌++◌, inl, inr, cond, map, refl, sym, ◌∙◌, subst, ap, true≢false, arith}
-use Rattle.std.specs.BTreeMap.{is_at}
-use Rattle.std.specs.BTreeSet.{BTreeSet}
-use Rattle.std.specs.List.{AllByRecursion, filter, list_any}
+use Rattle.std.proofs.Common.{◌≡◌, Bool, true, false, not, ◌&&◌, ◌||◌, List, [], ◌∷◌, ◌++◌, inl, inr, cond, map, refl, sym, ◌∙◌, subst, ap, true≢false, arith}
+use Rattle.std.specs.List.{AllByRecursion, filter}
 use Rattle.std.specs.List.Sorted.{IsStrictlySortedBy}
 use Rattle.std.specs.Ordering.{is_eq, ordering_then}
 use Rattle.std.specs.Str.{bytes_eq}
 use Rattle.std.specs.declared.cmp.Ordering.TheVariants.{Less, Equal}
 use Rattle.std.proofs.lemmas.List.Kept.{IsStrictlySortedBy-filter}
 use Rattle.std.proofs.lemmas.Map.Keys.{sorted_head, sorted_tail}
-use Rattle.std.proofs.lemmas.Map.Lookups.{btree_set_from_contains, exact_bytes, exact_pairs}
 use Rattle.std.proofs.lemmas.Slice.Eq.{bytes_eq-Decides}
 use Rattle.ndc_cells.specs.Cells.{Cell, learned_of}
 use Rattle.ndc_cells.specs.Jobs.{reapplied_in, reapplied_now, workflows_of, all_batches}
@@ -27,7 +24,8 @@ use Rattle.ndc_workflow.specs.Allowed.{HasRoom, MayReapply}
 use Rattle.ndc_workflows.specs.Due.{AreDue, is_listed, is_named, names_order}
 use Rattle.ndc_workflows.specs.Reapplied.{reapplied_at, reapplied_among, written_among, MayReapplyAmong}
 use Rattle.ndc_workflows.proofs.AmongLemmas.{AreApart, AreSame, due_in, may-kept, may-more, reapplied-kept, room-there, written-kept}
-use Rattle.ndc_workflows.proofs.DueLemmas.{listed-as, names-total, order-same}
+use Rattle.ndc_workflows.proofs.DueLemmas.{order-same}
+use Rattle.ndc_workflows.proofs.KeptLemmas.{same-kept}
 use Rattle.ndc_workflows.proofs.SameLemmas.{names-of, of-names}
 
 -- the names of a batch's workflow
@@ -38,7 +36,7 @@ abbrev pub all_names : List Batch → List (Name × Name)
 all_names bs = map names_in bs
 
 -- the batches of other workflows
-abbrev others_than : Batch → List Batch → List Batch
+abbrev pub others_than : Batch → List Batch → List Batch
 others_than b bs = filter (λ other. not (is_of b.domain b.workflow other)) bs
 
 -- workflows in order differ
@@ -121,38 +119,6 @@ none-listed d w (b ∷ bs) e = by (is_of d w b) refl e (λ h. none-listed d w bs
     by true f g rest = absurd (true≢false g)
     by false f g rest = rest (sym (others-listed d w b f (workflows_of bs)) ∙ g)
 
--- what is listed among those in which reapplication is due
-module _ (cell : Cell) (d w : Name) where
-  due-same : (one : Name × Name) → is_named d w one ≡ true → due_in cell one ≡ due_in cell (d, w)
-  due-same one e = by (bytes_eq one.0 d) refl e
-    where
-      by : (t : Bool) → bytes_eq one.0 d ≡ t → (t && bytes_eq one.1 w) ≡ true → due_in cell one ≡ due_in cell (d, w)
-      by true f g = ap (λ (k : Name). is_due (learned_of k one.1 cell)) ((bytes_eq-Decides one.0 d).0 f) ∙ ap (λ (k : Name). is_due (learned_of d k cell)) ((bytes_eq-Decides one.1 w).0 g)
-      by false f g = absurd (true≢false (sym g))
-
-  listed-filter : (list : List (Name × Name)) → is_listed d w (filter (due_in cell) list) ≡ (due_in cell (d, w) && is_listed d w list)
-  listed-filter [] = sym (and-nothing (due_in cell (d, w)))
-    where
-      and-nothing : (t : Bool) → (t && false) ≡ false
-      and-nothing true = refl
-      and-nothing false = refl
-  listed-filter (one ∷ list) = by (due_in cell one) refl (is_named d w one) refl (listed-filter list)
-    where
-      join : (t : Bool) → t ≡ true → true ≡ (t && true)
-      join true e = refl
-      join false e = sym e
-
-      by : (s : Bool) → due_in cell one ≡ s → (t : Bool) → is_named d w one ≡ t → is_listed d w (filter (due_in cell) list) ≡ (due_in cell (d, w) && is_listed d w list)
-          → is_listed d w (cond s (one ∷ filter (due_in cell) list) (filter (due_in cell) list)) ≡ (due_in cell (d, w) && (t || is_listed d w list))
-      by true e true f rest = ap (λ t. t || is_listed d w (filter (due_in cell) list)) f ∙ join (due_in cell (d, w)) (sym (due-same one f) ∙ e)
-      by true e false f rest = ap (λ t. t || is_listed d w (filter (due_in cell) list)) f ∙ rest
-      by false e true f rest = rest ∙ both (due_in cell (d, w)) (is_listed d w list) (sym (due-same one f) ∙ e)
-        where
-          both : (t u : Bool) → t ≡ false → (t && u) ≡ (t && true)
-          both true u h = absurd (true≢false h)
-          both false u h = refl
-      by false e false f rest = rest
-
 module _ (cell : Cell) (order : AreInOrder cell.arrived) (list : List (Name × Name)) (are : AreDue list cell) where
   abbrev all : List (Name × Name)
   all = all_names (workflows_of cell.arrived)
@@ -172,25 +138,9 @@ module _ (cell : Cell) (order : AreInOrder cell.arrived) (list : List (Name × N
       by true f = refl
       by false f = absurd (true≢false (sym e ∙ are.each d w f))
 
-  same-listed : (d w : Name) → is_listed d w (filter (due_in cell) all) ≡ is_listed d w (filter (due_in cell) list)
-  same-listed d w = listed-filter cell d w all ∙ by (due_in cell (d, w)) refl ∙ sym (listed-filter cell d w list)
-    where
-      by : (t : Bool) → due_in cell (d, w) ≡ t → (t && is_listed d w all) ≡ (t && is_listed d w list)
-      by true e = due-listed d w e ∙ sym (due-among d w e)
-      by false e = refl
-
   -- the workflows in which reapplication is due are those of the list
   same-due : filter (due_in cell) all ≡ filter (due_in cell) list
-  same-due =
-      btree_set_from_contains names-total one two (IsStrictlySortedBy-filter names_order (due_in cell) all (names-sorted cell.arrived order)) (IsStrictlySortedBy-filter names_order (due_in cell) list are.ordered)
-      (λ q. listed-as q.0 q.1 (filter (due_in cell) all) ∙ same-listed q.0 q.1 ∙ sym (listed-as q.0 q.1 (filter (due_in cell) list)))
-      (exact_pairs names_cmp names_cmp exact_bytes exact_bytes)
-    where
-      one : BTreeSet (Name × Name)
-      one = record { keys = filter (due_in cell) all }
-
-      two : BTreeSet (Name × Name)
-      two = record { keys = filter (due_in cell) list }
+  same-due = same-kept (due_in cell) all list (names-sorted cell.arrived order) are.ordered due-listed due-among
 
 -- the cell itself is the same
 all-same : (cell : Cell) (list : List (Name × Name)) → AreSame cell cell list

@@ -1,9 +1,8 @@
 -- A workflow of its names stays one behind an arrival, and behind what is written there.
-use Rattle.std.proofs.Common.{◌≡◌, Bool, true, false, not, List, [], ◌∷◌, Option, Some, None, Ok, cond, refl, sym, ◌∙◌, subst, ap}
+use Rattle.std.proofs.Common.{◌≡◌, Bool, true, false, not, List, [], ◌∷◌, Option, Some, None, Ok, refl, sym, ◌∙◌, subst, ap}
 use Rattle.std.specs.Prelude.{IfSome, if◌then◌else◌}
 use Rattle.std.specs.List.{AllByRecursion, filter}
 use Rattle.ndc_cells.specs.declared.message.Message.{Message}
-use Rattle.ndc_cells.specs.Cells.{both}
 use Rattle.ndc_cells.specs.Laws.{arrived_second}
 use Rattle.ndc_cells.specs.Places.{is_of}
 use Rattle.ndc_event.specs.Key.{key_eq, key_lt}
@@ -13,9 +12,9 @@ use Rattle.ndc_sets.specs.Learned.{has_key, learned}
 use Rattle.ndc_sets.specs.Sets.{arrived, earlier}
 use Rattle.ndc_sets.specs.Sound.{IsSound}
 use Rattle.ndc_sets.proofs.Lists.{filter-cases}
-use Rattle.ndc_waiting.specs.Learning.{with_message, with_messages, ArePutOff}
-use Rattle.ndc_waiting.specs.Waiting.{put_off, freed, still_put_off, IsMessage, IsNewTo, AreWaiting}
-use Rattle.ndc_workflow.specs.Workflow.{WorkflowValue, IsWorkflow, after_arrival, beside, empty_workflow, has_arrived, is_learned, with_written, workflow_with}
+use Rattle.ndc_waiting.specs.Learning.{with_message, with_messages}
+use Rattle.ndc_waiting.specs.Waiting.{put_off, freed, still_put_off, IsMessage, IsNewTo}
+use Rattle.ndc_workflow.specs.Workflow.{WorkflowValue, IsWorkflow, after_arrival, beside, empty_workflow, has_arrived, with_written, workflow_with}
 use Rattle.ndc_workflow.proofs.FreedLemmas.{freed-with, still-put-off}
 use Rattle.ndc_workflow.proofs.PutOffLemmas.{beside-is, put-off-beside, put-off-with}
 use Rattle.ndc_workflow.proofs.WriteLemmas.{CanBeWritten, put-off-still, written-is, written-learned}

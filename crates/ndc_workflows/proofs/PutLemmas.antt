@@ -1,5 +1,5 @@
 -- What the calls of a map say, as what is put under a name.
-use Rattle.std.proofs.Common.{◌≡◌, Bool, true, List, Option, Some, None, Result, Ok, Err, OnOk, OnErr, cond, refl, sym, ◌∙◌, subst, ap, false}
+use Rattle.std.proofs.Common.{◌≡◌, true, List, Some, Result, Ok, Err, OnOk, OnErr, cond, sym, ◌∙◌, subst, ap, false}
 use Rattle.std.specs.Prelude.{IfSome}
 use Rattle.std.specs.List.Sorted.{IsStrictlySortedBy}
 use Rattle.std.specs.Map.{keys_of}

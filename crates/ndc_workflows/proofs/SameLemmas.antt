@@ -1,11 +1,11 @@
 -- Two lists in order of place that are alike by workflow are equal.
 use Rattle.std.proofs.Common.{◌≡◌, Bool, true, false, List, [], ◌∷◌, inl, inr, cond, map, refl, sym, ◌∙◌, subst, ap, true≢false}
-use Rattle.std.specs.List.{AllByRecursion, filter}
+use Rattle.std.specs.List.{filter}
 use Rattle.std.specs.Str.{bytes_eq}
 use Rattle.std.proofs.lemmas.Bool.{and_parts, and_from}
 use Rattle.std.proofs.lemmas.Slice.Eq.{bytes_eq-Decides}
 use Rattle.ndc_cells.specs.declared.place.Place.{Place}
-use Rattle.ndc_cells.specs.Places.{AreBehind, AreInOrder, is_of, place_lt, place_of}
+use Rattle.ndc_cells.specs.Places.{AreInOrder, is_of, place_lt, place_of}
 use Rattle.ndc_cells.proofs.PlaceLemmas.{place-parts, place-trans, PlaceIsBefore}
 use Rattle.ndc_domain.proofs.Order.{less_irrefl}
 use Rattle.ndc_event.specs.declared.batch.Batch.{Batch}

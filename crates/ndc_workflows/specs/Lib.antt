@@ -4,3 +4,5 @@ pub mod Writing
 pub mod Due
 pub mod Reapplied
 pub mod Listed
+pub mod Behind
+pub mod Reading

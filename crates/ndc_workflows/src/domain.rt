@@ -28,8 +28,9 @@ impl Drop for Domain {
 }
 
 impl Domain {
-    ghost use Rattle.std.specs.Prelude.{◌≡◌, [], true, false, IfOk, IfSome, OnOk, OnErr};
+    ghost use Rattle.std.specs.Prelude.{◌≡◌, [], map, true, false, IfOk, IfSome, OnOk, OnErr};
     ghost use Rattle.std.specs.List.{AllByRecursion};
+    ghost use Rattle.std.specs.Map.{values_of};
     ghost use Rattle.std.specs.Option.{option_copied};
     ghost use Rattle.ndc_cells.specs.Cells.{both};
     ghost use Rattle.ndc_cells.specs.Places.{is_of};
@@ -57,6 +58,13 @@ impl Domain {
         ensures { option_copied result ≡ under workflow.now self.now }
     {
         self.workflows.get(workflow)
+    }
+
+    /// The workflows, in order of name.
+    pub(crate) fn list(&self, alloc: Global) -> Result<Vec<&Workflow>, AllocError>
+        ensures { IfOk result (λ list. map (λ w. w.now) list.items ≡ values_of self.now) }
+    {
+        self.workflows.values().collect(alloc)
     }
 
     /// Whether reapplication is due in the workflow of this name, as [`Workflow::is_due`] finds it.

@@ -1,3 +1,8 @@
+ghost use Rattle.std.specs.Prelude.{◌≡◌, map, IfOk};
+ghost use Rattle.std.specs.List.{list_any};
+ghost use Rattle.std.specs.Str.{bytes_eq};
+ghost use Rattle.ndc_workflows.specs.Reading.{workflows_named};
+
 use crate::domain::Domain;
 use ndc_cells::Message;
 use ndc_event::{Batch, Name};
@@ -29,17 +34,44 @@ impl Drop for Domains {
     }
 }
 
+/// The workflows of these domains, in order of domain and then of name.
+fn named_in<'d>(
+    alloc: Global,
+    domains: &'d BTreeMap<Name, Domain>,
+    names: &[Name],
+) -> Result<Vec<&'d Workflow>, AllocError>
+    ensures { IfOk result (λ list. map (λ w. w.now) list.items ≡ workflows_named names.now domains.now.entries) }
+{
+    let mut list = Vec::new(alloc);
+    for (name, domain) in domains.iter() {
+        if has_name(names, name) {
+            let mut more = domain.list(alloc)?;
+            list.append(&mut more)?;
+        }
+    }
+    Ok(list)
+}
+
+/// Whether the name is one of these.
+fn has_name(names: &[Name], name: &Name) -> bool
+    ensures { result ≡ list_any (λ one. bytes_eq one name.now) names.now }
+{
+    names.iter().any(|one| *one == *name)
+}
+
 impl Domains {
-    ghost use Rattle.std.specs.Prelude.{◌≡◌, IfSome, IfNone, IfOk, OnOk, OnErr};
+    ghost use Rattle.std.specs.Prelude.{◌≡◌, map, IfSome, IfNone, IfOk, OnOk, OnErr};
     ghost use Rattle.std.specs.Option.{option_copied};
     ghost use Rattle.ndc_cells.specs.Arrival.{arrival_of, arrived_at, learned_by};
     ghost use Rattle.ndc_cells.specs.Cells.{empty_cell, learned_of, IsCell};
     ghost use Rattle.ndc_cells.specs.Writing.{with_batches};
+    ghost use Rattle.ndc_event.specs.declared.name.Name.{Name as Text};
     ghost use Rattle.ndc_runs.specs.Kept.{is_due};
     ghost use Rattle.ndc_sets.specs.Sound.{IsSound};
     ghost use Rattle.ndc_workflow.specs.Allowed.{MayArrive};
     ghost use Rattle.ndc_workflow.specs.Learnable.{carrying};
     ghost use Rattle.ndc_workflow.specs.Workflow.{empty_workflow, workflow_of, IsWorkflow};
+    ghost use Rattle.ndc_workflows.specs.Reading.{HoldLearned};
     ghost use Rattle.ndc_workflows.specs.Writing.{MayBeWritten};
 
     /// Nothing has arrived.
@@ -79,9 +111,22 @@ impl Domains {
         Ok(false)
     }
 
-    /// The cell is in order.
+    /// The workflows of these domains, in order of domain and then of name. They hold, in order, all that is learned of
+    /// these domains.
+    pub(crate) fn of_domains(
+        &self,
+        alloc: Global,
+        names: &[Name],
+    ) -> Result<Vec<&Workflow>, AllocError>
+        ensures { IfOk result (λ list. HoldLearned names.now (map (λ w. w.now) list.items) self.now) }
+    {
+        named_in(alloc, &self.domains, names)
+    }
+
+    /// The cell is in order, and so is each workflow of it.
     pub(crate) fn is_in_order(&self)
-        ensures { IsCell self.now }
+        ensures cell { IsCell self.now }
+        ensures workflows { (domain workflow : Text) → IsWorkflow (workflow_of domain workflow self.now) }
     {
         let _domains = &self.domains;
     }

@@ -3,8 +3,8 @@
 
 mod domain;
 mod domains;
-mod due;
 pub mod laws;
+mod listing;
 mod workflows;
 
 pub use workflows::Workflows;

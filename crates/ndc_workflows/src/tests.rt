@@ -127,5 +127,7 @@ fn a_message_waits_in_its_workflow(rt: HostRuntime) -> Result<(), Fail> {
         Some(found) => assert_eq!(rt; found.put_off().len(), 1),
         None => assert!(rt; false),
     }
+    assert_eq!(rt; workflows.behind(alloc)?.len(), 1);
+    assert_eq!(rt; workflows.of_domains(alloc, &[domain])?.len(), 1);
     Ok(())
 }

@@ -3,3 +3,4 @@ pub mod BurstLemmas
 pub mod OpeningLemmas
 pub mod ReachedLemmas
 pub mod RunLemmas
+pub mod StandingLemmas

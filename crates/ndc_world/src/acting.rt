@@ -1,17 +1,20 @@
-ghost use Rattle.std.specs.Prelude.{◌≡◌, ◌<◌, true, IfOk};
+ghost use Rattle.std.specs.Prelude.{◌≡◌, ◌<◌, false, true, IfOk};
 ghost use Rattle.ndc_act.specs.WellFormed.{IsWellFormedAct, IsWellFormedHeader};
+ghost use Rattle.ndc_bare.specs.Bare.{is_on_reports};
 ghost use Rattle.ndc_fair_jobs.specs.Lines.{LineIsAllowed};
 ghost use Rattle.ndc_model.specs.Facts.{IsReached};
 ghost use Rattle.ndc_model.specs.Lines.{act_step};
 ghost use Rattle.ndc_model.specs.Steps.{answered};
 ghost use Rattle.ndc_steps.specs.Told.{leaving};
-ghost use Rattle.ndc_world.specs.Built.{is_built, is_read};
+ghost use Rattle.ndc_world.specs.Reading.{is_read};
 
 use ndc_act::{Act, Header};
 use ndc_links::Reads;
 use ndc_network::Network;
 use ndc_port::Gate;
-use ndc_steps::{Step, answered, domains, handovers, lanes, letters, moving, reading, writing};
+use ndc_steps::{
+    Step, answered, domains, gaps, handovers, lanes, letters, moving, reading, writing,
+};
 use std::alloc::{AllocError, Global};
 use std::thread::Threads;
 
@@ -30,7 +33,7 @@ pub(crate) fn act<R: Threads + Sync, G: Gate, C: Reads + Drop + Send>(
     requires workers { 0 < workers }
     requires header { IsWellFormedHeader header.now }
     requires act { IsWellFormedAct header.now act.now }
-    requires built { is_built act.now ≡ true }
+    requires other { is_on_reports act.now ≡ false }
     requires reached { IsReached header.now lines network.old }
     requires allowed { LineIsAllowed C.allows header.now act.now network.old }
     ensures { IfOk result (λ step. leaving network.new step ≡ act_step header.now act.now network.old) }
@@ -110,7 +113,17 @@ pub(crate) fn act<R: Threads + Sync, G: Gate, C: Reads + Drop + Send>(
         } => writing::reset(
             network, rt, alloc, gate, workers, header, *cluster, domain, workflow, *event,
         ),
+        Act::Damage {
+            reader,
+            source,
+            shard,
+            place,
+            cut,
+        } => letters::damage(network, alloc, *reader, *source, *shard, *place, *cut),
         Act::Purge { reader } => letters::purge(network, alloc, *reader),
+        Act::MergeLetters { reader } => {
+            letters::merge(network, rt, alloc, gate, workers, header, *reader)
+        }
         _ => Ok(answered(alloc, read(network, alloc, header, lines, act)?)),
     }
 }
@@ -126,7 +139,7 @@ fn read<C: Reads + Drop>(
 ) -> Result<Vec<u8>, AllocError>
     requires header { IsWellFormedHeader header.now }
     requires act { IsWellFormedAct header.now act.now }
-    requires built { is_read act.now ≡ true }
+    requires read { is_read act.now ≡ true }
     requires reached { IsReached header.now lines network.now }
     ensures { IfOk result (λ text. answered network.now text.items ≡ act_step header.now act.now network.now) }
 {
@@ -138,6 +151,7 @@ fn read<C: Reads + Drop>(
             source,
             shard,
         } => lanes::levels(network, alloc, header, *reader, *source, *shard),
+        Act::Gaps { cluster } => gaps::gaps(network, alloc, header, *cluster),
         Act::History {
             cluster,
             domain,

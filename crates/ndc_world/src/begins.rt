@@ -1,4 +1,5 @@
 use ndc_links::Reads;
+use ndc_shard::Shard;
 use std::alloc::Global;
 
 /// A cell as a script needs it: it begins with nothing, and does each job that a cell may be asked to do.
@@ -14,4 +15,12 @@ pub trait Begins: Reads {
         ensures { Self.cell result ≡ empty_cell };
 
     ghost may: { (home : Home) (asked : Job) (at : Cell) → IsAllowed home asked at → Self.allows home asked at };
+}
+
+impl Begins for Shard {
+    ghost may = { λ home asked at given. given };
+
+    fn empty(alloc: Global) -> Shard {
+        Shard::new(alloc)
+    }
 }

@@ -4,7 +4,9 @@
 mod acting;
 mod begins;
 mod bursts;
+mod clusters;
 mod opening;
+mod reporting;
 mod world;
 
 pub use begins::Begins;

@@ -1,43 +1,38 @@
-ghost use Rattle.std.specs.Prelude.{◌≡◌, IfOk};
-ghost use Rattle.ndc_model.specs.World.{opening_world};
-
-use crate::acting::act;
 use crate::begins::Begins;
-use crate::bursts::burst;
-use crate::opening::opening_sites;
-use ndc_act::{Act, BurstJob, Header, Line};
+use crate::clusters::{Clusters, Left};
+use crate::reporting::{is_on_reports, no_reports};
+use ndc_act::{Act, Header, Line};
 use ndc_answers::behind_number;
-use ndc_domain::ClusterNo;
 use ndc_index::Seen;
 use ndc_network::Network;
 use ndc_port::Gate;
+use ndc_progress::Progress;
 use std::alloc::{AllocError, Global};
 use std::marker::Model;
 use std::thread::Threads;
 
-/// All clusters of a script that runs, behind so many lines.
+/// All clusters of a script that runs, behind so many lines, with the greatest progress report of each activity that each
+/// cluster was told or took over. They stand for the world that the lines lead to.
 pub struct World<'a, C: Begins + Drop> {
-    header: &'a Header,
-    network: Network<C>,
-    lines: u64,
+    clusters: Clusters<'a, C>,
+    reports: Vec<Progress>,
 }
 
 impl<'a, C: Begins + Drop> Model for World<'a, C> {
-    ghost use Rattle.ndc_world.specs.Running.{IsRunning, Running};
+    ghost use Rattle.ndc_world.specs.Standing.{IsStanding, Standing};
 
-    ghost Value = { Running };
+    ghost Value = { Standing };
 
-    ghost view = { λ world. record { header = world.header.now; lines = world.lines; world = world.network } };
+    ghost view = { λ world. record { header = world.clusters.header; lines = world.clusters.lines; world = world.clusters.world; reports = world.reports.items } };
 
-    ghost invariant = { λ world. IsRunning (record { header = world.header.now; lines = world.lines; world = world.network }) };
+    ghost invariant = { λ world. IsStanding (record { header = world.clusters.header; lines = world.clusters.lines; world = world.clusters.world; reports = world.reports.items }) };
 }
 
 impl<'a, C: Begins + Drop> Drop for World<'a, C> {
     fn drop(self) {
         let World {
-            header: _header,
-            network: _network,
-            lines: _lines,
+            clusters: _clusters,
+            reports: _reports,
         } = self;
     }
 }
@@ -52,37 +47,46 @@ pub struct Ran<'a, C: Begins + Drop> {
 }
 
 impl<'a, C: Begins + Drop> World<'a, C> {
-    ghost use Rattle.std.specs.Prelude.{◌≡◌, ◌<◌, ◌+◌, ◌≤◌, [], ◌∷◌, All, true, length, IfOk};
-    ghost use Rattle.ndc_act.specs.WellFormed.{IsCluster, IsWellFormedAct, IsWellFormedHeader, IsWellFormedJob};
-    ghost use Rattle.ndc_act.specs.declared.script.Act.TheVariants as act;
-    ghost use Rattle.ndc_model.specs.Lines.{answers_of, lines_of_act, seen_in};
-    ghost use Rattle.ndc_model.specs.World.{opening_world};
-    ghost use Rattle.ndc_world.specs.Built.{is_built};
-    ghost use Rattle.ndc_world.specs.Running.{behind_line, ran_at};
+    ghost use Rattle.std.specs.Prelude.{◌≡◌, ◌<◌, ◌+◌, ◌≤◌, false, length, true, IfOk};
+    ghost use Rattle.ndc_act.specs.WellFormed.{IsWellFormedAct, IsWellFormedHeader};
+    ghost use Rattle.ndc_bare.specs.Bare.{is_on_reports};
+    ghost use Rattle.ndc_bare.specs.Standing.{StandFor};
+    ghost use Rattle.ndc_model.specs.Fair.{IsShaped};
+    ghost use Rattle.ndc_model.specs.Lines.{lines_of_act};
+    ghost use Rattle.ndc_model.specs.World.{World as Whole, opening_world};
+    ghost use Rattle.ndc_world.specs.Standing.{IsBehind};
 
     /// The world of a header in the beginning: nothing is registered, written or sent.
     pub fn build(alloc: Global, header: &'a Header) -> Result<World<'a, C>, AllocError>
         requires { IsWellFormedHeader header.now }
-        ensures { IfOk result (λ world. world ≡ record { header = header.now; lines = 0; world = opening_world header.now }) }
+        ensures header { IfOk result (λ world. world.header ≡ header.now) }
+        ensures lines { IfOk result (λ world. world.lines ≡ 0) }
+        ensures stands { IfOk result (λ world. StandFor world.world world.reports (opening_world header.now)) }
     {
-        let sites = opening_sites(alloc, header)?;
-        let network = Network::new(alloc, header, sites)?;
-        Ok(World {
-            header,
-            network,
-            lines: 0,
-        })
+        let reports = no_reports(alloc, header)?;
+        let clusters = Clusters::build(alloc, header)?;
+        Ok(World { clusters, reports })
     }
 
     /// How many lines were run. Takes no memory.
     pub fn lines(&self) -> u64
         ensures { result ≡ self.now.lines }
     {
-        self.lines
+        self.clusters.lines()
     }
 
-    /// Runs a line of the text, on so many workers at most, behind the gate. The lines in a burst run side by side, and
-    /// are counted each. No more than 100,000 lines are run. After want of memory there is no world.
+    /// The clusters with the links between them, without progress reports. Takes no memory.
+    pub fn network(&self) -> &Network<C>
+        ensures network { result.now ≡ self.now.world }
+        ensures shaped { IsShaped self.now.header self.now.world }
+    {
+        self.clusters.network()
+    }
+
+    /// Runs a line of the text, on so many workers at most, behind the gate. In each world for which the clusters stand,
+    /// the line answers this and makes this learned, and behind it they stand for the world that it leaves. The lines in a
+    /// burst run side by side, and are counted each. No more than 100,000 lines are run. After want of memory there is no
+    /// world.
     pub fn run<R: Threads + Sync, G: Gate>(
         self,
         rt: &R,
@@ -95,55 +99,45 @@ impl<'a, C: Begins + Drop> World<'a, C> {
         C: Send,
         requires workers { 0 < workers }
         requires act { IsWellFormedAct self.header line.now.act }
-        requires built { is_built line.now.act ≡ true }
         requires lines { self.lines + length (lines_of_act line.now.number line.now.act) ≤ 100000 }
-        ensures world { IfOk result (λ ran. ran.world ≡ behind_line self.entry line.now) }
-        ensures answers { IfOk result (λ ran. ran.answers.items ≡ answers_of (ran_at self.entry line.now)) }
-        ensures seen { IfOk result (λ ran. ran.seen.items ≡ seen_in (ran_at self.entry line.now)) }
+        ensures header { IfOk result (λ ran. ran.world.header ≡ self.entry.header) }
+        ensures lines { IfOk result (λ ran. ran.world.lines ≡ self.entry.lines + length (lines_of_act line.now.number line.now.act)) }
+        ensures behind { IfOk result (λ ran. (w : Whole) → StandFor self.entry.world self.entry.reports w → IsBehind self.entry.header line.now w ran.world ran.answers.items ran.seen.items) }
     {
-        match &line.act {
-            Act::Burst { cluster, jobs } => {
-                let jobs = jobs.as_slice();
-                self.run_burst(rt, alloc, gate, workers, line.number, *cluster, jobs)
-            }
-            asked => self.run_one(rt, alloc, gate, workers, line.number, asked),
+        if is_on_reports(&line.act) {
+            let ran = self.run_report(alloc, line.number, &line.act)?;
+            return Ok(ran);
         }
+        let ran = self.run_other(rt, alloc, gate, workers, line)?;
+        Ok(ran)
     }
 
-    /// Runs a line that is no burst.
-    fn run_one<R: Threads + Sync, G: Gate>(
+    /// Runs a line that is not on progress reports.
+    fn run_other<R: Threads + Sync, G: Gate>(
         self,
         rt: &R,
         alloc: Global,
         gate: &G,
         workers: u32,
-        number: u64,
-        asked: &Act,
+        line: &Line,
     ) -> Result<Ran<'a, C>, AllocError>
     where
         C: Send,
         requires workers { 0 < workers }
-        requires act { IsWellFormedAct self.header asked.now }
-        requires built { is_built asked.now ≡ true }
-        requires one { lines_of_act number asked.now ≡ record { number = number; act = asked.now } ∷ [] }
-        requires lines { self.lines < 100000 }
-        ensures world { IfOk result (λ ran. ran.world ≡ behind_line self.entry (record { number = number; act = asked.now })) }
-        ensures answers { IfOk result (λ ran. ran.answers.items ≡ answers_of (ran_at self.entry (record { number = number; act = asked.now }))) }
-        ensures seen { IfOk result (λ ran. ran.seen.items ≡ seen_in (ran_at self.entry (record { number = number; act = asked.now }))) }
+        requires act { IsWellFormedAct self.header line.now.act }
+        requires other { is_on_reports line.now.act ≡ false }
+        requires lines { self.lines + length (lines_of_act line.now.number line.now.act) ≤ 100000 }
+        ensures header { IfOk result (λ ran. ran.world.header ≡ self.entry.header) }
+        ensures lines { IfOk result (λ ran. ran.world.lines ≡ self.entry.lines + length (lines_of_act line.now.number line.now.act)) }
+        ensures behind { IfOk result (λ ran. (w : Whole) → StandFor self.entry.world self.entry.reports w → IsBehind self.entry.header line.now w ran.world ran.answers.items ran.seen.items) }
     {
-        let World {
-            header,
-            mut network,
-            lines,
-        } = self;
-        let step = act(&mut network, rt, alloc, gate, workers, header, lines, asked)?;
-        let (answer, seen) = step.into_parts();
-        let answers = behind_number(alloc, number, answer.as_slice())?;
-        let world = World {
-            header,
-            network,
-            lines: lines + 1,
-        };
+        let World { clusters, reports } = self;
+        let Left {
+            clusters,
+            answers,
+            seen,
+        } = clusters.run(rt, alloc, gate, workers, line)?;
+        let world = World { clusters, reports };
         Ok(Ran {
             world,
             answers,
@@ -151,48 +145,25 @@ impl<'a, C: Begins + Drop> World<'a, C> {
         })
     }
 
-    /// Runs the lines in a burst, side by side.
-    fn run_burst<R: Threads + Sync, G: Gate>(
-        self,
-        rt: &R,
-        alloc: Global,
-        gate: &G,
-        workers: u32,
-        number: u64,
-        cluster: ClusterNo,
-        jobs: &[BurstJob],
-    ) -> Result<Ran<'a, C>, AllocError>
-    where
-        C: Send,
-        requires workers { 0 < workers }
-        requires cluster { IsCluster self.header cluster }
-        requires jobs { All IsWellFormedJob jobs.now }
-        requires lines { self.lines + length jobs.now ≤ 100000 }
-        ensures world { IfOk result (λ ran. ran.world ≡ behind_line self.entry (record { number = number; act = act.Burst cluster jobs.now })) }
-        ensures answers { IfOk result (λ ran. ran.answers.items ≡ answers_of (ran_at self.entry (record { number = number; act = act.Burst cluster jobs.now }))) }
-        ensures seen { IfOk result (λ ran. ran.seen.items ≡ seen_in (ran_at self.entry (record { number = number; act = act.Burst cluster jobs.now }))) }
+    /// Runs a line on progress reports.
+    fn run_report(self, alloc: Global, number: u64, asked: &Act) -> Result<Ran<'a, C>, AllocError>
+        requires act { IsWellFormedAct self.header asked.now }
+        requires on { is_on_reports asked.now ≡ true }
+        requires lines { self.lines < 100000 }
+        ensures header { IfOk result (λ ran. ran.world.header ≡ self.entry.header) }
+        ensures lines { IfOk result (λ ran. ran.world.lines ≡ self.entry.lines + 1) }
+        ensures behind { IfOk result (λ ran. (w : Whole) → StandFor self.entry.world self.entry.reports w
+            → IsBehind self.entry.header (record { number = number; act = asked.now }) w ran.world ran.answers.items ran.seen.items) }
     {
         let World {
-            header,
-            mut network,
-            lines,
+            clusters,
+            mut reports,
         } = self;
-        let step = burst(
-            &mut network,
-            rt,
-            alloc,
-            gate,
-            workers,
-            header,
-            cluster,
-            jobs,
-        )?;
-        let (answers, seen) = step.into_parts();
-        let world = World {
-            header,
-            network,
-            lines: lines + jobs.len() as u64,
-        };
+        let step = clusters.report(&mut reports, alloc, asked)?;
+        let (answer, seen) = step.into_parts();
+        let answers = behind_number(alloc, number, answer.as_slice())?;
+        let clusters = clusters.passed();
+        let world = World { clusters, reports };
         Ok(Ran {
             world,
             answers,

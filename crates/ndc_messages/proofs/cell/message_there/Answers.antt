@@ -12,4 +12,4 @@ message_in-requires c = subst (λ (w : WorkflowValue). IsSound (learned w.arrive
 pub returns-in-Some : goal.returns-in-Some
 returns-in-Some c =
     subst (λ (m : Option Message). IfOk c.message_in.result (λ message. message ≡ m))
-    (place-is c.args.workflows.now c.args.place.now c.in-Some.workflow.now c.in-Some.ensures.found) c.message_in.ensures
+    (place-is c.args.workflows.now (record { domain = c.args.domain.now; workflow = c.args.workflow.now; key = c.args.key }) c.in-Some.found.now c.in-Some.ensures.found) c.message_in.ensures

@@ -1,4 +1,3 @@
-use Rattle.std.proofs.Common.{sym}
 use Rattle.ndc_model.specs.World.{is_link}
 use Rattle.ndc_steps.proofs.FindLemmas.{found, nowhere}
 use Rattle.ndc_steps.proofs.sites.find_link.Goals as goal

@@ -1,6 +1,6 @@
 use Rattle.std.proofs.Common.{subst}
 use Rattle.ndc_act.specs.WellFormed.{IsWellFormedAct}
-use Rattle.ndc_world.proofs.ReachedLemmas.{config_small, handovers_fit, orderly}
+use Rattle.ndc_world.proofs.ReachedLemmas.{config_small, handovers_fit, orderly, sources_known}
 use Rattle.ndc_world.proofs.acting.act.Goals as goal
 
 pub retain-requires-clause-config : goal.retain-requires-clause-config
@@ -27,3 +27,10 @@ settle-requires-clause-orderly g c κs within = orderly c.args.header.now c.args
 
 pub complete-requires-clause-fit : goal.complete-requires-clause-fit
 complete-requires-clause-fit g c = handovers_fit c.args.header.now c.args.lines c.args.network.now c.requires.reached
+
+pub merge-requires-clause-orderly : goal.merge-requires-clause-orderly
+merge-requires-clause-orderly g c κs within = orderly c.args.header.now c.args.lines c.args.network.now c.requires.reached
+
+pub merge-requires-clause-sources : goal.merge-requires-clause-sources
+merge-requires-clause-sources g c κs within =
+    sources_known c.args.header.now c.args.lines c.args.network.now c.requires.reached c.in-MergeLetters.reader (subst (IsWellFormedAct c.args.header.now) c.in-MergeLetters.is c.requires.act)

@@ -5,7 +5,7 @@ use Rattle.ndc_sets.specs.Sound.{IsSound}
 use Rattle.ndc_workflow.specs.Workflow.{WorkflowValue, after_arrival, empty_workflow, has_arrived}
 use Rattle.ndc_waiting.specs.Waiting.{IsNewTo}
 use Rattle.ndc_workflow.proofs.OkLemmas.{on-ok}
-use Rattle.ndc_workflows.specs.Named.{under, IsPut}
+use Rattle.ndc_workflows.specs.Named.{under}
 use Rattle.ndc_workflows.specs.Workflows.{workflow_or_empty, IsOwn}
 use Rattle.ndc_workflows.proofs.NameLemmas.{put-holds}
 use Rattle.ndc_workflows.proofs.OwnLemmas.{empty-own, own-after}

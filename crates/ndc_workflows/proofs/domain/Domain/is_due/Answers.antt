@@ -1,4 +1,4 @@
-use Rattle.std.proofs.Common.{◌≡◌, Some, None, IfOk, Option, false, refl, sym, ◌∙◌, subst, ap}
+use Rattle.std.proofs.Common.{◌≡◌, Some, IfOk, Option, sym, ◌∙◌, subst, ap}
 use Rattle.std.proofs.lemmas.Map.Steps.{set_value_same}
 use Rattle.ndc_runs.specs.Kept.{is_due}
 use Rattle.ndc_sets.specs.Learned.{learned}

@@ -1,12 +1,11 @@
-use Rattle.std.proofs.Common.{◌≡◌, Some, None, Ok, refl, sym, ◌∙◌, subst, ap}
+use Rattle.std.proofs.Common.{◌≡◌, Some, None, refl, sym, ◌∙◌, subst, ap}
 use Rattle.std.specs.Prelude.{is_some}
 use Rattle.std.specs.Option.{option_copied}
 use Rattle.std.proofs.lemmas.Map.Steps.{set_value_same}
-use Rattle.ndc_cells.specs.declared.message.Message.{Message}
 use Rattle.ndc_workflow.specs.Learnable.{carrying}
-use Rattle.ndc_workflow.specs.Workflow.{WorkflowValue, empty_workflow, with_written}
+use Rattle.ndc_workflow.specs.Workflow.{with_written}
 use Rattle.ndc_workflow.proofs.OkLemmas.{on-ok}
-use Rattle.ndc_workflows.specs.Named.{under, IsPut}
+use Rattle.ndc_workflows.specs.Named.{under}
 use Rattle.ndc_workflows.specs.Workflows.{workflow_or_empty, IsOwn}
 use Rattle.ndc_workflows.specs.Writing.{MayBeWritten}
 use Rattle.ndc_workflows.proofs.NameLemmas.{put-holds}

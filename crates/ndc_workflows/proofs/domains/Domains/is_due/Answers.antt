@@ -1,12 +1,9 @@
-use Rattle.std.proofs.Common.{◌≡◌, Some, None, IfOk, List, false, refl, sym, ◌∙◌, subst, ap}
+use Rattle.std.proofs.Common.{◌≡◌, Some, None, IfOk, false, refl, sym, ◌∙◌, subst, ap}
 use Rattle.std.proofs.lemmas.Map.Steps.{set_value_same}
-use Rattle.ndc_cells.specs.Cells.{Cell, learned_of}
-use Rattle.ndc_event.specs.declared.name.Name.{Name}
 use Rattle.ndc_runs.specs.Kept.{is_due}
 use Rattle.ndc_sets.specs.Learned.{learned}
 use Rattle.ndc_workflow.specs.Workflow.{WorkflowValue, workflow_of}
-use Rattle.ndc_workflows.specs.Named.{under}
-use Rattle.ndc_workflows.specs.Workflows.{AreDomains, DomainValue, cell_of, workflow_or_empty, workflows_in}
+use Rattle.ndc_workflows.specs.Workflows.{AreDomains, cell_of}
 use Rattle.ndc_workflows.proofs.FindLemmas.{found-under}
 use Rattle.ndc_workflows.proofs.domains.Domains.is_due.Goals as goal
 

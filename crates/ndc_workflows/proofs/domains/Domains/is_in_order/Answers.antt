@@ -1,7 +1,13 @@
 use Rattle.std.proofs.Common.{subst}
-use Rattle.ndc_cells.specs.Cells.{IsCell}
+use Rattle.ndc_cells.specs.Cells.{Cell, IsCell}
+use Rattle.ndc_workflow.specs.Workflow.{IsWorkflow, workflow_of}
+use Rattle.ndc_workflows.proofs.BehindLemmas.{workflow-own}
 use Rattle.ndc_workflows.proofs.DomainLemmas.{is-cell}
 use Rattle.ndc_workflows.proofs.domains.Domains.is_in_order.Goals as goal
 
-pub returns : goal.returns
-returns c = subst IsCell c.self.view_is (is-cell c.self.inside.domains.entries c.self.invariant)
+pub returns-clause-cell : goal.returns-clause-cell
+returns-clause-cell c = subst IsCell c.self.view_is (is-cell c.self.inside.domains.entries c.self.invariant)
+
+pub returns-clause-workflows : goal.returns-clause-workflows
+returns-clause-workflows c d n =
+    subst (λ (cell : Cell). IsWorkflow (workflow_of d n cell)) c.self.view_is (workflow-own c.self.inside.domains.entries c.self.invariant d n).is

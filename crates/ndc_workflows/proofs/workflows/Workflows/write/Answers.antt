@@ -1,4 +1,4 @@
-use Rattle.std.proofs.Common.{◌≡◌, sym, subst}
+use Rattle.std.proofs.Common.{sym, subst}
 use Rattle.std.specs.Option.{option_copied}
 use Rattle.ndc_cells.specs.Cells.{Cell}
 use Rattle.ndc_cells.specs.Writing.{Entry}
@@ -6,12 +6,15 @@ use Rattle.ndc_workflow.specs.Learnable.{carrying}
 use Rattle.ndc_workflow.specs.Workflow.{workflow_of}
 use Rattle.ndc_workflows.specs.Writing.{MayBeWritten}
 use Rattle.ndc_workflows.proofs.HoldLemmas.{hold-either}
+use Rattle.ndc_workflows.proofs.WaitLemmas.{behind-either}
 use Rattle.ndc_workflows.proofs.workflows.Workflows.write.Goals as goal
 
 pub invariant_of-self-2 : goal.invariant_of-self-2
 invariant_of-self-2 g c =
     let b = c.args.batch.now in
     let entry : Entry = record { batch = b; second = option_copied c.args.second } in
-    let may = subst (λ (cell : Cell). MayBeWritten (carrying b entry.second) (workflow_of b.domain b.workflow cell)) (sym c.self.view_is) c.requires in
-    hold-either entry c.self.inside.domains c.in_ok-list_before.ensures.cell c.in_ok-list_before.ensures.workflow may c.write.result c.self.inside.due c.list_before.new.due c.write.new.self
-    c.write.ensures.ok c.write.ensures.err c.self.invariant c.in_ok-list_before.ensures.ok
+    let may = subst (λ (cell : Cell). MayBeWritten (carrying b entry.second) (workflow_of b.domain b.workflow cell)) (sym c.self.view_is) c.requires in (
+      hold-either entry c.self.inside.domains c.in_ok-list_before.ensures.cell c.in_ok-list_before.ensures.workflow may c.write.result c.self.inside.due c.list_before.new.due c.write.new.self
+          c.write.ensures.ok c.write.ensures.err c.self.invariant.0 c.in_ok-list_before.ensures.ok,
+      behind-either entry c.self.inside.domains c.write.result c.self.inside.behind c.write.new.self c.write.ensures.ok c.write.ensures.err c.self.invariant.1,
+    )

@@ -1,0 +1,4 @@
+mod GeneratedLemmas
+mod KeepLemmas
+mod SameLemmas
+mod SettleLemmas

@@ -1,0 +1,4 @@
+pub mod LeftLemmas
+pub mod SeatLemmas
+pub mod CountLemmas
+pub mod Ends

@@ -1,0 +1,72 @@
+use crate::lacking::lacking_in;
+use crate::shard::Shard;
+use ndc_cells::{Message, Place};
+use ndc_event::{BatchKey, Name};
+use ndc_links::{Lacking, Learns, Reads, Serves, Writes};
+use ndc_messages::{message_there, messages_of};
+use ndc_runs::Runs;
+use std::alloc::{AllocError, Global};
+
+impl Learns for Shard {
+    fn has_learned(&self, domain: &Name, workflow: &Name, key: BatchKey) -> bool {
+        match Shard::runs(self, domain, workflow) {
+            Some(runs) => runs.has(key),
+            None => false,
+        }
+    }
+}
+
+impl Writes for Shard {
+    fn written_len(&self) -> u64 {
+        self.written().len() as u64
+    }
+
+    fn written_at(&self, place: u64) -> Result<Message, AllocError> {
+        self.written()[place as usize].try_copy()
+    }
+}
+
+impl Serves for Shard {
+    fn learned_of(&self, alloc: Global, domains: &[Name]) -> Result<Vec<Message>, AllocError> {
+        messages_of(alloc, self.workflows(), domains)
+    }
+}
+
+impl Reads for Shard {
+    fn runs(&self, domain: &Name, workflow: &Name) -> Option<&Runs> {
+        Shard::runs(self, domain, workflow)
+    }
+
+    fn has_arrived(&self, domain: &Name, workflow: &Name, key: BatchKey) -> bool {
+        match self.workflows().find(domain, workflow) {
+            Some(found) => found.has_arrived(key),
+            None => false,
+        }
+    }
+
+    fn behind(&self, alloc: Global) -> Result<Vec<Place>, AllocError> {
+        self.workflows().behind(alloc)
+    }
+
+    fn put_off(
+        &self,
+        alloc: Global,
+        domain: &Name,
+        workflow: &Name,
+    ) -> Result<Vec<Lacking>, AllocError> {
+        match self.workflows().find(domain, workflow) {
+            Some(found) => lacking_in(alloc, found),
+            None => Ok(Vec::new(alloc)),
+        }
+    }
+
+    fn message_at(
+        &self,
+        alloc: Global,
+        domain: &Name,
+        workflow: &Name,
+        key: BatchKey,
+    ) -> Result<Option<Message>, AllocError> {
+        message_there(alloc, self.workflows(), domain, workflow, key)
+    }
+}

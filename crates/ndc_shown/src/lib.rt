@@ -1,0 +1,2 @@
+//! What a dump and a missing key tell of the batches behind them.
+#![tactic(auto)]

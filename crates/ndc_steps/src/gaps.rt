@@ -1,0 +1,348 @@
+ghost use Rattle.std.specs.Prelude.{◌≡◌, ◌<◌, ◌++◌, [], ◌∷◌, decimal, length, Some, IfNone, IfOk, IfSome, OnOk};
+ghost use Rattle.std.specs.List.{filter, flat_map};
+ghost use Rattle.std.specs.Option.{option_copied};
+ghost use Rattle.ndc_act.specs.WellFormed.{IsCluster};
+ghost use Rattle.ndc_again.specs.Authors.{batch_by_author, cell_by};
+ghost use Rattle.ndc_again.specs.Steps.{keys_to};
+ghost use Rattle.ndc_cells.specs.Cells.{empty_cell, learned_of};
+ghost use Rattle.ndc_domain.specs.Clusters.{writer_of};
+ghost use Rattle.ndc_model.specs.Fair.{IsShaped};
+ghost use Rattle.ndc_cells.specs.Places.{is_of};
+ghost use Rattle.ndc_fair_lines.specs.Sometime.{IsReachedSometime};
+ghost use Rattle.ndc_links.specs.Lacking.{all_lacking};
+ghost use Rattle.ndc_model.specs.Moves.{all_written};
+ghost use Rattle.ndc_model.specs.Sending.{gaps_answer};
+ghost use Rattle.ndc_model.specs.Texts.{ok};
+ghost use Rattle.ndc_model.specs.World.{cell_at, shards_of};
+ghost use Rattle.ndc_sets.specs.Learned.{has_key};
+ghost use Rattle.ndc_sets.specs.Sets.{batch_at};
+ghost use Rattle.ndc_steps.specs.Waiting.{IfHigher, looked, found_above, learned_up_to, waiting_at, waiting_for, waiting_in, waiting_text};
+
+use crate::sites::cell_of;
+use ndc_act::Header;
+use ndc_answers::Gap;
+use ndc_cells::Place;
+use ndc_domain::ClusterNo;
+use ndc_event::{Batch, BatchKey, Name};
+use ndc_history::Item;
+use ndc_links::{Lacking, Reads};
+use ndc_network::Network;
+use std::alloc::{AllocError, Global};
+
+/// A batch that is put off, with its gap.
+#[derive(Drop)]
+pub(crate) struct Waiting {
+    /// Its workflow and key.
+    pub(crate) place: Place,
+    /// The last event of its last learned ancestor, or id and version 0.
+    pub(crate) after: Item,
+    /// Its own first event.
+    pub(crate) before: Item,
+    /// The nearest ancestor that has not arrived.
+    pub(crate) missing: BatchKey,
+}
+
+/// What comes of looking for the last learned event at one batch of a path.
+#[derive(Clone, Copy, Debug)]
+pub(crate) enum Above {
+    /// It is this one.
+    Found { item: Item },
+    /// It is that of the path to the batch of this key.
+    Higher { key: Option<BatchKey> },
+}
+
+/// The cell, for a shard, of the cluster that writes with a version.
+fn author_of<'a, C: Reads + Drop>(
+    network: &'a Network<C>,
+    header: &Header,
+    shard: u32,
+    version: u64,
+) -> Option<&'a C>
+    requires shard { shard < header.now.shards }
+    requires shaped { IsShaped header.now network.now }
+    ensures found { IfSome result (λ cell. C.cell cell.now ≡ cell_by shard network.now (writer_of header.now.clusters version)) }
+    ensures none { IfNone result (cell_by shard network.now (writer_of header.now.clusters version) ≡ empty_cell) }
+{
+    let author = header.clusters.writer_of(version)?;
+    Some(cell_of(network, author, shard))
+}
+
+/// The batch of a key of a workflow that a cell has learned.
+fn learned_at<'a, C: Reads>(
+    cell: &'a C,
+    domain: &Name,
+    workflow: &Name,
+    key: BatchKey,
+) -> Option<&'a Batch>
+    ensures { option_copied result ≡ batch_at key (learned_of domain.now workflow.now (C.cell cell.now)) }
+{
+    match cell.runs(domain, workflow) {
+        Some(runs) => runs.get(key),
+        None => None,
+    }
+}
+
+/// The batch of a key of a workflow, as the cluster that writes with its version has learned it.
+fn find_learned<'a, C: Reads + Drop>(
+    network: &'a Network<C>,
+    header: &Header,
+    shard: u32,
+    domain: &Name,
+    workflow: &Name,
+    key: BatchKey,
+) -> Option<&'a Batch>
+    requires shard { shard < header.now.shards }
+    requires shaped { IsShaped header.now network.now }
+    ensures { option_copied result ≡ batch_by_author header.now shard network.now (record { domain = domain.now; workflow = workflow.now; key = key }) }
+{
+    match author_of(network, header, shard, key.version) {
+        Some(cell) => learned_at(cell, domain, workflow, key),
+        None => None,
+    }
+}
+
+/// The batch of a key of a workflow that was written.
+fn find_written<'a, C: Reads + Drop>(
+    network: &'a Network<C>,
+    header: &Header,
+    shard: u32,
+    domain: &Name,
+    workflow: &Name,
+    key: BatchKey,
+) -> Option<&'a Batch>
+    requires shard { shard < header.now.shards }
+    requires reached { IsReachedSometime header.now network.now }
+    ensures { option_copied result ≡ batch_at key (filter (is_of domain.now workflow.now) (all_written header.now shard network.now)) }
+{
+    find_learned(network, header, shard, domain, workflow, key)
+}
+
+/// Whether a cluster has learned the batch of a key.
+fn is_learned<C: Reads + Drop>(cell: &C, domain: &Name, workflow: &Name, key: BatchKey) -> bool
+    ensures { result ≡ has_key (Some key) (learned_of domain.now workflow.now (C.cell cell.now)) }
+{
+    match cell.runs(domain, workflow) {
+        Some(runs) => runs.has(key),
+        None => false,
+    }
+}
+
+/// The last event of a batch, where it is learned, or the key of the parent.
+fn look(batch: &Batch, is_learned: bool) -> Above
+    ensures { result ≡ looked batch.now is_learned }
+{
+    match batch.events.as_slice().last() {
+        Some(event) if is_learned => Above::Found {
+            item: Item {
+                id: event.id,
+                version: event.version,
+            },
+        },
+        _ => Above::Higher { key: batch.parent },
+    }
+}
+
+/// Looks for the last learned event at the batch of a key.
+fn look_at<C: Reads + Drop>(
+    network: &Network<C>,
+    header: &Header,
+    cluster: ClusterNo,
+    shard: u32,
+    domain: &Name,
+    workflow: &Name,
+    key: BatchKey,
+) -> Above
+    requires cluster { IsCluster header.now cluster }
+    requires shard { shard < header.now.shards }
+    requires reached { IsReachedSometime header.now network.now }
+    ensures found { found_above header.now shard network.now (cell_at cluster shard network.now) domain.now workflow.now result
+        ≡ learned_up_to header.now shard network.now (cell_at cluster shard network.now) domain.now workflow.now (Some key) }
+    ensures smaller { IfHigher result (λ up. keys_to (filter (is_of domain.now workflow.now) (all_written header.now shard network.now)) up
+        < keys_to (filter (is_of domain.now workflow.now) (all_written header.now shard network.now)) key) }
+{
+    let Some(batch) = find_written(network, header, shard, domain, workflow, key) else {
+        return Above::Higher { key: None };
+    };
+    let cell = cell_of(network, cluster, shard);
+    look(batch, is_learned(cell, domain, workflow, key))
+}
+
+/// The last event of what a cluster has learned of the path to the batch of a key, or id and version 0. Each batch is looked
+/// up, from the last one up to the first that is learned.
+#[tactic(auto, using(crate::proofs::GapLemmas::nothing_above))]
+fn last_learned<C: Reads + Drop>(
+    network: &Network<C>,
+    header: &Header,
+    cluster: ClusterNo,
+    shard: u32,
+    domain: &Name,
+    workflow: &Name,
+    key: BatchKey,
+) -> Item
+    requires cluster { IsCluster header.now cluster }
+    requires shard { shard < header.now.shards }
+    requires reached { IsReachedSometime header.now network.now }
+    ensures { result ≡ learned_up_to header.now shard network.now (cell_at cluster shard network.now) domain.now workflow.now (Some key) }
+{
+    let mut at = key;
+    loop {
+        match look_at(network, header, cluster, shard, domain, workflow, at) {
+            Above::Found { item } => return item,
+            Above::Higher { key: None } => return Item { id: 0, version: 0 },
+            Above::Higher { key: Some(up) } => at = up,
+        }
+    }
+}
+
+/// Adds what is put off of a workflow, with the gaps, in key order.
+fn add_waiting<C: Reads + Drop>(
+    network: &Network<C>,
+    waiting: &mut Vec<Waiting>,
+    header: &Header,
+    cluster: ClusterNo,
+    shard: u32,
+    place: &Place,
+    lacking: &[Lacking],
+) -> Result<(), AllocError>
+    requires cluster { IsCluster header.now cluster }
+    requires shard { shard < header.now.shards }
+    requires reached { IsReachedSometime header.now network.now }
+    requires lacking { lacking.now ≡ all_lacking place.now.domain place.now.workflow (cell_at cluster shard network.now) }
+    ensures { OnOk result (waiting.new.items ≡ waiting.old.items ++ waiting_for header.now cluster network.now shard place.now.domain place.now.workflow) }
+{
+    let domain = &place.domain;
+    let workflow = &place.workflow;
+    for one in lacking {
+        let after = last_learned(network, header, cluster, shard, domain, workflow, one.key);
+        waiting.push(Waiting {
+            place: Place {
+                domain: domain.try_copy()?,
+                workflow: workflow.try_copy()?,
+                key: one.key,
+            },
+            after,
+            before: Item {
+                id: one.first,
+                version: one.key.version,
+            },
+            missing: one.missing,
+        })?;
+    }
+    Ok(())
+}
+
+/// Adds what is put off of the workflow of a place, with the gaps, in key order.
+fn add_place<C: Reads + Drop>(
+    network: &Network<C>,
+    alloc: Global,
+    waiting: &mut Vec<Waiting>,
+    header: &Header,
+    cluster: ClusterNo,
+    shard: u32,
+    place: &Place,
+) -> Result<(), AllocError>
+    requires cluster { IsCluster header.now cluster }
+    requires shard { shard < header.now.shards }
+    requires reached { IsReachedSometime header.now network.now }
+    ensures { OnOk result (waiting.new.items ≡ waiting.old.items ++ waiting_at header.now cluster network.now shard place.now) }
+{
+    let cell = cell_of(network, cluster, shard);
+    let lacking = cell.put_off(alloc, &place.domain, &place.workflow)?;
+    let lacking = lacking.as_slice();
+    add_waiting(network, waiting, header, cluster, shard, place, lacking)?;
+    Ok(())
+}
+
+/// The same of some places, in order.
+fn add_places<C: Reads + Drop>(
+    network: &Network<C>,
+    alloc: Global,
+    waiting: &mut Vec<Waiting>,
+    header: &Header,
+    cluster: ClusterNo,
+    shard: u32,
+    places: &[Place],
+) -> Result<(), AllocError>
+    requires cluster { IsCluster header.now cluster }
+    requires shard { shard < header.now.shards }
+    requires reached { IsReachedSometime header.now network.now }
+    ensures { OnOk result (waiting.new.items ≡ waiting.old.items ++ flat_map (waiting_at header.now cluster network.now shard) places.now) }
+{
+    for place in places {
+        add_place(network, alloc, waiting, header, cluster, shard, place)?;
+    }
+    Ok(())
+}
+
+/// Adds what is put off at a cluster in a shard, with the gaps, in order of place.
+fn add_shard<C: Reads + Drop>(
+    network: &Network<C>,
+    alloc: Global,
+    waiting: &mut Vec<Waiting>,
+    header: &Header,
+    cluster: ClusterNo,
+    shard: u32,
+) -> Result<(), AllocError>
+    requires cluster { IsCluster header.now cluster }
+    requires shard { shard < header.now.shards }
+    requires reached { IsReachedSometime header.now network.now }
+    ensures { OnOk result (waiting.new.items ≡ waiting.old.items ++ waiting_in header.now cluster network.now shard) }
+{
+    let cell = cell_of(network, cluster, shard);
+    let behind = cell.behind(alloc)?;
+    let places = behind.as_slice();
+    add_places(network, alloc, waiting, header, cluster, shard, places)?;
+    Ok(())
+}
+
+/// What is put off at a cluster, with the gaps, by shard and then in order of place.
+fn all_waiting<C: Reads + Drop>(
+    network: &Network<C>,
+    alloc: Global,
+    header: &Header,
+    cluster: ClusterNo,
+) -> Result<Vec<Waiting>, AllocError>
+    requires cluster { IsCluster header.now cluster }
+    requires reached { IsReachedSometime header.now network.now }
+    ensures { IfOk result (λ waiting. waiting.items ≡ flat_map (waiting_in header.now cluster network.now) (shards_of header.now)) }
+{
+    let mut waiting = Vec::new(alloc);
+    for shard in 0..header.shards {
+        add_shard(network, alloc, &mut waiting, header, cluster, shard)?;
+    }
+    Ok(waiting)
+}
+
+/// How many batches are put off, and a line for each.
+fn told(alloc: Global, waiting: &[Waiting]) -> Result<Vec<u8>, AllocError>
+    ensures { IfOk result (λ text. text.items ≡ ok (decimal (length waiting.now) ∷ []) ++ flat_map waiting_text waiting.now) }
+{
+    let mut gaps = Vec::new(alloc);
+    for one in waiting {
+        gaps.push(Gap {
+            domain: &one.place.domain,
+            workflow: &one.place.workflow,
+            key: one.place.key,
+            after: one.after,
+            before: one.before,
+            missing: one.missing,
+        })?;
+    }
+    ndc_answers::gaps(alloc, gaps.as_slice())
+}
+
+/// `gaps`.
+pub fn gaps<C: Reads + Drop>(
+    network: &Network<C>,
+    alloc: Global,
+    header: &Header,
+    cluster: ClusterNo,
+) -> Result<Vec<u8>, AllocError>
+    requires cluster { IsCluster header.now cluster }
+    requires reached { IsReachedSometime header.now network.now }
+    ensures { IfOk result (λ text. text.items ≡ gaps_answer header.now cluster network.now) }
+{
+    let waiting = all_waiting(network, alloc, header, cluster)?;
+    let text = told(alloc, waiting.as_slice())?;
+    Ok(text)
+}

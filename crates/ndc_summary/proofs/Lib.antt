@@ -1,0 +1,4 @@
+mod FoundLemmas
+mod PartLemmas
+mod ShardLemmas
+pub mod TableLemmas

@@ -1,0 +1,83 @@
+ghost use Rattle.std.specs.Prelude.{◌≡◌, ◌<◌, ◌^◌, [], length, map, slice_index_or, true, IfOk};
+ghost use Rattle.std.specs.List.{AllByRecursion};
+ghost use Rattle.ndc_act.specs.WellFormed.{IsCluster, IsWellFormedAct, IsWellFormedHeader};
+ghost use Rattle.ndc_bare.specs.Bare.{is_on_reports};
+ghost use Rattle.ndc_bare.specs.Standing.{IsLeftBy, StandFor};
+ghost use Rattle.ndc_domain.specs.Clusters.{count_of};
+ghost use Rattle.ndc_domain.specs.declared.clusters.ClusterNo.{ClusterNo as Number};
+ghost use Rattle.ndc_model.specs.Fair.{IsShaped};
+ghost use Rattle.ndc_model.specs.Lines.{act_step};
+ghost use Rattle.ndc_model.specs.World.{World, all_clusters};
+
+use ndc_act::{Act, Header, clusters_below};
+use ndc_links::Reads;
+use ndc_network::Network;
+use ndc_progress::Progress;
+use ndc_steps::{Step, answered, reports};
+use std::alloc::{AllocError, Global};
+
+/// Whether a line tells of activities, takes reports over or shows one.
+pub(crate) fn is_on_reports(act: &Act) -> bool
+    ensures { result ≡ is_on_reports act.now }
+{
+    matches!(
+        act,
+        Act::Beat { .. } | Act::Sync { .. } | Act::ProgressOf { .. }
+    )
+}
+
+/// No cluster of a header holds a report.
+pub(crate) fn no_reports(alloc: Global, header: &Header) -> Result<Vec<Progress>, AllocError>
+    ensures { IfOk result (λ reports. reports.items ≡ map (λ _. []) (all_clusters header.now)) }
+{
+    let clusters = clusters_below(alloc, header.clusters.count())?;
+    let mut reports = Vec::new(alloc);
+    for _cluster in clusters.as_slice() {
+        reports.push(Progress::new(alloc))?;
+    }
+    Ok(reports)
+}
+
+/// What a line on progress reports asks for is done.
+#[tactic(auto, unfolding(ndc_model::specs::Lines::act_step))]
+pub(crate) fn report<C: Reads + Drop>(
+    network: &Network<C>,
+    reports: &mut Vec<Progress>,
+    alloc: Global,
+    header: &Header,
+    act: &Act,
+) -> Result<Step, AllocError>
+    requires header { IsWellFormedHeader header.now }
+    requires act { IsWellFormedAct header.now act.now }
+    requires on { is_on_reports act.now ≡ true }
+    requires shaped { IsShaped header.now network.now }
+    requires seats { length reports.old.items ≡ count_of header.now.clusters }
+    requires beats { (cluster : Number) → IsCluster header.now cluster → AllByRecursion (λ report. report.beat < 10 ^ 12) (slice_index_or reports.old.items cluster.number []) }
+    ensures { IfOk result (λ step. (w : World) → StandFor network.now reports.old.items w → IsLeftBy (act_step header.now act.now w) network.now reports.new.items step.answer step.seen) }
+{
+    match act {
+        Act::Beat {
+            cluster,
+            domain,
+            workflow,
+            id,
+            details,
+        } => reports::beat(
+            network, reports, alloc, header, *cluster, domain, workflow, id, details,
+        ),
+        Act::Sync { to, from } => reports::sync(network, reports, alloc, *to, *from),
+        Act::ProgressOf {
+            cluster,
+            domain,
+            workflow,
+            id,
+        } => {
+            let held = reports.as_slice();
+            let text = reports::progress(
+                network, held, alloc, header, *cluster, domain, workflow, id,
+            )?;
+            Ok(answered(alloc, text))
+        }
+        _ => unreachable!(),
+    }
+}
