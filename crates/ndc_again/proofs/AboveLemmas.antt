@@ -19,9 +19,9 @@ use Rattle.ndc_event.specs.Key.{key_lt}
 use Rattle.ndc_event.specs.declared.batch.Batch.{Batch}
 use Rattle.ndc_event.specs.declared.key.BatchKey.{BatchKey}
 use Rattle.ndc_event.specs.declared.name.Name.{Name}
-use Rattle.ndc_fair_arrivals.proofs.ArrivalLemmas.{none-is}
-use Rattle.ndc_fair_arrivals.proofs.FoundLemmas.{at-there}
-use Rattle.ndc_fair_arrivals.proofs.WrittenLemmas.{arrived-written, cell-is, ordered, points-back}
+use Rattle.ndc_fair.proofs.ArrivalLemmas.{none-is}
+use Rattle.ndc_fair.proofs.FoundLemmas.{at-there}
+use Rattle.ndc_fair.proofs.WrittenLemmas.{arrived-written, cell-is, ordered, points-back}
 use Rattle.ndc_model.specs.Facts.{IsReached}
 use Rattle.ndc_model.specs.Moves.{all_written}
 use Rattle.ndc_model.specs.World.{World, cell_at}

@@ -25,13 +25,13 @@ use Rattle.ndc_domain.specs.declared.clusters.ClusterNo.{ClusterNo}
 use Rattle.ndc_event.specs.declared.batch.Batch.{Batch}
 use Rattle.ndc_event.specs.declared.key.BatchKey.{BatchKey}
 use Rattle.ndc_event.specs.declared.name.Name.{Name}
-use Rattle.ndc_fair_arrivals.proofs.ArrivalLemmas.{none-is}
-use Rattle.ndc_fair_arrivals.proofs.FoundLemmas.{at-there, in_order-ordered}
-use Rattle.ndc_fair_arrivals.proofs.ManyLemmas.{among-flat}
-use Rattle.ndc_fair_arrivals.proofs.MessageLemmas.{learned-arrived, learned-true}
-use Rattle.ndc_fair_arrivals.proofs.WrittenLemmas.{arrived-written, cell-is, flat-among, in_order-among, names-of, one-written, own-names, sound-of}
-use Rattle.ndc_fair_resend.proofs.ComeLemmas.{among-order}
-use Rattle.ndc_fair_resend.proofs.WayLemmas.{way-inside}
+use Rattle.ndc_fair.proofs.ArrivalLemmas.{none-is}
+use Rattle.ndc_fair.proofs.FoundLemmas.{at-there, in_order-ordered}
+use Rattle.ndc_fair.proofs.ManyLemmas.{among-flat}
+use Rattle.ndc_fair.proofs.MessageLemmas.{learned-arrived, learned-true}
+use Rattle.ndc_fair.proofs.WrittenLemmas.{arrived-written, cell-is, flat-among, in_order-among, names-of, one-written, own-names, sound-of}
+use Rattle.ndc_fair.proofs.ComeLemmas.{among-order}
+use Rattle.ndc_fair.proofs.WayLemmas.{way-inside}
 use Rattle.ndc_model.specs.Facts.{IsReached}
 use Rattle.ndc_model.specs.Moves.{all_written, ancestors_of, missing_ancestors, sent_again}
 use Rattle.ndc_model.specs.World.{World, cell_at}

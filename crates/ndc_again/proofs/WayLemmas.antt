@@ -5,7 +5,7 @@ use Rattle.ndc_event.specs.Key.{key_eq}
 use Rattle.ndc_event.specs.declared.batch.Batch.{Batch}
 use Rattle.ndc_event.specs.declared.key.BatchKey.{BatchKey}
 use Rattle.ndc_sets.proofs.CurrentLemmas.{key-wanted}
-use Rattle.ndc_fair_resend.proofs.WayLemmas.{Follows, way-follows, way-inside}
+use Rattle.ndc_fair.proofs.WayLemmas.{Follows, way-follows, way-inside}
 use Rattle.ndc_sets.specs.Learned.{IsClosed, WaitsFor, behind, itself}
 use Rattle.ndc_sets.specs.Paths.{Walk, is_wanted}
 use Rattle.ndc_sets.specs.Sets.{Has, IsSet, batch_at, earlier}

@@ -4,8 +4,8 @@ use Rattle.std.specs.List.{AllByRecursion, IsAmong}
 use Rattle.ndc_act.specs.declared.script.Header.{Header}
 use Rattle.ndc_cells.specs.Jobs.{cell_for}
 use Rattle.ndc_domain.specs.declared.clusters.ClusterNo.{ClusterNo}
-use Rattle.ndc_fair_lanes.proofs.FrameLemmas.{cells_in, fair-alike, handovers-alike, letters-alike, letters_in, queues-same, ranges-alike, tables_in, wrote-same}
-use Rattle.ndc_fair_reports.proofs.ReportLemmas.{IsTold}
+use Rattle.ndc_fair.proofs.FrameLemmas.{cells_in, fair-alike, handovers-alike, letters-alike, letters_in, queues-same, ranges-alike, tables_in, wrote-same}
+use Rattle.ndc_fair.proofs.ReportLemmas.{IsTold}
 use Rattle.ndc_model.specs.Facts.{IsReached}
 use Rattle.ndc_model.specs.Fair.{IsShaped}
 use Rattle.ndc_model.specs.World.{Cluster, World, cluster_at}

@@ -17,10 +17,10 @@ use Rattle.ndc_cells.specs.Places.{is_of}
 use Rattle.ndc_dump.specs.Printed.{CanBeDumped, IsOwn}
 use Rattle.ndc_dump.specs.Read.{dump_of}
 use Rattle.ndc_dump.proofs.Printed.{dump-again}
-use Rattle.ndc_fair_arrivals.proofs.LetterLemmas.{shard-below}
+use Rattle.ndc_fair.proofs.LetterLemmas.{shard-below}
 use Rattle.ndc_fair_dumps.specs.Dumps.{HoldsDump, LearnedCanBeDumped}
-use Rattle.ndc_fair_lines.specs.Sometime.{IsReachedSometime}
-use Rattle.ndc_fair_writing.proofs.WriterLemmas.{within}
+use Rattle.ndc_fair.specs.Sometime.{IsReachedSometime}
+use Rattle.ndc_fair.proofs.WriterLemmas.{within}
 use Rattle.ndc_laws.specs.Promised.{line, world_before}
 use Rattle.ndc_laws.proofs.HeadlineLemmas.{ranges, sound}
 use Rattle.ndc_laws.proofs.LinesBefore.{runs-reached}

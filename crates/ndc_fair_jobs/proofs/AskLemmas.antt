@@ -14,22 +14,22 @@ use Rattle.ndc_domain.specs.declared.clusters.ClusterNo.{ClusterNo}
 use Rattle.ndc_event.specs.Outcome.{◌>>=◌}
 use Rattle.ndc_event.specs.declared.batch.Batch.{Batch}
 use Rattle.ndc_event.specs.declared.name.Name.{Name}
-use Rattle.ndc_fair_arrivals.proofs.LetterLemmas.{shard-below}
-use Rattle.ndc_fair_lanes.specs.Writing.{with_cell}
-use Rattle.ndc_fair_lines.proofs.LineLemmas.{more-lines}
-use Rattle.ndc_fair_writing.proofs.LandLemmas.{cell-here}
-use Rattle.ndc_fair_writing.proofs.MoveLemmas.{Leaves, entry-leaves, news-few}
-use Rattle.ndc_fair_writing.proofs.PairLemmas.{joined}
-use Rattle.ndc_fair_writing.proofs.WriterLemmas.{IsWriter, WritesWith, are-few, may-add, may-parts}
+use Rattle.ndc_fair.proofs.LetterLemmas.{shard-below}
+use Rattle.ndc_fair.specs.Writing.{with_cell}
+use Rattle.ndc_fair.proofs.LineLemmas.{more-lines}
+use Rattle.ndc_fair.proofs.LandLemmas.{cell-here}
+use Rattle.ndc_fair.proofs.MoveLemmas.{Leaves, entry-leaves, news-few}
+use Rattle.ndc_fair.proofs.PairLemmas.{joined}
+use Rattle.ndc_fair.proofs.WriterLemmas.{IsWriter, WritesWith, are-few, may-add, may-parts}
 use Rattle.ndc_model.specs.Facts.{IsReached}
 use Rattle.ndc_model.specs.Fair.{written_of}
 use Rattle.ndc_model.specs.World.{World, cell_at, home_at}
 use Rattle.ndc_sets.specs.Branches.{workflow_tip}
 use Rattle.ndc_sets.specs.Sets.{arrived}
 use Rattle.ndc_workflow.specs.Allowed.{IsAllowed, MayTake, MayWrite, MayWriteAll}
-use Rattle.ndc_writes.specs.Entries.{IsWrite, WritesAlone, WritesBehind}
-use Rattle.ndc_writes.proofs.CommandLemmas.{command-writes}
-use Rattle.ndc_writes.proofs.ResetLemmas.{reset-writes}
+use Rattle.ndc_fair.specs.Entries.{IsWrite, WritesAlone, WritesBehind}
+use Rattle.ndc_fair.proofs.CommandLemmas.{command-writes}
+use Rattle.ndc_fair.proofs.ResetLemmas.{reset-writes}
 use Rattle.ndc_fair_jobs.proofs.EntryLemmas.{entry-may}
 use Rattle.ndc_fair_jobs.proofs.RoomLemmas.{has-room}
 

@@ -8,8 +8,8 @@ use Rattle.ndc_cells.specs.declared.job.Job.TheVariants as job
 use Rattle.ndc_command.specs.declared.command.Command.{Command}
 use Rattle.ndc_domain.specs.declared.clusters.ClusterNo.{ClusterNo}
 use Rattle.ndc_event.specs.declared.name.Name.{Name}
-use Rattle.ndc_fair_arrivals.proofs.BringLemmas.{world_after}
-use Rattle.ndc_fair_writing.proofs.MoveLemmas.{command-kept}
+use Rattle.ndc_fair.proofs.BringLemmas.{world_after}
+use Rattle.ndc_fair.proofs.MoveLemmas.{command-kept}
 use Rattle.ndc_model.specs.Facts.{IsReached}
 use Rattle.ndc_model.specs.Moves.{jobs_done}
 use Rattle.ndc_model.specs.Steps.{command_step}

@@ -17,15 +17,15 @@ use Rattle.ndc_domain.specs.Records.{record_of}
 use Rattle.ndc_domain.specs.declared.clusters.ClusterNo.{ClusterNo}
 use Rattle.ndc_event.specs.declared.batch.Batch.{Batch}
 use Rattle.ndc_event.specs.declared.name.Name.{Name}
-use Rattle.ndc_fair_arrivals.proofs.ArrivalLemmas.{own-is}
-use Rattle.ndc_fair_arrivals.proofs.BootstrapLemmas.{learned-itself}
-use Rattle.ndc_fair_arrivals.proofs.BringLemmas.{IsArrival, MayArrive, may-still, world_after}
-use Rattle.ndc_fair_arrivals.proofs.FoundLemmas.{find-passes}
-use Rattle.ndc_fair_arrivals.proofs.ManyLemmas.{due-may, flights-may, many, one-cluster, range-below}
-use Rattle.ndc_fair_arrivals.proofs.MessageLemmas.{again-may, learned-true}
-use Rattle.ndc_fair_lanes.proofs.LaneLemmas.{named-there}
-use Rattle.ndc_fair_lanes.proofs.LinkLemmas.{IsLinkFit, links-fit}
-use Rattle.ndc_fair_writing.proofs.LandLemmas.{set-there}
+use Rattle.ndc_fair.proofs.ArrivalLemmas.{own-is}
+use Rattle.ndc_fair.proofs.BootstrapLemmas.{learned-itself}
+use Rattle.ndc_fair.proofs.BringLemmas.{IsArrival, MayArrive, may-still, world_after}
+use Rattle.ndc_fair.proofs.FoundLemmas.{find-passes}
+use Rattle.ndc_fair.proofs.ManyLemmas.{due-may, flights-may, many, one-cluster, range-below}
+use Rattle.ndc_fair.proofs.MessageLemmas.{again-may, learned-true}
+use Rattle.ndc_fair.proofs.LaneLemmas.{named-there}
+use Rattle.ndc_fair.proofs.LinkLemmas.{IsLinkFit, links-fit}
+use Rattle.ndc_fair.proofs.LandLemmas.{set-there}
 use Rattle.ndc_model.specs.Facts.{IsReached}
 use Rattle.ndc_model.specs.Fair.{IsShaped, is_named}
 use Rattle.ndc_model.specs.Moves.{all_arrive, arrives, by_link, due, in_flight, learned_of_domains, sent_again}

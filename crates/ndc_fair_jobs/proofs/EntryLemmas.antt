@@ -14,15 +14,15 @@ use Rattle.ndc_event.specs.Key.{key_eq}
 use Rattle.ndc_event.specs.declared.batch.Batch.{Batch}
 use Rattle.ndc_event.specs.declared.key.BatchKey.{BatchKey}
 use Rattle.ndc_event.specs.declared.name.Name.{Name}
-use Rattle.ndc_fair_arrivals.proofs.ArrivalLemmas.{own-is}
-use Rattle.ndc_fair_arrivals.proofs.MessageLemmas.{among-true}
-use Rattle.ndc_fair_arrivals.proofs.WrittenLemmas.{arrived-written, flat-among, has-written, names-of, own-names}
-use Rattle.ndc_fair_writing.proofs.FitLemmas.{arrivals-kept, place-new}
-use Rattle.ndc_fair_writing.proofs.HeldLemmas.{held-set, news-names}
-use Rattle.ndc_fair_writing.proofs.LandLemmas.{Write, behind, cell-here, here}
-use Rattle.ndc_fair_writing.proofs.PairLemmas.{entry_with, news}
-use Rattle.ndc_fair_writing.proofs.WriterLemmas.{IsWriter, writable}
-use Rattle.ndc_fair_writing.proofs.WroteLemmas.{writing-kept}
+use Rattle.ndc_fair.proofs.ArrivalLemmas.{own-is}
+use Rattle.ndc_fair.proofs.MessageLemmas.{among-true}
+use Rattle.ndc_fair.proofs.WrittenLemmas.{arrived-written, flat-among, has-written, names-of, own-names}
+use Rattle.ndc_fair.proofs.FitLemmas.{arrivals-kept, place-new}
+use Rattle.ndc_fair.proofs.HeldLemmas.{held-set, news-names}
+use Rattle.ndc_fair.proofs.LandLemmas.{Write, behind, cell-here, here}
+use Rattle.ndc_fair.proofs.PairLemmas.{entry_with, news}
+use Rattle.ndc_fair.proofs.WriterLemmas.{IsWriter, writable}
+use Rattle.ndc_fair.proofs.WroteLemmas.{writing-kept}
 use Rattle.ndc_model.specs.Facts.{IsReached}
 use Rattle.ndc_model.specs.Fair.{IsArrivedFit, IsMessageTrue, written_of}
 use Rattle.ndc_model.specs.Moves.{all_written}
@@ -36,7 +36,7 @@ use Rattle.ndc_sets.proofs.Lists.{Among, all-from, among-filter, filter-among, f
 use Rattle.ndc_sets.proofs.SetLemmas.{found-key}
 use Rattle.ndc_waiting.specs.Waiting.{batches_of, waits_for}
 use Rattle.ndc_workflow.specs.Allowed.{MayWrite}
-use Rattle.ndc_writes.specs.Entries.{IsWrite}
+use Rattle.ndc_fair.specs.Entries.{IsWrite}
 use Rattle.ndc_fair_jobs.proofs.OneLemmas.{first-among, found-sound, second-among, second-parts}
 
 module _ (it : Write) where

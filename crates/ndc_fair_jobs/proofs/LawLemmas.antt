@@ -8,8 +8,8 @@ use Rattle.ndc_cells.specs.Shards.{shard_of}
 use Rattle.ndc_command.specs.declared.command.Command.{Command}
 use Rattle.ndc_domain.specs.declared.clusters.ClusterNo.{ClusterNo}
 use Rattle.ndc_event.specs.declared.name.Name.{Name}
-use Rattle.ndc_fair_lanes.specs.Writing.{count_in}
-use Rattle.ndc_fair_writing.proofs.ApplyLemmas.{applying-kept}
+use Rattle.ndc_fair.specs.Writing.{count_in}
+use Rattle.ndc_fair.proofs.WorkflowApplyLemmas.{applying-kept}
 use Rattle.ndc_model.specs.Facts.{IsReached}
 use Rattle.ndc_model.specs.Fair.{IsMessageTrue}
 use Rattle.ndc_model.specs.Moves.{all_reapply}

@@ -13,12 +13,12 @@ use Rattle.ndc_cells.proofs.PlaceLemmas.{set_of_workflow}
 use Rattle.ndc_domain.specs.declared.clusters.ClusterNo.{ClusterNo}
 use Rattle.ndc_event.specs.declared.batch.Batch.{Batch}
 use Rattle.ndc_event.specs.declared.name.Name.{Name}
-use Rattle.ndc_fair_arrivals.proofs.ArrivalLemmas.{own-is}
-use Rattle.ndc_fair_arrivals.proofs.BringLemmas.{IsArrival}
-use Rattle.ndc_fair_arrivals.proofs.FoundLemmas.{there-among}
-use Rattle.ndc_fair_arrivals.proofs.LetterLemmas.{shard-below}
-use Rattle.ndc_fair_arrivals.proofs.MessageLemmas.{learned-arrived, learned-true}
-use Rattle.ndc_fair_arrivals.proofs.WrittenLemmas.{cell-is, names-of}
+use Rattle.ndc_fair.proofs.ArrivalLemmas.{own-is}
+use Rattle.ndc_fair.proofs.BringLemmas.{IsArrival}
+use Rattle.ndc_fair.proofs.FoundLemmas.{there-among}
+use Rattle.ndc_fair.proofs.LetterLemmas.{shard-below}
+use Rattle.ndc_fair.proofs.MessageLemmas.{learned-arrived, learned-true}
+use Rattle.ndc_fair.proofs.WrittenLemmas.{cell-is, names-of}
 use Rattle.ndc_letters.specs.Letters.{place_of_letter}
 use Rattle.ndc_letters.specs.declared.letter.Letter.{Letter}
 use Rattle.ndc_model.specs.Facts.{IsLetterFit, IsReached}

@@ -20,9 +20,9 @@ use Rattle.ndc_event.specs.declared.batch.Batch.{Batch}
 use Rattle.ndc_event.specs.declared.batch.Event.{Event}
 use Rattle.ndc_event.specs.declared.key.BatchKey.{BatchKey}
 use Rattle.ndc_event.specs.declared.name.Name.{Name}
-use Rattle.ndc_fair_arrivals.proofs.ArrivalLemmas.{none-is, own-is}
-use Rattle.ndc_fair_arrivals.proofs.FoundLemmas.{at-there, find-passes, order-finds, there-among}
-use Rattle.ndc_fair_arrivals.proofs.WrittenLemmas.{has-written, names-of, ordered, own-names, points-back, sound-of, wanted-some}
+use Rattle.ndc_fair.proofs.ArrivalLemmas.{none-is, own-is}
+use Rattle.ndc_fair.proofs.FoundLemmas.{at-there, find-passes, order-finds, there-among}
+use Rattle.ndc_fair.proofs.WrittenLemmas.{has-written, names-of, ordered, own-names, points-back, sound-of, wanted-some}
 use Rattle.ndc_model.specs.Facts.{IsReached}
 use Rattle.ndc_model.specs.Fair.{IsMessageTrue, written_of}
 use Rattle.ndc_model.specs.Moves.{all_written}

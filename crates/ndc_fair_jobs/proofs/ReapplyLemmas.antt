@@ -13,15 +13,15 @@ use Rattle.ndc_command.specs.declared.refusal.Refusal.{Refusal}
 use Rattle.ndc_domain.specs.declared.clusters.ClusterNo.{ClusterNo}
 use Rattle.ndc_event.specs.declared.batch.Batch.{Batch}
 use Rattle.ndc_event.specs.declared.name.Name.{Name}
-use Rattle.ndc_fair_arrivals.proofs.BringLemmas.{world_after}
-use Rattle.ndc_fair_arrivals.proofs.ManyLemmas.{range-below}
-use Rattle.ndc_fair_arrivals.proofs.WrittenLemmas.{arrived-written, lives, names-of}
-use Rattle.ndc_fair_lanes.proofs.FrameLemmas.{tables_in}
-use Rattle.ndc_fair_lanes.specs.Writing.{ApplyingKeeps, applied_in, cell_applied, count_in}
-use Rattle.ndc_fair_lines.proofs.ApplyLemmas.{applied_all, cell-put, one-shard, reapplies}
-use Rattle.ndc_fair_lines.proofs.OwnLemmas.{AreApart, Rise, apart-flip, idle-applied, owns, range-rises, workflows-among, workflows-apart}
-use Rattle.ndc_fair_lines.proofs.RoundLemmas.{applied-tables, has-cell, owns-same}
-use Rattle.ndc_fair_writing.proofs.WriterLemmas.{WritesWith, are-few, may-add, may-parts}
+use Rattle.ndc_fair.proofs.BringLemmas.{world_after}
+use Rattle.ndc_fair.proofs.ManyLemmas.{range-below}
+use Rattle.ndc_fair.proofs.WrittenLemmas.{arrived-written, lives, names-of}
+use Rattle.ndc_fair.proofs.FrameLemmas.{tables_in}
+use Rattle.ndc_fair.specs.Writing.{ApplyingKeeps, applied_in, cell_applied, count_in}
+use Rattle.ndc_fair.proofs.ApplyLemmas.{applied_all, cell-put, one-shard, reapplies}
+use Rattle.ndc_fair.proofs.OwnLemmas.{AreApart, Rise, apart-flip, idle-applied, owns, range-rises, workflows-among, workflows-apart}
+use Rattle.ndc_fair.proofs.RoundLemmas.{applied-tables, has-cell, owns-same}
+use Rattle.ndc_fair.proofs.WriterLemmas.{WritesWith, are-few, may-add, may-parts}
 use Rattle.ndc_model.specs.Facts.{IsReached}
 use Rattle.ndc_model.specs.Fair.{written_of}
 use Rattle.ndc_model.specs.Moves.{all_reapply, all_written}
@@ -34,8 +34,8 @@ use Rattle.ndc_sets.proofs.BranchLemmas.{has-among}
 use Rattle.ndc_sets.proofs.Lists.{Among, all-among, all-from, filter-among}
 use Rattle.ndc_text.specs.Ranges.{InRange}
 use Rattle.ndc_workflow.specs.Allowed.{HasRoom, IsAllowed, MayReapply, MayWriteAll}
-use Rattle.ndc_writes.proofs.MayLemmas.{tip-all}
-use Rattle.ndc_writes.proofs.ReapplyLemmas.{reapplication-writes}
+use Rattle.ndc_fair.proofs.MayLemmas.{tip-all}
+use Rattle.ndc_fair.proofs.ReapplyLemmas.{reapplication-writes}
 use Rattle.ndc_fair_jobs.proofs.ComeLemmas.{allowed-more}
 use Rattle.ndc_fair_jobs.proofs.EntryLemmas.{entry-may}
 use Rattle.ndc_fair_jobs.proofs.RoomLemmas.{has-room}

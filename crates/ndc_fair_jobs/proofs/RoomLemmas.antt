@@ -9,8 +9,8 @@ use Rattle.ndc_cells.proofs.PlaceLemmas.{set_of_workflow}
 use Rattle.ndc_domain.specs.declared.clusters.ClusterNo.{ClusterNo}
 use Rattle.ndc_event.specs.declared.batch.Batch.{Batch}
 use Rattle.ndc_event.specs.declared.name.Name.{Name}
-use Rattle.ndc_fair_arrivals.proofs.WrittenLemmas.{cell-is}
-use Rattle.ndc_fair_writing.proofs.WriterLemmas.{within}
+use Rattle.ndc_fair.proofs.WrittenLemmas.{cell-is}
+use Rattle.ndc_fair.proofs.WriterLemmas.{within}
 use Rattle.ndc_model.specs.Facts.{IsReached}
 use Rattle.ndc_model.specs.Fair.{AreNumbersSmall, written_of}
 use Rattle.ndc_model.specs.World.{World, cell_at}
@@ -21,11 +21,11 @@ use Rattle.ndc_sets.proofs.BranchLemmas.{among-has, has-among}
 use Rattle.ndc_sets.proofs.LearnedLemmas.{learned_closed}
 use Rattle.ndc_sets.proofs.Lists.{Among, all-among}
 use Rattle.ndc_workflow.specs.Allowed.{HasRoom}
-use Rattle.ndc_writes.specs.Adding.{MayAdd}
-use Rattle.ndc_writes.proofs.CountLemmas.{events-most}
-use Rattle.ndc_writes.proofs.EntryLemmas.{greatest-least}
-use Rattle.ndc_writes.proofs.MayLemmas.{events-same, next-counts, version-most}
-use Rattle.ndc_writes.proofs.StrayLemmas.{strays-few}
+use Rattle.ndc_fair.specs.Adding.{MayAdd}
+use Rattle.ndc_fair.proofs.CountLemmas.{events-most}
+use Rattle.ndc_fair.proofs.EntryLemmas.{greatest-least}
+use Rattle.ndc_fair.proofs.MayLemmas.{events-same, next-counts, version-most}
+use Rattle.ndc_fair.proofs.StrayLemmas.{strays-few}
 
 module _ (header : Header) (lines : ℕ) (w : World) (is : IsReached header lines w) (cluster : ClusterNo) (known : IsCluster header cluster) (domain workflow : Name)
     (below : shard_of domain workflow header.shards < header.shards) where

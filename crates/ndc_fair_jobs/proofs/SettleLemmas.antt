@@ -8,15 +8,15 @@ use Rattle.ndc_domain.specs.Clusters.{count_of}
 use Rattle.ndc_domain.specs.declared.clusters.ClusterNo.{ClusterNo}
 use Rattle.ndc_event.specs.declared.batch.Batch.{Batch}
 use Rattle.ndc_event.specs.declared.name.Name.{Name}
-use Rattle.ndc_fair_arrivals.proofs.LawLemmas.{flights_kept}
-use Rattle.ndc_fair_lanes.proofs.LaneLemmas.{emptied}
-use Rattle.ndc_fair_lanes.specs.Writing.{count_in}
-use Rattle.ndc_fair_lines.proofs.LineLemmas.{more-lines, room-for, settled_kept, settled_most}
-use Rattle.ndc_fair_lines.proofs.OwnLemmas.{owns}
-use Rattle.ndc_fair_lines.proofs.RoundLemmas.{IsRound, owns-same, reapplied-round}
-use Rattle.ndc_fair_lines.proofs.SettleLemmas.{AreDifferent, IsAlike, OneOwner, alike-then, below-different, bootstrap-alike, count-alike, due-alike, one-owner, others-two}
-use Rattle.ndc_fair_lines.proofs.TableRound.{IsSpread, OneTable, tables-one}
-use Rattle.ndc_fair_writing.proofs.ApplyLemmas.{applying-kept}
+use Rattle.ndc_fair.proofs.ArrivalLaws.{flights_kept}
+use Rattle.ndc_fair.proofs.LaneLemmas.{emptied}
+use Rattle.ndc_fair.specs.Writing.{count_in}
+use Rattle.ndc_fair.proofs.LineLemmas.{more-lines, room-for, settled_kept, settled_most}
+use Rattle.ndc_fair.proofs.OwnLemmas.{owns}
+use Rattle.ndc_fair.proofs.RoundLemmas.{IsRound, owns-same, reapplied-round}
+use Rattle.ndc_fair.proofs.SettleLemmas.{AreDifferent, IsAlike, OneOwner, alike-then, below-different, bootstrap-alike, count-alike, due-alike, one-owner, others-two}
+use Rattle.ndc_fair.proofs.TableRound.{IsSpread, OneTable, tables-one}
+use Rattle.ndc_fair.proofs.WorkflowApplyLemmas.{applying-kept}
 use Rattle.ndc_model.specs.Facts.{IsReached}
 use Rattle.ndc_model.specs.Moves.{Trace, all_reapply, bootstrapped, due_arrived, flights_arrived, from_world, quietly, reapplied_all, settled_once, without_flights}
 use Rattle.ndc_model.specs.World.{World, all_clusters, others_of, shards_of}

@@ -7,7 +7,7 @@ ghost use Rattle.ndc_cells.specs.Shards.{shard_of};
 ghost use Rattle.ndc_command.specs.declared.command.Command.{Command as Asked};
 ghost use Rattle.ndc_domain.specs.declared.clusters.ClusterNo.{ClusterNo as Number};
 ghost use Rattle.ndc_event.specs.declared.name.Name.{Name as Text};
-ghost use Rattle.ndc_fair_lanes.specs.Writing.{count_in};
+ghost use Rattle.ndc_fair.specs.Writing.{count_in};
 ghost use Rattle.ndc_model.specs.Facts.{IsReached};
 ghost use Rattle.ndc_model.specs.Moves.{all_reapply};
 ghost use Rattle.ndc_model.specs.World.{World, cell_at, home_at};

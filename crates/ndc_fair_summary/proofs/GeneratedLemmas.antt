@@ -19,7 +19,7 @@ use Rattle.ndc_fair_summary.specs.Shared.{SharesAll}
 use Rattle.ndc_fair_summary.proofs.KeepLemmas.{domains-share, failover-shares, register-shares, stay-shares}
 use Rattle.ndc_fair_summary.proofs.SameLemmas.{clusters-same}
 use Rattle.ndc_fair_summary.proofs.SettleLemmas.{settle-shares}
-use Rattle.ndc_fair_versions.proofs.StayLemmas.{command-stay, pull-stay, work-stay}
+use Rattle.ndc_laws.proofs.StayLemmas.{command-stay, pull-stay, work-stay}
 use Rattle.ndc_laws.specs.Promised.{RunsReached, world_before}
 use Rattle.ndc_laws.proofs.LinesBefore.{runs-reached}
 use Rattle.ndc_laws.proofs.ReachedLemmas.{line_reached}

@@ -18,7 +18,7 @@ use Rattle.ndc_domain.proofs.Tables.{found_has}
 use Rattle.ndc_domain.proofs.Unions.{union_has_ours}
 use Rattle.ndc_event.specs.declared.name.Name.{Name}
 use Rattle.ndc_fair_summary.specs.Shared.{NamesAll, SharesAll}
-use Rattle.ndc_fair_versions.proofs.StayLemmas.{AreTables, TablesStay}
+use Rattle.ndc_laws.proofs.StayLemmas.{AreTables, TablesStay}
 use Rattle.ndc_model.specs.Tables.{domains_step, failover_words, register_words, table_step}
 use Rattle.ndc_model.specs.World.{Cluster, World, cluster_at, new_cluster, with_table}
 use Rattle.ndc_model.proofs.WorldLemmas.{set-cases}

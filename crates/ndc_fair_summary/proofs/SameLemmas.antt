@@ -16,7 +16,7 @@ use Rattle.ndc_domain.specs.declared.record.DomainRecord.{DomainRecord}
 use Rattle.ndc_domain.specs.Records.{record_of}
 use Rattle.ndc_event.specs.declared.batch.Batch.{Batch}
 use Rattle.ndc_event.specs.Key.{key_eq}
-use Rattle.ndc_fair_settlement.specs.Settled.{IsSettled}
+use Rattle.ndc_fair.specs.Settled.{IsSettled}
 use Rattle.ndc_fair_summary.specs.Shared.{SharesAll}
 use Rattle.ndc_model.specs.Facts.{IsReached}
 use Rattle.ndc_model.specs.Fair.{IsOwn, written_of}

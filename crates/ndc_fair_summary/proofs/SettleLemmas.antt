@@ -12,7 +12,7 @@ use Rattle.ndc_domain.specs.declared.record.DomainRecord.{DomainRecord}
 use Rattle.ndc_domain.proofs.BothTables.{IsTable-merged}
 use Rattle.ndc_fair_summary.specs.Shared.{SharesAll}
 use Rattle.ndc_fair_summary.proofs.KeepLemmas.{domains-share, stay-shares}
-use Rattle.ndc_fair_versions.proofs.StayLemmas.{AreTables, TablesStay, bootstrap-stay, due-stay, reapplied-stay, renewed-stay}
+use Rattle.ndc_laws.proofs.StayLemmas.{AreTables, TablesStay, bootstrap-stay, due-stay, reapplied-stay, renewed-stay}
 use Rattle.ndc_model.specs.Moves.{Trace, after_settlement, bootstrapped, due_arrived, from_world, merged_all, quietly, reapplied_all, renewed, settled_once, without_flights}
 use Rattle.ndc_model.specs.Sending.{settle_step}
 use Rattle.ndc_model.specs.World.{Cluster, World, all_clusters, cluster_at, new_cluster, others_of, with_table}

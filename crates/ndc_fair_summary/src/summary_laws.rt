@@ -1,7 +1,7 @@
 // Whether clusters come to be the same, as laws.
 ghost use Rattle.std.specs.Prelude.{◌≡◌, ℕ, ◌≤◌, true};
 ghost use Rattle.ndc_act.specs.declared.script.Header.{Header as Head};
-ghost use Rattle.ndc_fair_settlement.specs.Settled.{IsSettled};
+ghost use Rattle.ndc_fair.specs.Settled.{IsSettled};
 ghost use Rattle.ndc_fair_summary.specs.Shared.{SharesAll};
 ghost use Rattle.ndc_laws.specs.Promised.{world_before};
 ghost use Rattle.ndc_model.specs.Facts.{IsReached};

@@ -12,8 +12,8 @@ use Rattle.ndc_domain.specs.declared.clusters.ClusterNo.{ClusterNo}
 use Rattle.ndc_event.specs.declared.batch.Batch.{Batch}
 use Rattle.ndc_event.specs.declared.key.BatchKey.{BatchKey}
 use Rattle.ndc_event.specs.declared.name.Name.{Name}
-use Rattle.ndc_fair_arrivals.proofs.FoundLemmas.{at-there}
-use Rattle.ndc_fair_arrivals.proofs.WrittenLemmas.{arrived-written, cell-is, has-written, names-of, own-names}
+use Rattle.ndc_fair.proofs.FoundLemmas.{at-there}
+use Rattle.ndc_fair.proofs.WrittenLemmas.{arrived-written, cell-is, has-written, names-of, own-names}
 use Rattle.ndc_laws.specs.Promised.{LacksAncestor, WaitsForAncestors}
 use Rattle.ndc_model.specs.Facts.{IsReached}
 use Rattle.ndc_model.specs.Fair.{written_of}

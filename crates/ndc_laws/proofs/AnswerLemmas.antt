@@ -15,14 +15,14 @@ use Rattle.ndc_cells.specs.Shards.{shard_of}
 use Rattle.ndc_domain.specs.declared.clusters.ClusterNo.{ClusterNo}
 use Rattle.ndc_event.specs.declared.batch.Batch.{Batch}
 use Rattle.ndc_event.specs.declared.key.BatchKey.{BatchKey}
-use Rattle.ndc_fair_arrivals.proofs.BringLemmas.{HasCome, IsBrought, MayArrive, one-arrives, world_after}
-use Rattle.ndc_fair_arrivals.proofs.FoundLemmas.{at-there, order-finds, there-among, there-place}
-use Rattle.ndc_fair_arrivals.proofs.WrittenLemmas.{arrived-written, ordered, own-names}
-use Rattle.ndc_fair_writing.proofs.LandLemmas.{cell-here}
+use Rattle.ndc_fair.proofs.BringLemmas.{HasCome, IsBrought, MayArrive, one-arrives, world_after}
+use Rattle.ndc_fair.proofs.FoundLemmas.{at-there, order-finds, there-among, there-place}
+use Rattle.ndc_fair.proofs.WrittenLemmas.{arrived-written, ordered, own-names}
+use Rattle.ndc_fair.proofs.LandLemmas.{cell-here}
 use Rattle.ndc_laws.specs.Promised.{FirstMissing, LacksAncestor}
 use Rattle.ndc_laws.proofs.AncestorLemmas.{arrived-set, waits-for-ancestors}
 use Rattle.ndc_laws.proofs.MissingLemmas.{first-missing}
-use Rattle.ndc_shown.proofs.MissingLemmas.{none-missing}
+use Rattle.ndc_fair.proofs.MissingLemmas.{none-missing}
 use Rattle.ndc_model.specs.Facts.{IsReached}
 use Rattle.ndc_model.specs.Fair.{IsMessageTrue, is_named, written_of}
 use Rattle.ndc_model.specs.Moves.{all_written, arrives}

@@ -12,11 +12,11 @@ use Rattle.ndc_cells.specs.Places.{place_of}
 use Rattle.ndc_cells.specs.Writing.{same_cluster}
 use Rattle.ndc_domain.specs.declared.clusters.ClusterNo.{ClusterNo}
 use Rattle.ndc_event.specs.Batch.{fault_of}
-use Rattle.ndc_fair_arrivals.proofs.FoundLemmas.{find-passes, there-among}
-use Rattle.ndc_fair_arrivals.proofs.ManyLemmas.{one-cluster}
-use Rattle.ndc_fair_arrivals.proofs.WrittenLemmas.{has-written}
-use Rattle.ndc_fair_lanes.proofs.LinkLemmas.{IsLinkFit, links-fit}
-use Rattle.ndc_fair_lines.proofs.TrimmedLemmas.{link-there}
+use Rattle.ndc_fair.proofs.FoundLemmas.{find-passes, there-among}
+use Rattle.ndc_fair.proofs.ManyLemmas.{one-cluster}
+use Rattle.ndc_fair.proofs.WrittenLemmas.{has-written}
+use Rattle.ndc_fair.proofs.LinkLemmas.{IsLinkFit, links-fit}
+use Rattle.ndc_fair.proofs.TrimmedLemmas.{link-there}
 use Rattle.ndc_letters.specs.Letters.{letter_of}
 use Rattle.ndc_letters.specs.declared.letter.Letter.{Letter}
 use Rattle.ndc_model.specs.Facts.{IsReached}

@@ -23,15 +23,15 @@ use Rattle.ndc_event.specs.declared.batch.Batch.{Batch}
 use Rattle.ndc_event.specs.declared.key.BatchKey.{BatchKey}
 use Rattle.ndc_event.specs.declared.name.Name.{Name}
 use Rattle.ndc_event.specs.Batch.{is_carrier_fit}
-use Rattle.ndc_fair_arrivals.proofs.ArrivalLemmas.{own-is}
-use Rattle.ndc_fair_arrivals.proofs.FoundLemmas.{find-passes}
-use Rattle.ndc_fair_arrivals.proofs.LetterLemmas.{shard-below}
-use Rattle.ndc_fair_arrivals.proofs.ManyLemmas.{among-flat, one-cluster}
-use Rattle.ndc_fair_arrivals.proofs.WrittenLemmas.{names-of, wanted-some}
-use Rattle.ndc_fair_lanes.proofs.LinkLemmas.{IsLinkFit, links-fit}
-use Rattle.ndc_fair_lines.proofs.TrimmedLemmas.{link-there}
-use Rattle.ndc_fair_settlement.proofs.CameLemmas.{written-message}
-use Rattle.ndc_fair_writing.proofs.WriterLemmas.{within, may-parts}
+use Rattle.ndc_fair.proofs.ArrivalLemmas.{own-is}
+use Rattle.ndc_fair.proofs.FoundLemmas.{find-passes}
+use Rattle.ndc_fair.proofs.LetterLemmas.{shard-below}
+use Rattle.ndc_fair.proofs.ManyLemmas.{among-flat, one-cluster}
+use Rattle.ndc_fair.proofs.WrittenLemmas.{names-of, wanted-some}
+use Rattle.ndc_fair.proofs.LinkLemmas.{IsLinkFit, links-fit}
+use Rattle.ndc_fair.proofs.TrimmedLemmas.{link-there}
+use Rattle.ndc_fair.proofs.CameLemmas.{written-message}
+use Rattle.ndc_fair.proofs.WriterLemmas.{within, may-parts}
 use Rattle.ndc_graceful.specs.Ready.{lagging_from, not_below, ready_of, ready_unless}
 use Rattle.ndc_graceful.specs.declared.handover.Handover.{Handover}
 use Rattle.ndc_graceful.specs.declared.handover.ReadyError.TheVariants.{NotYet}
@@ -44,7 +44,7 @@ use Rattle.ndc_model.specs.Reading.{learned_at}
 use Rattle.ndc_model.specs.World.{Link, World, cell_at, cluster_at, is_late_in, is_link, lane_at, link_at, link_found, queue_at, cell_of, home_at}
 use Rattle.ndc_queue.specs.Levels.{LevelPair, new_levels}
 use Rattle.ndc_event.specs.Key.{key_lt}
-use Rattle.ndc_fair_writing.proofs.OneWriterLemmas.{learned_sound}
+use Rattle.ndc_fair.proofs.OneWriterLemmas.{learned_sound}
 use Rattle.ndc_sets.specs.Branches.{current_tip, greatest_key}
 use Rattle.ndc_sets.specs.Paths.{is_wanted}
 use Rattle.ndc_sets.specs.Sets.{Has, batch_at}

@@ -6,12 +6,12 @@ use Rattle.ndc_act.specs.declared.script.Header.{Header}
 use Rattle.ndc_domain.specs.declared.clusters.ClusterNo.{ClusterNo}
 use Rattle.ndc_event.specs.declared.batch.Batch.{Batch}
 use Rattle.ndc_event.specs.declared.name.Name.{Name}
-use Rattle.ndc_fair_arrivals.proofs.LetterLemmas.{shard-below}
-use Rattle.ndc_fair_writing.specs.OneWriter.{EachHasOneCurrent}
-use Rattle.ndc_fair_writing.proofs.OneWriterLemmas.{learned_sound}
-use Rattle.ndc_fair_writing.proofs.WriterLemmas.{within}
+use Rattle.ndc_fair.proofs.LetterLemmas.{shard-below}
+use Rattle.ndc_fair.specs.OneWriter.{EachHasOneCurrent}
+use Rattle.ndc_fair.proofs.OneWriterLemmas.{learned_sound}
+use Rattle.ndc_fair.proofs.WriterLemmas.{within}
 use Rattle.ndc_laws.specs.Promised.{AnswerAlike, ComparesSame, LearnedTheSame, StatesAreReplays, TipsDiffer}
-use Rattle.ndc_shown.proofs.DumpLemmas.{shown-same}
+use Rattle.ndc_fair.proofs.DumpLemmas.{shown-same}
 use Rattle.ndc_model.specs.Facts.{IsReached}
 use Rattle.ndc_model.specs.Fair.{written_of}
 use Rattle.ndc_model.specs.Lines.{act_step}

@@ -12,3 +12,11 @@ pub mod HandoverLemmas
 pub mod ResetLemmas
 pub mod HeldLemmas
 pub mod ReachedLemmas
+pub mod StayLemmas
+pub mod GrowLemmas
+pub mod AboveLemmas
+pub mod WriteLemmas
+pub mod SettleLemmas
+pub mod LineLemmas
+pub mod EndedLemmas
+pub mod ScriptLemmas

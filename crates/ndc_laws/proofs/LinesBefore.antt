@@ -11,8 +11,8 @@ use Rattle.ndc_act.specs.declared.script.BurstJob.{BurstJob}
 use Rattle.ndc_act.specs.declared.script.Header.{Header}
 use Rattle.ndc_act.specs.declared.script.Line.{Line}
 use Rattle.ndc_domain.specs.Clusters.{name_of}
-use Rattle.ndc_fair_lines.proofs.LineLemmas.{line_kept}
-use Rattle.ndc_fair_writing.proofs.ApplyLemmas.{writing_keeps}
+use Rattle.ndc_fair.proofs.LineLemmas.{line_kept}
+use Rattle.ndc_fair.proofs.WorkflowApplyLemmas.{writing_keeps}
 use Rattle.ndc_laws.specs.Promised.{RunsReached, world_before}
 use Rattle.ndc_model.specs.Facts.{IsReached}
 use Rattle.ndc_model.specs.Laws.{script_of}

@@ -16,13 +16,13 @@ use Rattle.ndc_cells.specs.Shards.{shard_of}
 use Rattle.ndc_domain.specs.declared.clusters.ClusterNo.{ClusterNo}
 use Rattle.ndc_event.specs.declared.batch.Batch.{Batch}
 use Rattle.ndc_event.specs.declared.name.Name.{Name}
-use Rattle.ndc_fair_arrivals.proofs.ArrivalLemmas.{own-is}
-use Rattle.ndc_fair_arrivals.proofs.BringLemmas.{HasCome, IsArrival, world_after}
-use Rattle.ndc_fair_arrivals.proofs.FoundLemmas.{at-place}
-use Rattle.ndc_fair_arrivals.proofs.LetterLemmas.{shard-below}
-use Rattle.ndc_fair_arrivals.proofs.ManyLemmas.{among-flat, many}
-use Rattle.ndc_fair_arrivals.proofs.MessageLemmas.{learned-true}
-use Rattle.ndc_fair_writing.proofs.OneWriterLemmas.{learned_sound}
+use Rattle.ndc_fair.proofs.ArrivalLemmas.{own-is}
+use Rattle.ndc_fair.proofs.BringLemmas.{HasCome, IsArrival, world_after}
+use Rattle.ndc_fair.proofs.FoundLemmas.{at-place}
+use Rattle.ndc_fair.proofs.LetterLemmas.{shard-below}
+use Rattle.ndc_fair.proofs.ManyLemmas.{among-flat, many}
+use Rattle.ndc_fair.proofs.MessageLemmas.{learned-true}
+use Rattle.ndc_fair.proofs.OneWriterLemmas.{learned_sound}
 use Rattle.ndc_laws.specs.Promised.{HasArrivedFor}
 use Rattle.ndc_letters.specs.Letters.{place_of_letter}
 use Rattle.ndc_letters.specs.declared.letter.Letter.{Letter}

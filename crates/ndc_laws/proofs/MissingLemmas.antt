@@ -5,7 +5,7 @@ use Rattle.ndc_event.specs.Key.{key_eq}
 use Rattle.ndc_event.specs.declared.batch.Batch.{Batch}
 use Rattle.ndc_event.specs.declared.key.BatchKey.{BatchKey}
 use Rattle.ndc_laws.specs.Promised.{FirstMissing, comes_next, further}
-use Rattle.ndc_shown.proofs.MissingLemmas.{back-up, wanted_behind, whole}
+use Rattle.ndc_fair.proofs.MissingLemmas.{back-up, wanted_behind, whole}
 use Rattle.ndc_sets.specs.Paths.{is_wanted}
 use Rattle.ndc_sets.specs.Sets.{Has, IsSet, batch_at, earlier}
 use Rattle.ndc_sets.proofs.BranchLemmas.{has-among}

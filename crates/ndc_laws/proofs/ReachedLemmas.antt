@@ -5,10 +5,10 @@ use Rattle.ndc_act.specs.WellFormed.{IsWellFormed, IsWellFormedAct, IsWellFormed
 use Rattle.ndc_act.specs.declared.script.Act.{Act}
 use Rattle.ndc_act.specs.declared.script.Header.{Header}
 use Rattle.ndc_act.specs.declared.script.Script.{Script}
-use Rattle.ndc_fair_lines.specs.Sometime.{IsReachedSometime}
-use Rattle.ndc_fair_lines.proofs.LineLemmas.{line_kept}
-use Rattle.ndc_fair_lines.proofs.ScriptLemmas.{worlds_kept}
-use Rattle.ndc_fair_writing.proofs.ApplyLemmas.{writing_keeps}
+use Rattle.ndc_fair.specs.Sometime.{IsReachedSometime}
+use Rattle.ndc_fair.proofs.LineLemmas.{line_kept}
+use Rattle.ndc_fair.proofs.ScriptLemmas.{worlds_kept}
+use Rattle.ndc_fair.proofs.WorkflowApplyLemmas.{writing_keeps}
 use Rattle.ndc_laws.specs.Promised.{IsAsPromised}
 use Rattle.ndc_laws.proofs.AncestorLemmas.{waits-for-ancestors}
 use Rattle.ndc_laws.proofs.HeadlineLemmas.{answers-alike, compares-same, each-current, origins-differ, states-replay, tips-differ}

@@ -21,13 +21,13 @@ use Rattle.ndc_event.specs.declared.batch.Batch.{Batch}
 use Rattle.ndc_event.specs.declared.key.BatchKey.{BatchKey}
 use Rattle.ndc_event.specs.declared.kind.EventKind.{EventKind}
 use Rattle.ndc_event.specs.declared.name.Name.{Name}
-use Rattle.ndc_fair_arrivals.proofs.LetterLemmas.{shard-below}
-use Rattle.ndc_fair_arrivals.proofs.WrittenLemmas.{cell-is, own-names}
-use Rattle.ndc_fair_writing.proofs.JoinedLemmas.{first-back}
-use Rattle.ndc_fair_writing.proofs.LandLemmas.{cell-here}
-use Rattle.ndc_fair_writing.proofs.MoveLemmas.{reset-kept}
-use Rattle.ndc_fair_writing.proofs.OneWriterLemmas.{learned_sound}
-use Rattle.ndc_fair_writing.proofs.WriterLemmas.{WritesWith, are-few, may-add, may-parts}
+use Rattle.ndc_fair.proofs.LetterLemmas.{shard-below}
+use Rattle.ndc_fair.proofs.WrittenLemmas.{cell-is, own-names}
+use Rattle.ndc_fair.proofs.JoinedLemmas.{first-back}
+use Rattle.ndc_fair.proofs.LandLemmas.{cell-here}
+use Rattle.ndc_fair.proofs.MoveLemmas.{reset-kept}
+use Rattle.ndc_fair.proofs.OneWriterLemmas.{learned_sound}
+use Rattle.ndc_fair.proofs.WriterLemmas.{WritesWith, are-few, may-add, may-parts}
 use Rattle.ndc_laws.specs.Promised.{IsResetFrom}
 use Rattle.ndc_laws.proofs.AncestorLemmas.{arrived-part, arrived-set}
 use Rattle.ndc_laws.proofs.HeadlineLemmas.{replayed}
@@ -63,10 +63,10 @@ use Rattle.ndc_state.specs.Replay.{history_of, replay_of}
 use Rattle.ndc_state.specs.Value.{StateValue}
 use Rattle.ndc_state.specs.Written.{events_from}
 use Rattle.ndc_state.specs.declared.rule.StateError.{StateError}
-use Rattle.ndc_writes.specs.Adding.{MayAdd}
-use Rattle.ndc_writes.specs.Entries.{AreFew, IsWrite}
-use Rattle.ndc_writes.proofs.MayLemmas.{new-above, tip-part, tip-state, part-sound}
-use Rattle.ndc_writes.proofs.ResetLemmas.{IsReset, behind-write, close-write, one-write, reset-is}
+use Rattle.ndc_fair.specs.Adding.{MayAdd}
+use Rattle.ndc_fair.specs.Entries.{AreFew, IsWrite}
+use Rattle.ndc_fair.proofs.MayLemmas.{new-above, tip-part, tip-state, part-sound}
+use Rattle.ndc_fair.proofs.ResetLemmas.{IsReset, behind-write, close-write, one-write, reset-is}
 
 -- a batch of a key that nothing in a closed set has makes nothing else of it learned
 module _ (all held : List Batch) (new : Batch) (closed : IsClosed all) (set : IsSet held) (part : IsPart held all) (fresh : batch_at new.key all ≡ None) (back : PointsBack new) where

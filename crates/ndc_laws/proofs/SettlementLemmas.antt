@@ -5,10 +5,10 @@ use Rattle.ndc_act.specs.declared.script.Act.TheVariants as act
 use Rattle.ndc_act.specs.declared.script.Header.{Header}
 use Rattle.ndc_act.specs.declared.script.Line.{Line}
 use Rattle.ndc_domain.specs.declared.clusters.ClusterNo.{ClusterNo}
-use Rattle.ndc_fair_resend.proofs.ResendLemmas.{resent_whole}
-use Rattle.ndc_fair_settlement.specs.Settled.{IsSettled}
-use Rattle.ndc_fair_settlement.proofs.SettledLemmas.{settlement_settled}
-use Rattle.ndc_fair_writing.proofs.ApplyLemmas.{applying-kept}
+use Rattle.ndc_fair.proofs.ResendLemmas.{resent_whole}
+use Rattle.ndc_fair.specs.Settled.{IsSettled}
+use Rattle.ndc_fair.proofs.SettledLemmas.{settlement_settled}
+use Rattle.ndc_fair.proofs.WorkflowApplyLemmas.{applying-kept}
 use Rattle.ndc_laws.specs.Promised.{NothingPutOff, line, world_before}
 use Rattle.ndc_laws.proofs.LinesBefore.{runs-reached}
 use Rattle.ndc_laws.proofs.SettlesLemmas.{applying-settles}

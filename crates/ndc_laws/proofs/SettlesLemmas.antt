@@ -12,13 +12,13 @@ use Rattle.ndc_domain.specs.declared.clusters.ClusterNo.{ClusterNo}
 use Rattle.ndc_event.specs.declared.batch.Batch.{Batch}
 use Rattle.ndc_event.specs.declared.key.RunId.{RunId}
 use Rattle.ndc_event.specs.declared.kind.EventKind.{EventKind}
-use Rattle.ndc_fair_arrivals.proofs.WrittenLemmas.{cell-is, names-of, own-names}
-use Rattle.ndc_fair_lanes.specs.Writing.{applied_in, count_in, with_cell}
-use Rattle.ndc_fair_settlement.specs.Settled.{ApplyingSettles, IsOwnSettled}
-use Rattle.ndc_fair_writing.proofs.JoinedLemmas.{first-back}
-use Rattle.ndc_fair_writing.proofs.LandLemmas.{cell-here}
-use Rattle.ndc_fair_writing.proofs.MoveLemmas.{Leaves, entry-leaves, same-world}
-use Rattle.ndc_fair_writing.proofs.WriterLemmas.{WritesWith, are-few, may-add, may-parts}
+use Rattle.ndc_fair.proofs.WrittenLemmas.{cell-is, names-of, own-names}
+use Rattle.ndc_fair.specs.Writing.{applied_in, count_in, with_cell}
+use Rattle.ndc_fair.specs.Settled.{ApplyingSettles, IsOwnSettled}
+use Rattle.ndc_fair.proofs.JoinedLemmas.{first-back}
+use Rattle.ndc_fair.proofs.LandLemmas.{cell-here}
+use Rattle.ndc_fair.proofs.MoveLemmas.{Leaves, entry-leaves, same-world}
+use Rattle.ndc_fair.proofs.WriterLemmas.{WritesWith, are-few, may-add, may-parts}
 use Rattle.ndc_laws.proofs.AncestorLemmas.{arrived-part, arrived-set}
 use Rattle.ndc_laws.proofs.StrayLemmas.{no-stray}
 use Rattle.ndc_model.specs.Facts.{IsReached}
@@ -41,10 +41,10 @@ use Rattle.ndc_sets.proofs.Lists.{Among, all-among, among-map, filter-among}
 use Rattle.ndc_state.specs.Value.{StateValue}
 use Rattle.ndc_state.specs.Written.{events_from, failover_close, wake}
 use Rattle.ndc_text.specs.Ranges.{InRange}
-use Rattle.ndc_writes.specs.Adding.{MayAdd}
-use Rattle.ndc_writes.specs.Entries.{AreFew, IsWrite}
-use Rattle.ndc_writes.proofs.MayLemmas.{new-above, tip-all}
-use Rattle.ndc_writes.proofs.ReapplyLemmas.{reapplication-writes}
+use Rattle.ndc_fair.specs.Adding.{MayAdd}
+use Rattle.ndc_fair.specs.Entries.{AreFew, IsWrite}
+use Rattle.ndc_fair.proofs.MayLemmas.{new-above, tip-all}
+use Rattle.ndc_fair.proofs.ReapplyLemmas.{reapplication-writes}
 
 -- where there is none, there is none where the run is open
 none-at-all : (o : Option Batch) (batches : List Batch) (list : List Stray) → list ≡ [] → NoneWhereOpen o batches list

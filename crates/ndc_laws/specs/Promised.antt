@@ -14,7 +14,7 @@ use Rattle.ndc_event.specs.declared.batch.Batch.{Batch}
 use Rattle.ndc_event.specs.declared.key.BatchKey.{BatchKey}
 use Rattle.ndc_event.specs.declared.key.RunId.{RunId}
 use Rattle.ndc_event.specs.declared.name.Name.{Name}
-use Rattle.ndc_fair_writing.specs.OneWriter.{EachHasOneCurrent}
+use Rattle.ndc_fair.specs.OneWriter.{EachHasOneCurrent}
 use Rattle.ndc_letters.specs.Letters.{place_of_letter}
 use Rattle.ndc_letters.specs.declared.letter.Letter.{Letter}
 use Rattle.ndc_model.specs.Facts.{IsReached}

@@ -6,7 +6,7 @@ ghost use Rattle.ndc_act.specs.declared.script.Act.{Act as Asked};
 ghost use Rattle.ndc_act.specs.declared.script.Header.{Header as Head};
 ghost use Rattle.ndc_act.specs.declared.script.Line.{Line as ScriptLine};
 ghost use Rattle.ndc_act.specs.declared.script.Script.{Script as Whole};
-ghost use Rattle.ndc_fair_lines.specs.Sometime.{IsReachedSometime};
+ghost use Rattle.ndc_fair.specs.Sometime.{IsReachedSometime};
 ghost use Rattle.ndc_laws.specs.Promised.{IsAsPromised, RunsReached};
 ghost use Rattle.ndc_model.specs.Facts.{IsReached};
 ghost use Rattle.ndc_model.specs.Laws.{script_of};

@@ -4,7 +4,7 @@ ghost use Rattle.ndc_act.specs.WellFormed.{IsCluster, IsWellFormedHeader};
 ghost use Rattle.ndc_act.specs.declared.script.Header.{Header as Head};
 ghost use Rattle.ndc_domain.specs.declared.clusters.ClusterNo.{ClusterNo as Number};
 ghost use Rattle.ndc_event.specs.declared.name.Name.{Name as Text};
-ghost use Rattle.ndc_fair_writing.specs.OneWriter.{EachHasOneCurrent};
+ghost use Rattle.ndc_fair.specs.OneWriter.{EachHasOneCurrent};
 ghost use Rattle.ndc_laws.specs.Promised.{AnswerAlike, ComparesSame, LearnedTheSame, StatesAreReplays, TipsDiffer, WaitsForAncestors};
 ghost use Rattle.ndc_model.specs.Facts.{IsReached};
 ghost use Rattle.ndc_model.specs.Reading.{learned_at};

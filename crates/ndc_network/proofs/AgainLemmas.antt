@@ -21,7 +21,7 @@ use Rattle.ndc_domain.specs.declared.clusters.ClusterNo.{ClusterNo}
 use Rattle.ndc_event.specs.declared.batch.Batch.{Batch}
 use Rattle.ndc_event.specs.declared.key.BatchKey.{BatchKey}
 use Rattle.ndc_event.specs.declared.name.Name.{Name}
-use Rattle.ndc_fair_lines.specs.Sometime.{IsReachedSometime}
+use Rattle.ndc_fair.specs.Sometime.{IsReachedSometime}
 use Rattle.ndc_links.specs.Lacking.{all_lacking, lacking_of}
 use Rattle.ndc_links.specs.declared.reads.Lacking.{Lacking}
 use Rattle.ndc_model.specs.Moves.{all_written, sent_again}

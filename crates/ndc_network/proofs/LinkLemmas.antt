@@ -11,11 +11,11 @@ use Rattle.ndc_cells.specs.Jobs.{cell_for}
 use Rattle.ndc_cells.specs.Writing.{same_cluster}
 use Rattle.ndc_domain.specs.declared.clusters.ClusterNo.{ClusterNo}
 use Rattle.ndc_domain.specs.declared.record.DomainRecord.{DomainRecord}
-use Rattle.ndc_fair_arrivals.proofs.ManyLemmas.{one-cluster}
+use Rattle.ndc_fair.proofs.ManyLemmas.{one-cluster}
 use Rattle.ndc_graceful.specs.declared.handover.Handover.{Handover}
 use Rattle.ndc_links.proofs.PlaceLemmas.{still}
 use Rattle.ndc_links.proofs.RestLemmas.{len_kept}
-use Rattle.ndc_fair_lines.proofs.TrimmedLemmas.{link-there}
+use Rattle.ndc_fair.proofs.TrimmedLemmas.{link-there}
 use Rattle.ndc_links.specs.Links.{with_lane_in}
 use Rattle.ndc_links.specs.Rest.{AreRests, AreWithin, IsRestOf, IsWithin, queue_at}
 use Rattle.ndc_model.specs.Fair.{EachLane, IsShaped}

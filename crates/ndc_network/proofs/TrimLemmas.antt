@@ -11,7 +11,7 @@ use Rattle.ndc_cells.specs.Jobs.{cell_for}
 use Rattle.ndc_cells.specs.Writing.{same_cluster}
 use Rattle.ndc_cells.specs.declared.message.Message.{Message}
 use Rattle.ndc_domain.specs.declared.clusters.ClusterNo.{ClusterNo}
-use Rattle.ndc_fair_arrivals.proofs.ManyLemmas.{one-cluster}
+use Rattle.ndc_fair.proofs.ManyLemmas.{one-cluster}
 use Rattle.ndc_graceful.specs.declared.handover.Handover.{Handover}
 use Rattle.ndc_links.proofs.PlaceLemmas.{changed_front, changed_more, counted_more, still_there}
 use Rattle.ndc_links.proofs.RestLemmas.{len_kept, rest_there}

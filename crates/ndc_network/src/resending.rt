@@ -10,7 +10,7 @@ ghost use Rattle.ndc_cells.specs.Jobs.{cell_for};
 ghost use Rattle.ndc_cells.specs.Places.{is_of, place_of};
 ghost use Rattle.ndc_domain.specs.Clusters.{writer_of};
 ghost use Rattle.ndc_event.specs.declared.key.BatchKey.{BatchKey as Key};
-ghost use Rattle.ndc_fair_lines.specs.Sometime.{IsReachedSometime};
+ghost use Rattle.ndc_fair.specs.Sometime.{IsReachedSometime};
 ghost use Rattle.ndc_links.specs.Lacking.{all_lacking};
 ghost use Rattle.ndc_model.specs.Fair.{IsShaped};
 ghost use Rattle.ndc_model.specs.Moves.{all_written, arrives, resent, sent_again};

@@ -1,6 +1,6 @@
 ghost use Rattle.std.specs.Prelude.{◌≡◌, length, IfOk};
 ghost use Rattle.ndc_domain.specs.Clusters.{count_of};
-ghost use Rattle.ndc_fair_lines.specs.Sometime.{IsReachedSometime};
+ghost use Rattle.ndc_fair.specs.Sometime.{IsReachedSometime};
 ghost use Rattle.ndc_model.specs.Facts.{IsReached};
 ghost use Rattle.ndc_network.specs.Networks.{opening_site};
 ghost use Rattle.ndc_network.specs.Orderly.{IsOrderly};

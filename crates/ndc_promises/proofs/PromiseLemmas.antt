@@ -5,10 +5,10 @@ use Rattle.ndc_act.specs.declared.script.Act.TheVariants as act
 use Rattle.ndc_act.specs.declared.script.Header.{Header}
 use Rattle.ndc_act.specs.declared.script.Line.{Line}
 use Rattle.ndc_act.specs.declared.script.Script.{Script}
-use Rattle.ndc_fair_lines.specs.Sometime.{IsReachedSometime}
-use Rattle.ndc_fair_lines.proofs.TrimmedLemmas.{trimmed_fit}
-use Rattle.ndc_fair_settlement.specs.Settled.{IsSettled}
-use Rattle.ndc_fair_writing.proofs.OneWriterLemmas.{one_chain, one_event}
+use Rattle.ndc_fair.specs.Sometime.{IsReachedSometime}
+use Rattle.ndc_fair.proofs.TrimmedLemmas.{trimmed_fit}
+use Rattle.ndc_fair.specs.Settled.{IsSettled}
+use Rattle.ndc_fair.proofs.OneWriterLemmas.{one_chain, one_event}
 use Rattle.ndc_laws.specs.Promised.{line, world_before}
 use Rattle.ndc_laws.proofs.ReachedLemmas.{worlds_promised, worlds_reached}
 use Rattle.ndc_laws.proofs.SettlementLemmas.{settle-line}

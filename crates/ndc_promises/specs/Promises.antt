@@ -8,14 +8,14 @@ use Rattle.ndc_act.specs.declared.script.Line.{Line}
 use Rattle.ndc_act.specs.declared.script.Script.{Script}
 use Rattle.ndc_domain.specs.declared.clusters.ClusterNo.{ClusterNo}
 use Rattle.ndc_event.specs.declared.name.Name.{Name}
-use Rattle.ndc_fair_lines.specs.Trimmed.{IsLearnedOrLate, trimmed_of}
-use Rattle.ndc_fair_settlement.specs.Settled.{IsSettled}
+use Rattle.ndc_fair.specs.Trimmed.{IsLearnedOrLate, trimmed_of}
+use Rattle.ndc_fair.specs.Settled.{IsSettled}
 use Rattle.ndc_laws.specs.Promised.{IsAsPromised, line, world_before}
 use Rattle.ndc_model.specs.Fair.{written_of}
 use Rattle.ndc_model.specs.Lines.{act_step, worlds_of}
 use Rattle.ndc_model.specs.World.{World}
 use Rattle.ndc_sets.specs.Sound.{VersionsAreChains}
-use Rattle.ndc_writes.specs.Past.{EventsAreOne}
+use Rattle.ndc_fair.specs.Past.{EventsAreOne}
 
 -- each version has one writer: in each workflow all batches of one run and version form one chain, and an event that is named by its run, id
 -- and version has one content and one past; what a source has trimmed of its queue is learned by the reader that it is addressed to, or of a

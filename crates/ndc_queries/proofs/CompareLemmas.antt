@@ -5,7 +5,7 @@ use Rattle.std.specs.Str.{bytes_eq}
 use Rattle.std.proofs.lemmas.Slice.Eq.{bytes_eq-Decides}
 use Rattle.ndc_event.specs.declared.batch.Batch.{Batch}
 use Rattle.ndc_event.specs.declared.name.Name.{Name}
-use Rattle.ndc_shown.proofs.DumpLemmas.{shown-same}
+use Rattle.ndc_fair.proofs.DumpLemmas.{shown-same}
 use Rattle.ndc_model.specs.Reading.{is_nothing, shows_same}
 use Rattle.ndc_sets.specs.View.{view_of}
 use Rattle.ndc_text.specs.Ranges.{InRange}

@@ -24,11 +24,11 @@ use Rattle.ndc_event.specs.declared.batch.Batch.{Batch}
 use Rattle.ndc_event.specs.declared.batch.Event.{Event}
 use Rattle.ndc_event.specs.declared.key.BatchKey.{BatchKey}
 use Rattle.ndc_event.specs.declared.name.Name.{Name}
-use Rattle.ndc_fair_arrivals.proofs.ManyLemmas.{range-below}
-use Rattle.ndc_fair_arrivals.proofs.WrittenLemmas.{cell-is, names-of, own-names, sound-of}
-use Rattle.ndc_fair_lines.specs.Sometime.{IsReachedSometime}
+use Rattle.ndc_fair.proofs.ManyLemmas.{range-below}
+use Rattle.ndc_fair.proofs.WrittenLemmas.{cell-is, names-of, own-names, sound-of}
+use Rattle.ndc_fair.specs.Sometime.{IsReachedSometime}
 use Rattle.ndc_history.specs.declared.item.Item.{Item}
-use Rattle.ndc_shown.proofs.MissingLemmas.{none-missing}
+use Rattle.ndc_fair.proofs.MissingLemmas.{none-missing}
 use Rattle.ndc_links.specs.Lacking.{lacking_of}
 use Rattle.ndc_links.specs.declared.reads.Lacking.{Lacking}
 use Rattle.ndc_model.specs.Moves.{all_written}

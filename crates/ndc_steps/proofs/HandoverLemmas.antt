@@ -6,7 +6,7 @@ use Rattle.ndc_act.specs.WellFormed.{AreTwoClusters}
 use Rattle.ndc_act.specs.declared.script.Header.{Header}
 use Rattle.ndc_domain.specs.declared.clusters.ClusterNo.{ClusterNo}
 use Rattle.ndc_event.specs.declared.name.Name.{Name}
-use Rattle.ndc_fair_lines.proofs.TrimmedLemmas.{link-there}
+use Rattle.ndc_fair.proofs.TrimmedLemmas.{link-there}
 use Rattle.ndc_graceful.specs.Begin.{begin_of}
 use Rattle.ndc_graceful.specs.declared.handover.Handover.{Handover}
 use Rattle.ndc_model.specs.Fair.{IsShaped}

@@ -13,7 +13,7 @@ use Rattle.ndc_cells.specs.Cells.{message_at}
 use Rattle.ndc_cells.specs.Jobs.{cell_for, cells_after, replies_to}
 use Rattle.ndc_cells.specs.Shards.{shard_of}
 use Rattle.ndc_domain.specs.declared.clusters.ClusterNo.{ClusterNo}
-use Rattle.ndc_fair_arrivals.proofs.LetterLemmas.{shard-below}
+use Rattle.ndc_fair.proofs.LetterLemmas.{shard-below}
 use Rattle.ndc_fair_jobs.specs.Lines.{letter_jobs}
 use Rattle.ndc_index.specs.declared.seen.Seen.{Seen}
 use Rattle.ndc_letters.specs.declared.letter.Letter.{Letter}

@@ -6,7 +6,7 @@ use Rattle.ndc_act.specs.declared.script.Header.{Header}
 use Rattle.ndc_cells.specs.Shards.{shard_of}
 use Rattle.ndc_domain.specs.declared.clusters.ClusterNo.{ClusterNo}
 use Rattle.ndc_event.specs.declared.name.Name.{Name}
-use Rattle.ndc_fair_arrivals.proofs.LetterLemmas.{shard-below}
+use Rattle.ndc_fair.proofs.LetterLemmas.{shard-below}
 use Rattle.ndc_model.specs.Fair.{IsShaped}
 use Rattle.ndc_model.specs.World.{Cluster, World, cluster_at, new_cluster}
 

@@ -8,7 +8,7 @@ ghost use Rattle.ndc_cells.specs.Cells.{empty_cell, learned_of};
 ghost use Rattle.ndc_domain.specs.Clusters.{writer_of};
 ghost use Rattle.ndc_model.specs.Fair.{IsShaped};
 ghost use Rattle.ndc_cells.specs.Places.{is_of};
-ghost use Rattle.ndc_fair_lines.specs.Sometime.{IsReachedSometime};
+ghost use Rattle.ndc_fair.specs.Sometime.{IsReachedSometime};
 ghost use Rattle.ndc_links.specs.Lacking.{all_lacking};
 ghost use Rattle.ndc_model.specs.Moves.{all_written};
 ghost use Rattle.ndc_model.specs.Sending.{gaps_answer};

@@ -1,7 +1,7 @@
 ghost use Rattle.std.specs.Prelude.{◌≡◌, ◌<◌, [], ◌∷◌, ◌++◌, length, IfOk, OnOk};
 ghost use Rattle.std.specs.List.{flat_map};
 ghost use Rattle.ndc_act.specs.WellFormed.{AreTwoClusters, IsCluster};
-ghost use Rattle.ndc_fair_lines.specs.Sometime.{IsReachedSometime};
+ghost use Rattle.ndc_fair.specs.Sometime.{IsReachedSometime};
 ghost use Rattle.ndc_answers.specs.Tallies.{with_notes};
 ghost use Rattle.ndc_steps.specs.Telling.{tally_of};
 ghost use Rattle.ndc_model.specs.Sending.{bootstrap_step, resend_step, settle_step, work_step};

@@ -10,11 +10,11 @@ use Rattle.ndc_cells.specs.declared.job.JobReply.{JobReply}
 use Rattle.ndc_cells.specs.declared.job.ShardJob.{ShardJob}
 use Rattle.ndc_cells.specs.Jobs.{cells_after, cells_behind, replies_to, reply_to}
 use Rattle.ndc_domain.specs.declared.clusters.ClusterNo.{ClusterNo}
-use Rattle.ndc_fair_arrivals.proofs.BringLemmas.{after-more, world_after}
-use Rattle.ndc_fair_arrivals.proofs.LetterLemmas.{shard-below}
+use Rattle.ndc_fair.proofs.BringLemmas.{after-more, world_after}
+use Rattle.ndc_fair.proofs.LetterLemmas.{shard-below}
 use Rattle.ndc_fair_jobs.specs.Lines.{burst_jobs, job_for}
-use Rattle.ndc_fair_writing.proofs.LandLemmas.{set-there}
-use Rattle.ndc_fair_writing.proofs.MoveLemmas.{command-kept}
+use Rattle.ndc_fair.proofs.LandLemmas.{set-there}
+use Rattle.ndc_fair.proofs.MoveLemmas.{command-kept}
 use Rattle.ndc_index.specs.declared.seen.Seen.{Seen}
 use Rattle.ndc_model.specs.Facts.{IsReached}
 use Rattle.ndc_model.specs.Fair.{IsShaped}

@@ -10,7 +10,7 @@ use Rattle.ndc_cells.specs.declared.job.Job.{Job}
 use Rattle.ndc_cells.specs.Cells.{Cell}
 use Rattle.ndc_cells.specs.Writing.{Home}
 use Rattle.ndc_domain.specs.declared.clusters.ClusterNo.{ClusterNo}
-use Rattle.ndc_fair_arrivals.proofs.BringLemmas.{world_after}
+use Rattle.ndc_fair.proofs.BringLemmas.{world_after}
 use Rattle.ndc_fair_jobs.specs.Lines.{LineIsAllowed, burst_jobs}
 use Rattle.ndc_fair_jobs.proofs.BurstLemmas.{burst_allowed}
 use Rattle.ndc_fair_jobs.proofs.LineLemmas.{line_allowed}

@@ -1,6 +1,6 @@
 use Rattle.std.proofs.Common.{arith, sym, subst}
 use Rattle.ndc_act.specs.declared.script.Header.{Header}
-use Rattle.ndc_fair_lines.specs.Sometime.{IsReachedSometime}
+use Rattle.ndc_fair.specs.Sometime.{IsReachedSometime}
 use Rattle.ndc_model.proofs.FairLemmas.{opening_reached}
 use Rattle.ndc_model.specs.Facts.{IsReached}
 use Rattle.ndc_model.specs.World.{opening_world}

@@ -1,2 +1,0 @@
-pub mod Sometime
-pub mod Trimmed

@@ -1,3 +1,0 @@
-pub mod WayLemmas
-pub mod ComeLemmas
-pub mod ResendLemmas

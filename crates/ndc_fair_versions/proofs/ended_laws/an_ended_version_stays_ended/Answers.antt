@@ -1,5 +1,0 @@
-use Rattle.ndc_fair_versions.proofs.EndedLemmas.{ended-behind}
-use Rattle.ndc_fair_versions.proofs.ended_laws.an_ended_version_stays_ended.Goals as goal
-
-pub returns : goal.returns
-returns c = ended-behind

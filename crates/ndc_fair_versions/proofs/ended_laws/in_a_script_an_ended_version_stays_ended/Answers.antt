@@ -1,5 +1,0 @@
-use Rattle.ndc_fair_versions.proofs.ScriptLemmas.{ended-in-script}
-use Rattle.ndc_fair_versions.proofs.ended_laws.in_a_script_an_ended_version_stays_ended.Goals as goal
-
-pub returns : goal.returns
-returns c = ended-in-script

@@ -1,5 +1,0 @@
-use Rattle.ndc_fair_versions.proofs.LineLemmas.{line-grows}
-use Rattle.ndc_fair_versions.proofs.version_laws.every_line_lets_tables_grow.Goals as goal
-
-pub returns : goal.returns
-returns c = line-grows

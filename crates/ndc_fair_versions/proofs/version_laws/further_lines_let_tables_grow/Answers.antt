@@ -1,5 +1,0 @@
-use Rattle.ndc_fair_versions.proofs.EndedLemmas.{lines-grow}
-use Rattle.ndc_fair_versions.proofs.version_laws.further_lines_let_tables_grow.Goals as goal
-
-pub returns : goal.returns
-returns c = lines-grow
