@@ -10,6 +10,7 @@ use Rattle.ndc_cells.specs.Jobs.{workflows_of}
 use Rattle.ndc_cells.specs.Places.{AreInOrder, is_of, place_lt, place_of}
 use Rattle.ndc_cells.proofs.PlaceLemmas.{PlaceIsBefore, WorkflowIsBefore, place-from, place-parts, place-trans}
 use Rattle.ndc_fair.proofs.FoundLemmas.{place-irrefl}
+use Rattle.ndc_fair.proofs.OwnLemmas.{workflows-among}
 use Rattle.ndc_domain.specs.Records.{names_cmp}
 use Rattle.ndc_event.specs.declared.batch.Batch.{Batch}
 use Rattle.ndc_event.specs.declared.name.Name.{Name}
@@ -82,11 +83,6 @@ order-left p [] order = tt
 order-left p (b ∷ bs) order =
     filter-cases AreInOrder p b bs (λ _. (all-left (λ other. place_lt (place_of b) (place_of other) ≡ true) p bs order.0, order-left p bs order.1)) (λ _. order-left p bs order.1)
 
-heads-among : (bs : List Batch) (x : Batch) → Among x (workflows_of bs) → Among x bs
-heads-among [] x none = none
-heads-among (b ∷ bs) x (inl same) = inl same
-heads-among (b ∷ bs) x (inr among) = inr (heads-among bs x ((filter-among (λ other. not (is_of b.domain b.workflow other)) (workflows_of bs) x among).1))
-
 not-true : (t : Bool) → not t ≡ true → t ≡ true → ⊥
 not-true true h e = true≢false (sym h)
 not-true false h e = true≢false (sym e)
@@ -100,7 +96,7 @@ heads-rise (b ∷ bs) order =
     each : (x : Batch) → Among x (filter (λ other. not (is_of b.domain b.workflow other)) (workflows_of bs)) → IsEarlier b x
     each x among =
         let f = filter-among (λ other. not (is_of b.domain b.workflow other)) (workflows_of bs) x among in
-        by f.0 (earlier-or b x (all-among (λ other. place_lt (place_of b) (place_of other) ≡ true) bs x order.0 (heads-among bs x f.1)))
+        by f.0 (earlier-or b x (all-among (λ other. place_lt (place_of b) (place_of other) ≡ true) bs x order.0 (workflows-among bs x f.1)))
       where
         by : not (is_of b.domain b.workflow x) ≡ true → (is_of b.domain b.workflow x ≡ true) ⊎ IsEarlier b x → IsEarlier b x
         by other (inl own) = absurd (not-true (is_of b.domain b.workflow x) other own)

@@ -1,5 +1,5 @@
 -- Reapplication in a cell is reapplication in one of its workflows after the other.
-use Rattle.std.proofs.Common.{◌≡◌, ℕ, zero, suc, ◌<◌, List, [], ◌∷◌, length, slice_set, refl, sym, ◌∙◌, ap, arith}
+use Rattle.std.proofs.Common.{◌≡◌, ℕ, ◌<◌, List, [], ◌∷◌, length, slice_set, sym, ◌∙◌, ap, arith}
 use Rattle.std.proofs.lemmas.List.{get_or-set_same}
 use Rattle.ndc_act.specs.declared.script.Header.{Header}
 use Rattle.ndc_cells.specs.declared.job.Job.TheVariants.{Reapply}
@@ -9,6 +9,7 @@ use Rattle.ndc_cells.specs.Jobs.{after_job, cell_for, cells_after, reapplied_in,
 use Rattle.ndc_cells.specs.Writing.{Home}
 use Rattle.ndc_domain.specs.declared.clusters.ClusterNo.{ClusterNo}
 use Rattle.ndc_event.specs.declared.batch.Batch.{Batch}
+use Rattle.ndc_model.proofs.ListLemmas.{set-twice, set-length}
 use Rattle.ndc_model.specs.World.{Cluster, World, cell_at, cluster_at, home_at, new_cluster}
 use Rattle.ndc_model.proofs.WorldLemmas.{same-cells, set-same}
 use Rattle.ndc_fair.specs.Writing.{applied_in, cell_applied, with_cell}
@@ -22,16 +23,6 @@ reapplies shard = record { shard = shard; job = Reapply }
 pub record HasCell (cluster : ClusterNo) (shard : ℕ) (w : World) : Type 0 where
   pub cluster_below : cluster.number < length w.clusters
   pub shard_below : shard < length (cluster_at cluster w).cells
-
-set-twice : {X : Type 0} (xs : List X) (i : ℕ) (x y : X) → slice_set (slice_set xs i x) i y ≡ slice_set xs i y
-set-twice [] i x y = refl
-set-twice (z ∷ zs) zero x y = refl
-set-twice (z ∷ zs) (suc i) x y = ap (λ l. z ∷ l) (set-twice zs i x y)
-
-set-length : {X : Type 0} (xs : List X) (i : ℕ) (x : X) → length (slice_set xs i x) ≡ length xs
-set-length [] i x = refl
-set-length (y ∷ ys) zero x = refl
-set-length (y ∷ ys) (suc i) x = ap suc (set-length ys i x)
 
 -- a cell that was put
 module _ (cluster : ClusterNo) (shard : ℕ) (w : World) (has : HasCell cluster shard w) (cell : Cell) where

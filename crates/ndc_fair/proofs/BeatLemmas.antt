@@ -2,7 +2,6 @@
 use Rattle.std.proofs.Common.{◌≡◌, ℕ, ◌+◌, ◌<◌, ◌≤◌, Bool, true, false, ◌&&◌, ◌||◌, cond, not, nat_lt, List, [], ◌∷◌, Option, Some, None, Result, Ok, Err, IfSome, ◌⊎◌, inl, inr, refl, sym, ◌∙◌, subst, ap, arith, true≢false}
 use Rattle.std.specs.Prelude.{◌==◌, IsSomeAnd}
 use Rattle.std.specs.List.{AllByRecursion, IsAmong}
-use Rattle.std.proofs.lemmas.Bool.{eqb-true}
 use Rattle.std.proofs.lemmas.Bool.Decides.{nat_tests}
 use Rattle.ndc_act.specs.WellFormed.{IsCluster}
 use Rattle.ndc_act.specs.declared.script.Header.{Header}
@@ -28,6 +27,7 @@ use Rattle.ndc_progress.specs.declared.report.Report.{Report}
 use Rattle.ndc_progress.proofs.HeldLemmas.{held-cases, self_same}
 use Rattle.ndc_sets.specs.Branches.{workflow_tip}
 use Rattle.ndc_sets.proofs.Lists.{Among, all-among}
+use Rattle.ndc_fair.proofs.HandoverLemmas.{writer-is}
 use Rattle.ndc_fair.proofs.PutLemmas.{lines_pass}
 use Rattle.ndc_fair.proofs.ReportLemmas.{AreOne, IsTold, comes, reports-more, v}
 
@@ -60,11 +60,6 @@ told-own home domain workflow id cell told =
         let same : version ≡ told.0 = cc in subst (λ (n : ℕ). is_writer home.me (writer_of home.clusters n) ≡ true) same (may-own home domain workflow cell version may)
     by (Ok version) may (Err error) e = absurd (cc)
     by (Err why) may activity e = absurd (cc)
-
--- the writer of a version is a cluster of this number
-writer-at : (at : ClusterNo) (o : Option ClusterNo) → is_writer at o ≡ true → o ≡ Some at
-writer-at at None h = absurd (true≢false (sym h))
-writer-at at (Some writer) h = let same : writer.number ≡ at.number = eqb-true writer.number at.number h in λ i. Some (record { number = same i })
 
 -- what holds of all reports holds of the held one
 held-all : (P : Report → Type 0) (activity : ActivityRef) (reports : List Report) → AllByRecursion P reports → IfSome (held activity reports) P
@@ -191,7 +186,7 @@ beat_kept header lines cluster domain workflow id details w known below is = by 
     by (Ok told) e = unless (stale_by told.0 (held told.1 (cluster_at cluster w).reports)) refl
       where
         writer : writer_of header.clusters told.0 ≡ Some cluster
-        writer = writer-at cluster (writer_of header.clusters told.0) (told-own (home_at header cluster w) domain workflow id (cell_of header cluster domain workflow w) told e)
+        writer = writer-is cluster (writer_of header.clusters told.0) (told-own (home_at header cluster w) domain workflow id (cell_of header cluster domain workflow w) told e)
 
         unless : (o : Option ℕ) → stale_by told.0 (held told.1 (cluster_at cluster w).reports) ≡ o → IsReached header (lines + 1) (beat_unless cluster told.0 told.1 details w o).world
         unless (Some stale) s = after

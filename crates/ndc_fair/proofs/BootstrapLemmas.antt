@@ -24,7 +24,7 @@ use Rattle.ndc_model.specs.Fair.{IsOwn, is_named}
 use Rattle.ndc_model.specs.Moves.{all_arrive, all_written, learned_of_domains, renewed}
 use Rattle.ndc_model.specs.Queues.{is_addressed, names_cluster, needs_nothing}
 use Rattle.ndc_model.specs.World.{Link, World, cell_at, cluster_at, is_late_in, is_link, lane_in, link_at, link_found, queue_at, shards_of, with_link}
-use Rattle.ndc_model.proofs.ListLemmas.{all-self, all-take, is-among}
+use Rattle.ndc_model.proofs.ListLemmas.{all-self, all-take, is-among, any-one}
 use Rattle.ndc_sets.specs.Learned.{IsPart, has_key}
 use Rattle.ndc_sets.specs.Paths.{is_wanted}
 use Rattle.ndc_sets.specs.Sets.{Has, batch_at, earlier_of}
@@ -42,15 +42,6 @@ use Rattle.ndc_fair.proofs.FoundLemmas.{find-passes, there-among, there-place}
 use Rattle.ndc_fair.proofs.ManyLemmas.{among-flat, by-shard, one-cluster}
 use Rattle.ndc_fair.proofs.MessageLemmas.{learned-arrived, learned-true, second-same}
 use Rattle.ndc_fair.proofs.WrittenLemmas.{arrived-written, carried-alone, cell-is, has-written, names-of, one-carried, one-written}
-
--- one of those passes, where some does
-any-one : {X : Type 0} (p : X → Bool) (xs : List X) → list_any p xs ≡ true → (x : X) × Among x xs × (p x ≡ true)
-any-one p [] h = absurd (true≢false (sym h))
-any-one {X = X} p (y ∷ ys) h = by (p y) refl h (any-one p ys)
-  where
-    by : (t : Bool) → p y ≡ t → (t || list_any p ys) ≡ true → (list_any p ys ≡ true → (x : X) × Among x ys × (p x ≡ true)) → (x : X) × Among x (y ∷ ys) × (p x ≡ true)
-    by true passes h rest = (y, inl refl, passes)
-    by false fails h rest = let r = rest h in (r.0, inr r.1, r.2)
 
 -- a batch that is learned by its key is learned itself
 module _ (header : Header) (lines : ℕ) (w : World) (is : IsReached header lines w) (shard : ℕ) (below : shard < header.shards) (cluster : ClusterNo) (known : IsCluster header cluster) where

@@ -16,6 +16,7 @@ use Rattle.ndc_cells.specs.Writing.{Home}
 use Rattle.ndc_domain.specs.declared.clusters.ClusterNo.{ClusterNo}
 use Rattle.ndc_domain.specs.declared.record.DomainRecord.{DomainRecord}
 use Rattle.ndc_event.specs.declared.batch.Batch.{Batch}
+use Rattle.ndc_model.proofs.ListLemmas.{set-twice, set-there}
 use Rattle.ndc_model.specs.Facts.{IsReached}
 use Rattle.ndc_model.specs.Fair.{IsMessageTrue, IsShaped, is_named}
 use Rattle.ndc_model.specs.Moves.{Trace, arrives, jobs_done}
@@ -23,17 +24,6 @@ use Rattle.ndc_model.specs.World.{Cluster, World, cell_at, cluster_at, home_at, 
 use Rattle.ndc_fair.proofs.FrameLemmas.{named_by}
 use Rattle.ndc_fair.proofs.ArrivalLemmas.{arrival-grown, arrived-itself, arrived-stays, second-arrived}
 use Rattle.ndc_fair.proofs.CellLemmas.{IsGrown, IsKept, by-cell, cell-grown}
-
--- an item that was put
-set-there : {X : Type 0} (xs : List X) (i : ℕ) (x d : X) → i < length xs → slice_index_or (slice_set xs i x) i d ≡ x
-set-there [] i x d below = absurd (omega (arith, below))
-set-there (y ∷ ys) zero x d below = refl
-set-there (y ∷ ys) (suc i) x d below = set-there ys i x d (omega (arith, below))
-
-set-twice : {X : Type 0} (xs : List X) (i : ℕ) (x y : X) → slice_set (slice_set xs i x) i y ≡ slice_set xs i y
-set-twice [] i x y = refl
-set-twice (z ∷ zs) zero x y = refl
-set-twice (z ∷ zs) (suc i) x y = ap (λ l. z ∷ l) (set-twice zs i x y)
 
 -- the world behind jobs of a cluster
 abbrev pub world_after : Header → ClusterNo → List ShardJob → World → World

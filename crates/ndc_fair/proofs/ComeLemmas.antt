@@ -1,5 +1,5 @@
 -- What has arrived behind jobs in which messages arrive.
-use Rattle.std.proofs.Common.{◌≡◌, ℕ, Bool, true, false, cond, if◌then◌else◌, List, [], ◌∷◌, map, Option, Some, None, ◌⊎◌, inl, inr, refl, sym, ◌∙◌, subst, ap, true≢false}
+use Rattle.std.proofs.Common.{◌≡◌, ℕ, Bool, true, false, if◌then◌else◌, List, [], ◌∷◌, map, Option, Some, None, ◌⊎◌, inl, inr, refl, sym, ◌∙◌, subst, ap, true≢false}
 use Rattle.std.specs.Option.{option_or}
 use Rattle.std.specs.Prelude.{is_some, option_to_list}
 use Rattle.std.specs.List.{AllByRecursion, fold}
@@ -11,31 +11,14 @@ use Rattle.ndc_cells.specs.declared.place.Place.{Place}
 use Rattle.ndc_cells.specs.Arrival.{arrived_at, cell_with, has_arrived, placed_second}
 use Rattle.ndc_cells.specs.Cells.{Cell, both, empty_cell}
 use Rattle.ndc_cells.specs.Jobs.{after_job, cell_for, cells_after, cells_behind}
-use Rattle.ndc_cells.specs.Places.{AreInOrder, batch_there, in_order, is_at, place_lt, place_of, placed}
+use Rattle.ndc_cells.specs.Places.{AreInOrder, batch_there, in_order, place_of, placed}
 use Rattle.ndc_cells.specs.Writing.{Home}
 use Rattle.ndc_event.specs.declared.batch.Batch.{Batch}
 use Rattle.ndc_model.specs.Moves.{all_arrive, arrives}
 use Rattle.ndc_model.proofs.WorldLemmas.{set-cases}
 use Rattle.ndc_sets.proofs.Lists.{Among, map-among}
 use Rattle.ndc_fair.proofs.FoundLemmas.{in_order-ordered, order-finds, placed-stays, placed-there, there-among, there-place}
-use Rattle.ndc_fair.proofs.WrittenLemmas.{flat-among, in_order-among}
-
--- what stands where a batch was put is this one, or stood there
-placed-from : (new x : Batch) (bs : List Batch) → Among x (placed new bs) → (x ≡ new) ⊎ Among x bs
-placed-from new x [] (inl same) = inl same
-placed-from new x [] (inr none) = absurd none
-placed-from new x (b ∷ bs) among = by (place_lt (place_of new) (place_of b)) (is_at (place_of new) b) among (placed-from new x bs)
-  where
-    later : (x ≡ new) ⊎ Among x bs → (x ≡ new) ⊎ Among x (b ∷ bs)
-    later (inl same) = inl same
-    later (inr there) = inr (inr there)
-
-    by : (s t : Bool) → Among x (cond s (new ∷ b ∷ bs) (cond t (b ∷ bs) (b ∷ placed new bs))) → (Among x (placed new bs) → (x ≡ new) ⊎ Among x bs) → (x ≡ new) ⊎ Among x (b ∷ bs)
-    by true t (inl same) rest = inl same
-    by true t (inr there) rest = inr there
-    by false true there rest = inr there
-    by false false (inl same) rest = inr (inl same)
-    by false false (inr there) rest = later (rest there)
+use Rattle.ndc_fair.proofs.WrittenLemmas.{flat-among, in_order-among, among-placed}
 
 -- what has arrived behind an arrival had arrived, or is of the message
 arrival-from : (sent : Message) (cell : Cell) (x : Batch) → Among x (arrived_at sent cell).arrived → Among x cell.arrived ⊎ Among x (both sent)
@@ -47,12 +30,12 @@ arrival-from sent cell x = by (has_arrived sent.batch cell)
     first s (inr there) = inl there
 
     second : (s : Option Batch) → Among x (placed_second s (placed sent.batch cell.arrived)) → Among x cell.arrived ⊎ Among x (sent.batch ∷ option_to_list s)
-    second None among = first None (placed-from sent.batch x cell.arrived among)
-    second (Some s) among = either (placed-from s x (placed sent.batch cell.arrived) among)
+    second None among = first None (among-placed sent.batch x cell.arrived among)
+    second (Some s) among = either (among-placed s x (placed sent.batch cell.arrived) among)
       where
         either : (x ≡ s) ⊎ Among x (placed sent.batch cell.arrived) → Among x cell.arrived ⊎ Among x (sent.batch ∷ s ∷ [])
         either (inl same) = inr (inr (inl same))
-        either (inr there) = first (Some s) (placed-from sent.batch x cell.arrived there)
+        either (inr there) = first (Some s) (among-placed sent.batch x cell.arrived there)
 
     by : (t : Bool) → Among x (if t then cell else cell_with sent cell).arrived → Among x cell.arrived ⊎ Among x (both sent)
     by true among = inl among

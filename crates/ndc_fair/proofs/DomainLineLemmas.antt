@@ -1,7 +1,6 @@
 -- Lines on domains put records that fit.
-use Rattle.std.proofs.Common.{◌≡◌, ℕ, ◌+◌, ◌<◌, ◌≤◌, ◌^◌, Bool, true, false, ◌||◌, suc, List, [], ◌∷◌, Option, Some, Result, Ok, Err, inl, inr, refl, sym, ◌∙◌, subst, ap, arith, true≢false}
+use Rattle.std.proofs.Common.{◌≡◌, ℕ, ◌+◌, ◌<◌, ◌≤◌, ◌^◌, Bool, true, false, ◌||◌, List, Option, Some, Result, Ok, Err, inl, inr, refl, sym, ◌∙◌, subst, ap, arith, true≢false}
 use Rattle.std.specs.Prelude.{◌==◌, is_some}
-use Rattle.std.specs.List.{All, AllByRecursion}
 use Rattle.std.proofs.lemmas.Bool.{eqb-true}
 use Rattle.ndc_act.specs.WellFormed.{IsCluster, IsWellFormedRegister}
 use Rattle.ndc_act.specs.declared.script.Header.{Header}
@@ -25,6 +24,7 @@ use Rattle.ndc_fair.specs.Tables.{Grew}
 use Rattle.ndc_fair.proofs.MergeLemmas.{all-where, member-has, names-more}
 use Rattle.ndc_fair.proofs.PutLemmas.{IsRecordFit, lines_pass, put-fits}
 use Rattle.ndc_fair.proofs.TableLemmas.{table_put}
+use Rattle.ndc_model.proofs.ListLemmas.{all-listed}
 use Rattle.ndc_model.specs.Facts.{IsReached}
 use Rattle.ndc_model.specs.Fair.{AreMembersKnown, IsConfigKnown, IsRecordInRange, primary}
 use Rattle.ndc_model.specs.Tables.{failover_words, join_step, register_words, retain_words, table_step}
@@ -163,11 +163,6 @@ retain_kept header lines at domain days w there below is = by (retain_of at doma
         let g = found header (lines + 1) w at domain told.0 after there told.1 in
         subst (λ (a : ℕ × List DomainRecord). IsReached header (lines + 1) (with_table at a.1 w)) told.2
         (put_kept header (lines + 1) w at (retained days told.0) after there (retain-fits header (lines + 1) w after at there told.0 g.0 days first (omega (arith, f.0.range.config_most))))
-
--- what all at their places have
-all-listed : (P : ℕ → Type 0) (ns : List ℕ) → All P ns → AllByRecursion P ns
-all-listed P [] all = tt
-all-listed P (n ∷ ns) all = (all 0 n (omega arith), all-listed P ns (λ k d l. all (suc k) d (omega (arith, l))))
 
 -- a domain that the first cluster has not may be registered there
 pub register_kept : (header : Header) (lines : ℕ) (at target : ClusterNo) (domain : Name) (days : ℕ) (members : List ℕ) (w : World) → AreClusters header.clusters → IsWellFormedRegister header at target domain days members

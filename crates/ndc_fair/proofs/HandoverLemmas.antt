@@ -125,7 +125,7 @@ pairs-behind new handovers none pairs =
     (λ i d below same. true≢false (sym ((bytes_eq-Decides (slice_index_or handovers i d).domain new.domain).1 same) ∙ none-there (is_handover_of new.domain) handovers i d below none))
 
 -- the writer of a version is a cluster of this number
-writer-is : (at : ClusterNo) (o : Option ClusterNo) → is_writer at o ≡ true → o ≡ Some at
+pub writer-is : (at : ClusterNo) (o : Option ClusterNo) → is_writer at o ≡ true → o ≡ Some at
 writer-is at None h = absurd (true≢false (sym h))
 writer-is at (Some writer) h = let same : writer.number ≡ at.number = eqb-true writer.number at.number h in λ i. Some (record { number = same i })
 

@@ -25,7 +25,7 @@ use Rattle.ndc_model.specs.Facts.{IsReached}
 use Rattle.ndc_model.specs.Fair.{IsShaped, written_of}
 use Rattle.ndc_model.specs.Moves.{all_written}
 use Rattle.ndc_model.specs.World.{Cluster, World, all_clusters, cell_at, cluster_at, new_cluster}
-use Rattle.ndc_model.proofs.ListLemmas.{all-set}
+use Rattle.ndc_model.proofs.ListLemmas.{all-set, set-there}
 use Rattle.ndc_model.proofs.WorldLemmas.{cells-cases, set-cases}
 use Rattle.ndc_sets.specs.Sets.{batch_at}
 use Rattle.ndc_fair.specs.Writing.{with_cell}
@@ -35,12 +35,6 @@ use Rattle.ndc_fair.proofs.OrderLemmas.{IsMore, flat-more, flat-same, order-ther
 use Rattle.ndc_fair.proofs.PairLemmas.{AreNew, entry_with, joined, middle-there, more, more-order, more-own, more-there, new-less, new-none, news}
 use Rattle.ndc_fair.specs.Entries.{IsSecond, IsWrite}
 use Rattle.ndc_fair.proofs.NamedLemmas.{either-way}
-
--- an item that is put stands at its place
-pub set-there : {X : Type 0} (xs : List X) (i : ℕ) (x d : X) → i < length xs → slice_index_or (slice_set xs i x) i d ≡ x
-set-there [] i x d less = absurd (omega (arith, less))
-set-there (y ∷ ys) zero x d less = refl
-set-there (y ∷ ys) (suc i) x d less = set-there ys i x d (omega (arith, less))
 
 all-at : {X : Type 0} (P : X → Type 0) (xs : List X) (i : ℕ) (d : X) → AllByRecursion P xs → i < length xs → P (slice_index_or xs i d)
 all-at P [] i d all less = absurd (omega (arith, less))

@@ -27,7 +27,7 @@ use Rattle.ndc_model.specs.Facts.{IsReached}
 use Rattle.ndc_model.specs.Fair.{AreMembersKnown, IsConfigKnown, IsRecordInRange, primary}
 use Rattle.ndc_model.specs.Tables.{domains_step}
 use Rattle.ndc_model.specs.World.{Cluster, World, cluster_at, new_cluster, with_table}
-use Rattle.ndc_model.proofs.ListLemmas.{all-weaker, filter-passes}
+use Rattle.ndc_model.proofs.ListLemmas.{all-weaker, filter-passes, some-and}
 use Rattle.ndc_model.proofs.WorldLemmas.{set-cases}
 
 -- what holds of each record of both tables, and of the record made of two of one name, holds of the merged table
@@ -44,11 +44,6 @@ module _ (P : DomainRecord → Type 0) (join : (one two : DomainRecord) → one.
   named-merged : (records others : List DomainRecord) → AllByRecursion P records → AllByRecursion P others → AllByRecursion P (merged records others)
   named-merged [] others ours theirs = theirs
   named-merged (first ∷ records) others ours theirs = named-behind first (merged records) ours.0 (λ os all. named-merged records os ours.1 all) others theirs
-
--- what is there and has a property
-some-and : {X : Type 0} (P : X → Type 0) (o : Option X) → IsSomeAnd o P → (x : X) × (o ≡ Some x) × P x
-some-and P None h = elim h [ ]
-some-and P (Some x) h = (x, refl, h)
 
 -- what follows from two facts on each
 all-both : {X : Type 0} (P Q R : X → Type 0) → ((x : X) → P x → Q x → R x) → (xs : List X) → AllByRecursion P xs → AllByRecursion Q xs → AllByRecursion R xs

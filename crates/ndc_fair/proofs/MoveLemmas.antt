@@ -1,5 +1,5 @@
 -- Commands, resets and reapplication keep worlds as they should be.
-use Rattle.std.proofs.Common.{◌≡◌, ◌<◌, ◌≤◌, ◌+◌, ◌*◌, ℕ, zero, suc, false, List, [], ◌∷◌, length, slice_set, ◌⊎◌, inl, inr, Option, Some, None, Result, Ok, Err, refl, sym, ◌∙◌, subst, ap, arith}
+use Rattle.std.proofs.Common.{◌≡◌, ◌<◌, ◌≤◌, ◌+◌, ◌*◌, ℕ, false, List, length, slice_set, ◌⊎◌, inl, inr, Option, Some, None, Result, Ok, Err, refl, sym, ◌∙◌, subst, ap, arith}
 use Rattle.ndc_act.specs.WellFormed.{IsCluster, IsWellFormedCommand, IsWellFormedHeader, IsWorkflowAt}
 use Rattle.ndc_act.specs.declared.script.Header.{Header}
 use Rattle.ndc_cells.specs.Cells.{Cell, empty_cell, learned_of}
@@ -15,6 +15,7 @@ use Rattle.ndc_domain.specs.declared.clusters.ClusterNo.{ClusterNo}
 use Rattle.ndc_event.specs.Outcome.{◌>>=◌}
 use Rattle.ndc_event.specs.declared.batch.Batch.{Batch}
 use Rattle.ndc_event.specs.declared.name.Name.{Name}
+use Rattle.ndc_model.proofs.ListLemmas.{set-twice, set-there}
 use Rattle.ndc_model.specs.Facts.{IsReached}
 use Rattle.ndc_model.specs.Fair.{originals_in, written_of}
 use Rattle.ndc_model.specs.Moves.{jobs_done}
@@ -27,7 +28,7 @@ use Rattle.ndc_fair.specs.Writing.{with_cell}
 use Rattle.ndc_fair.proofs.LetterLemmas.{shard-below}
 use Rattle.ndc_fair.proofs.PutLemmas.{lines_pass}
 use Rattle.ndc_fair.proofs.HeldLemmas.{table-same}
-use Rattle.ndc_fair.proofs.LandLemmas.{Write, cell-here, set-there, written-other, written-own}
+use Rattle.ndc_fair.proofs.LandLemmas.{Write, cell-here, written-other, written-own}
 use Rattle.ndc_fair.proofs.PairLemmas.{joined, news}
 use Rattle.ndc_fair.proofs.RestLemmas.{entry-kept}
 use Rattle.ndc_fair.proofs.WriterLemmas.{IsWriter, WritesWith, are-few, may-add, may-parts, writable}
@@ -101,12 +102,6 @@ module _ (header : Header) (lines : ℕ) (w : World) (is : IsReached header line
   -- nothing is written
   pub same-world : with_cell cluster at cell w ≡ w
   same-world = ap (λ (cells : List Cell). with_cells cluster cells w) (set-same (cluster_at cluster w).cells at empty_cell) ∙ same-cells cluster w
-
--- what is put twice is what was put last
-set-twice : {X : Type 0} (xs : List X) (i : ℕ) (x y : X) → slice_set (slice_set xs i x) i y ≡ slice_set xs i y
-set-twice [] i x y = refl
-set-twice (z ∷ zs) zero x y = refl
-set-twice (z ∷ zs) (suc i) x y = ap (λ l. z ∷ l) (set-twice zs i x y)
 
 -- a cell that takes the place of one that took another's
 pub with-twice : (header : Header) (w : World) (cluster : ClusterNo) (shard : ℕ) (one two : Cell) → cluster.number < length w.clusters → with_cell cluster shard two (with_cell cluster shard one w) ≡ with_cell cluster shard two w

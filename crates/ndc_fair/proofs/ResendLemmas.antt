@@ -22,7 +22,7 @@ use Rattle.ndc_event.specs.declared.name.Name.{Name}
 use Rattle.ndc_model.specs.Facts.{IsReached}
 use Rattle.ndc_model.specs.Moves.{all_arrive, all_written, ancestors_of, arrives, jobs_done, missing_ancestors, renewed, resent, sent_again}
 use Rattle.ndc_model.specs.World.{Cluster, World, cell_at, cluster_at, home_at, new_cluster, shards_of}
-use Rattle.ndc_model.proofs.ListLemmas.{all-flat, all-map, among-is}
+use Rattle.ndc_model.proofs.ListLemmas.{all-flat, all-map, among-is, filter-none}
 use Rattle.ndc_sets.specs.Learned.{IsClosed, has_key}
 use Rattle.ndc_sets.specs.Paths.{is_wanted}
 use Rattle.ndc_sets.specs.Sets.{Has, IsSet, batch_at, earlier, earlier_of}
@@ -30,7 +30,7 @@ use Rattle.ndc_sets.specs.Sound.{IsSound}
 use Rattle.ndc_sets.proofs.BranchLemmas.{among-has, has-among}
 use Rattle.ndc_sets.proofs.KeyLemmas.{key_eq-self}
 use Rattle.ndc_sets.proofs.LearnedLemmas.{closed_whole, learned_closed}
-use Rattle.ndc_sets.proofs.Lists.{Among, among-filter, among-filter_map, filter-among, filter-cases, filter_map-among, find-among, find-only}
+use Rattle.ndc_sets.proofs.Lists.{Among, among-filter, among-filter_map, filter-among, filter_map-among, find-among, find-only}
 use Rattle.ndc_sets.proofs.SetLemmas.{found-has, found-key}
 use Rattle.ndc_sets.proofs.SoundLemmas.{parent-alone}
 use Rattle.ndc_fair.proofs.ArrivalLemmas.{none-is, own-is}
@@ -42,11 +42,6 @@ use Rattle.ndc_fair.proofs.MessageLemmas.{again-may, learned-arrived}
 use Rattle.ndc_fair.proofs.WrittenLemmas.{arrived-written, carried-alone, cell-is, flat-among, has-written, in_order-among, names-of, one-carried, one-written, own-names, sound-of, wanted-some}
 use Rattle.ndc_fair.proofs.ComeLemmas.{Arrives, IsBroughtBy, among-order, job-message, jobs-from}
 use Rattle.ndc_fair.proofs.WayLemmas.{Follows, way-follows, way-inside}
-
--- where no item passes, none is left
-filter-none : {X : Type 0} (p : X → Bool) (xs : List X) → ((x : X) → Among x xs → p x ≡ false) → filter p xs ≡ []
-filter-none p [] fails = refl
-filter-none p (x ∷ xs) fails = filter-cases (λ ys. ys ≡ []) p x xs (λ passes. absurd (true≢false (sym passes ∙ fails x (inl refl)))) (λ _. filter-none p xs (λ y among. fails y (inr among)))
 
 module _ (header : Header) (lines : ℕ) (reader : ClusterNo) (known : IsCluster header reader) (w : World) (is : IsReached header lines w) (shard : ℕ) (below : shard < header.shards) where
   abbrev all : List Batch

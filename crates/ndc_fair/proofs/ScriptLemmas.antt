@@ -1,6 +1,6 @@
 -- Every world of a script is as it should be.
-use Rattle.std.proofs.Common.{ℕ, suc, ◌+◌, ◌<◌, ◌≤◌, List, [], ◌∷◌, length, map, arith}
-use Rattle.std.specs.List.{All, AllByRecursion}
+use Rattle.std.proofs.Common.{ℕ, ◌+◌, ◌<◌, ◌≤◌, List, [], ◌∷◌, length, map, arith}
+use Rattle.std.specs.List.{AllByRecursion}
 use Rattle.std.specs.Prelude.{codes}
 use Rattle.std.proofs.lemmas.List.{length-append}
 use Rattle.ndc_act.specs.Print.{act_lines, body_lines, header_lines, job_words}
@@ -16,7 +16,7 @@ use Rattle.ndc_model.specs.Facts.{IsReached}
 use Rattle.ndc_model.specs.Lines.{act_step, job_line, lines_of_act, plain_lines, ran_from, worlds_of}
 use Rattle.ndc_model.specs.World.{World, opening_world}
 use Rattle.ndc_model.proofs.FairLemmas.{opening_reached}
-use Rattle.ndc_model.proofs.ListLemmas.{all-append, length-mapped}
+use Rattle.ndc_model.proofs.ListLemmas.{all-append, length-mapped, all-listed}
 use Rattle.ndc_fair.specs.Writing.{WritingKeeps}
 use Rattle.ndc_fair.specs.Sometime.{IsReachedSometime}
 use Rattle.ndc_fair.proofs.LineLemmas.{line_kept}
@@ -25,13 +25,8 @@ use Rattle.ndc_fair.proofs.LineLemmas.{line_kept}
 abbrev Fits : Header → Line → Type 0
 Fits header line = IsWellFormedAct header line.act
 
--- what all at their places have
-all-listed : {X : Type 0} (P : X → Type 0) (xs : List X) → All P xs → AllByRecursion P xs
-all-listed P [] all = tt
-all-listed P (x ∷ xs) all = (all 0 x (omega arith), all-listed P xs (λ k d less. all (suc k) d (omega (arith, less))))
-
 -- the lines that stand for a well-formed act are well-formed
-act-fits : (header : Header) (number : ℕ) (asked : Act) → IsWellFormedAct header asked → AllByRecursion (Fits header) (lines_of_act number asked)
+pub act-fits : (header : Header) (number : ℕ) (asked : Act) → IsWellFormedAct header asked → AllByRecursion (Fits header) (lines_of_act number asked)
 act-fits header number (act.Burst cluster jobs) fit = each jobs (all-listed IsWellFormedJob jobs fit.1)
   where
     each : (jobs : List BurstJob) → AllByRecursion IsWellFormedJob jobs → AllByRecursion (Fits header) (map (job_line cluster) jobs)
@@ -44,12 +39,12 @@ lines-fit header [] all = tt
 lines-fit header (line ∷ lines) all = all-append (Fits header) (lines_of_act line.number line.act) (plain_lines lines) (act-fits header line.number line.act all.0) (lines-fit header lines all.1)
 
 -- they are no more than the lines in print
-act-short : (header : Header) (number : ℕ) (asked : Act) → length (lines_of_act number asked) ≤ length (act_lines header asked)
+pub act-short : (header : Header) (number : ℕ) (asked : Act) → length (lines_of_act number asked) ≤ length (act_lines header asked)
 act-short header number (act.Burst cluster jobs) =
     omega (arith, length-mapped (job_line cluster) jobs, length-append (map (job_words (name_of header.clusters cluster)) jobs) ((codes "end" ∷ []) ∷ []), length-mapped (job_words (name_of header.clusters cluster)) jobs)
 act-short header number other = omega arith
 
-lines-short : (header : Header) (lines : List Line) → length (plain_lines lines) ≤ length (body_lines header lines)
+pub lines-short : (header : Header) (lines : List Line) → length (plain_lines lines) ≤ length (body_lines header lines)
 lines-short header [] = omega arith
 lines-short header (line ∷ lines) =
     omega (arith, act-short header line.number line.act, lines-short header lines, length-append (lines_of_act line.number line.act) (plain_lines lines), length-append (act_lines header line.act) (body_lines header lines))

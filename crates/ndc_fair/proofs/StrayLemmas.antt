@@ -62,7 +62,7 @@ stray-among (x ∷ xs) settled s h = by (is_among x.origin settled) h (stray-amo
     by false k rest = put (with-stray-among x s (strays_of xs settled) k) rest
 
 -- a signal of batches is one of a batch
-signal-batch : (bs : List Batch) (s : Stray) → Among s (signals bs) → (b : Batch) × Among b bs × Among s (signals_in b.run b.events)
+pub signal-batch : (bs : List Batch) (s : Stray) → Among s (signals bs) → (b : Batch) × Among b bs × Among s (signals_in b.run b.events)
 signal-batch [] s h = absurd h
 signal-batch (b ∷ bs) s h = by (among-cases s (signals_in b.run b.events) (signals bs) h) (signal-batch bs s)
   where

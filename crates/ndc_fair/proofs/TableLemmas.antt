@@ -2,7 +2,6 @@
 use Rattle.std.proofs.Common.{◌≡◌, ℕ, zero, suc, ◌<◌, ◌≤◌, Bool, true, false, not, ◌||◌, if◌then◌else◌, List, [], ◌∷◌, ◌++◌, length, map, take, slice_index_or, slice_set, Some, inl, inr, refl, sym, ◌∙◌, subst, ap, arith, true≢false}
 use Rattle.std.specs.List.{AllByRecursion, IsAmong, flat_map, list_any}
 use Rattle.std.specs.Str.{bytes_eq}
-use Rattle.std.proofs.lemmas.Bool.{eqb-true}
 use Rattle.ndc_act.specs.WellFormed.{AreTwoClusters, IsCluster}
 use Rattle.ndc_act.specs.declared.script.Header.{Header}
 use Rattle.ndc_cells.specs.declared.message.Message.{Message}
@@ -26,27 +25,15 @@ use Rattle.ndc_model.specs.Facts.{IsHandoverFit, IsLetterFit, IsReached, is_old,
 use Rattle.ndc_model.specs.Fair.{AreMembersKnown, EachRecord, HasRecordFrom, IsConfigKnown, IsLaneTrue, IsOwn, IsRecordInRange, IsShaped, ends_of, is_named, primary}
 use Rattle.ndc_model.specs.Queues.{is_addressed, names_cluster, needs_nothing}
 use Rattle.ndc_model.specs.World.{Cluster, Link, World, all_clusters, cell_at, cluster_at, is_late_in, lane_in, new_cluster, newly_naming, queue_at, with_late, with_table}
-use Rattle.ndc_model.proofs.ListLemmas.{all-append, all-self, all-set, all-take, all-weaker, is-among, map-alike}
+use Rattle.ndc_model.proofs.ListLemmas.{all-append, all-self, all-set, all-take, all-weaker, is-among, map-alike, any-one}
 use Rattle.ndc_model.proofs.WorldLemmas.{set-cases}
 use Rattle.ndc_sets.proofs.ForkLemmas.{among-left, among-right}
 use Rattle.std.proofs.lemmas.Bool.Decides.{nat_tests}
 use Rattle.ndc_sets.proofs.Lists.{Among, all-among, all-from, list_any-one}
 use Rattle.ndc_fair.proofs.FrameLemmas.{WroteAlike, arrivals-alike, beats-alike, cells_in, copies-alike, messages-alike, numbers-alike, queues_in, ranges-alike, reports-alike, reports_in, writing-alike}
+use Rattle.ndc_fair.proofs.ManyLemmas.{one-cluster}
 use Rattle.ndc_fair.specs.Tables.{IsTableFit, TableGrows}
 use Rattle.ndc_fair.proofs.GrowLemmas.{grows-none, names-grow, newly-named, newly-there, record-grows}
-
--- clusters of one number are one
-one-cluster : (one two : ClusterNo) → same_cluster one two ≡ true → one ≡ two
-one-cluster one two e = let same : one.number ≡ two.number = eqb-true one.number two.number e in λ i. record { number = same i }
-
--- one of those passes, where some does
-any-one : {X : Type 0} (p : X → Bool) (xs : List X) → list_any p xs ≡ true → (x : X) × Among x xs × (p x ≡ true)
-any-one p [] h = absurd (true≢false (sym h))
-any-one {X = X} p (y ∷ ys) h = by (p y) refl h (any-one p ys)
-  where
-    by : (t : Bool) → p y ≡ t → (t || list_any p ys) ≡ true → (list_any p ys ≡ true → (x : X) × Among x ys × (p x ≡ true)) → (x : X) × Among x (y ∷ ys) × (p x ≡ true)
-    by true passes h rest = (y, inl refl, passes)
-    by false fails h rest = let r = rest h in (r.0, inr r.1, r.2)
 
 any-append : {X : Type 0} (p : X → Bool) (xs ys : List X) → list_any p xs ≡ true → list_any p (xs ++ ys) ≡ true
 any-append p xs ys h = let f = any-one p xs h in list_any-one p (xs ++ ys) f.0 (among-left f.0 xs ys f.1) f.2

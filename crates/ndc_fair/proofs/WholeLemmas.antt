@@ -1,7 +1,7 @@
 -- Where all that was written has arrived at each member: what is learned there, and who writes.
 use Rattle.std.proofs.Common.{◌≡◌, ℕ, ◌<◌, ◌≤◌, Bool, true, false, cond, not, nat_lt, List, [], ◌∷◌, Option, Some, None, Ok, Err, inl, inr, refl, sym, ◌∙◌, subst, ap, arith, true≢false}
-use Rattle.std.specs.Prelude.{◌||◌, IsSomeAnd, is_some}
-use Rattle.std.specs.List.{filter, flat_map, list_any}
+use Rattle.std.specs.Prelude.{IsSomeAnd, is_some}
+use Rattle.std.specs.List.{filter, flat_map}
 use Rattle.ndc_cells.specs.declared.message.Message.{Message}
 use Rattle.std.proofs.lemmas.Bool.{eq-eqb, eqb-true}
 use Rattle.std.proofs.lemmas.Bool.Decides.{nat_tests}
@@ -22,6 +22,7 @@ use Rattle.ndc_domain.proofs.Tables.{found_has}
 use Rattle.ndc_domain.proofs.Writers.{rest_of_writer}
 use Rattle.ndc_event.specs.declared.batch.Batch.{Batch}
 use Rattle.ndc_event.specs.declared.name.Name.{Name}
+use Rattle.ndc_model.proofs.ListLemmas.{any-one, filter-none}
 use Rattle.ndc_model.specs.Facts.{IsReached}
 use Rattle.ndc_model.specs.Fair.{AreMembersKnown, IsOwn, IsRecordInRange, is_named, written_of}
 use Rattle.ndc_model.specs.Moves.{all_written}
@@ -34,26 +35,13 @@ use Rattle.ndc_sets.specs.Sound.{IsSound}
 use Rattle.ndc_sets.proofs.ArrivalLemmas.{equal_sets}
 use Rattle.ndc_sets.proofs.BranchLemmas.{among-has, has-among}
 use Rattle.ndc_sets.proofs.LearnedLemmas.{closed_whole}
-use Rattle.ndc_sets.proofs.Lists.{Among, all-among, among-filter, filter-among, filter-cases}
+use Rattle.ndc_sets.proofs.Lists.{Among, all-among, among-filter, filter-among}
 use Rattle.ndc_fair.proofs.BootstrapLemmas.{come-itself}
 use Rattle.ndc_fair.proofs.ManyLemmas.{among-flat}
 use Rattle.ndc_fair.proofs.WrittenLemmas.{arrived-written, cell-is, lives, names-of, own-names}
 use Rattle.ndc_fair.proofs.OwnLemmas.{owns, owns_by}
 use Rattle.ndc_fair.proofs.TableRound.{OneTable, table_at}
 use Rattle.ndc_fair.proofs.CameLemmas.{HasAll, written-message}
-
--- where no item passes, none is left
-filter-none : {X : Type 0} (p : X → Bool) (xs : List X) → ((x : X) → Among x xs → p x ≡ false) → filter p xs ≡ []
-filter-none p [] fails = refl
-filter-none p (x ∷ xs) fails = filter-cases (λ ys. ys ≡ []) p x xs (λ passes. absurd (true≢false (sym passes ∙ fails x (inl refl)))) (λ _. filter-none p xs (λ y among. fails y (inr among)))
-
-any-one : {X : Type 0} (p : X → Bool) (xs : List X) → list_any p xs ≡ true → (x : X) × Among x xs × (p x ≡ true)
-any-one p [] h = absurd (true≢false (sym h))
-any-one {X = X} p (y ∷ ys) h = by (p y) refl h (any-one p ys)
-  where
-    by : (t : Bool) → p y ≡ t → (t || list_any p ys) ≡ true → (list_any p ys ≡ true → (x : X) × Among x ys × (p x ≡ true)) → (x : X) × Among x (y ∷ ys) × (p x ≡ true)
-    by true passes h rest = (y, inl refl, passes)
-    by false fails h rest = let r = rest h in (r.0, inr r.1, r.2)
 
 -- a list without items
 empty-list : {X : Type 0} (xs : List X) → ((x : X) → Among x xs → ⊥) → xs ≡ []

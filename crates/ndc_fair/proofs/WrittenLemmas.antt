@@ -40,7 +40,7 @@ flat-among {X = X} {Y = Y} f (x ∷ xs) y among = by (among-cases y (f x) (flat_
     by (inr later) rest = let r = rest later in (r.0, inr r.1, r.2)
 
 -- what was put into order was there
-among-placed : (new x : Batch) (bs : List Batch) → Among x (placed new bs) → (x ≡ new) ⊎ Among x bs
+pub among-placed : (new x : Batch) (bs : List Batch) → Among x (placed new bs) → (x ≡ new) ⊎ Among x bs
 among-placed new x [] (inl same) = inl same
 among-placed new x [] (inr none) = absurd none
 among-placed new x (b ∷ bs) among = by (place_lt (place_of new) (place_of b)) (is_at (place_of new) b) (among-placed new x bs) among

@@ -1,5 +1,5 @@
 -- The commands of a burst may be asked, one after the other.
-use Rattle.std.proofs.Common.{ℕ, suc, ◌≤◌, ◌+◌, List, [], ◌∷◌, length, subst, refl, ◌≡◌, arith}
+use Rattle.std.proofs.Common.{ℕ, ◌≤◌, ◌+◌, List, [], ◌∷◌, length, subst, refl, ◌≡◌, arith}
 use Rattle.std.specs.List.{All, AllByRecursion}
 use Rattle.ndc_act.specs.WellFormed.{IsCluster, IsWellFormedHeader, IsWellFormedJob, IsWorkflowAt}
 use Rattle.ndc_act.specs.declared.script.BurstJob.{BurstJob}
@@ -10,6 +10,7 @@ use Rattle.ndc_domain.specs.declared.clusters.ClusterNo.{ClusterNo}
 use Rattle.ndc_event.specs.declared.name.Name.{Name}
 use Rattle.ndc_fair.proofs.BringLemmas.{world_after}
 use Rattle.ndc_fair.proofs.MoveLemmas.{command-kept}
+use Rattle.ndc_model.proofs.ListLemmas.{all-listed}
 use Rattle.ndc_model.specs.Facts.{IsReached}
 use Rattle.ndc_model.specs.Moves.{jobs_done}
 use Rattle.ndc_model.specs.Steps.{command_step}
@@ -19,11 +20,6 @@ use Rattle.ndc_workflow.specs.Allowed.{IsAllowed}
 use Rattle.ndc_fair_jobs.specs.Lines.{burst_jobs, job_for}
 use Rattle.ndc_fair_jobs.proofs.AskLemmas.{command-allowed}
 use Rattle.ndc_fair_jobs.proofs.ComeLemmas.{allowed-more}
-
--- what all at their places have
-all-listed : {X : Type 0} (P : X → Type 0) (xs : List X) → All P xs → AllByRecursion P xs
-all-listed P [] all = tt
-all-listed P (x ∷ xs) all = (all 0 x (omega arith), all-listed P xs (λ k d less. all (suc k) d (omega (arith, less))))
 
 -- the world behind a command is that behind its job
 command-behind : (header : Header) (cluster : ClusterNo) (domain workflow : Name) (command : Command) (w : World)

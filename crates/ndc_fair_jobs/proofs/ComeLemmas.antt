@@ -25,13 +25,12 @@ use Rattle.ndc_fair.proofs.ManyLemmas.{due-may, flights-may, many, one-cluster, 
 use Rattle.ndc_fair.proofs.MessageLemmas.{again-may, learned-true}
 use Rattle.ndc_fair.proofs.LaneLemmas.{named-there}
 use Rattle.ndc_fair.proofs.LinkLemmas.{IsLinkFit, links-fit}
-use Rattle.ndc_fair.proofs.LandLemmas.{set-there}
 use Rattle.ndc_model.specs.Facts.{IsReached}
 use Rattle.ndc_model.specs.Fair.{IsShaped, is_named}
 use Rattle.ndc_model.specs.Moves.{all_arrive, arrives, by_link, due, in_flight, learned_of_domains, sent_again}
 use Rattle.ndc_model.specs.Queues.{names_cluster}
 use Rattle.ndc_model.specs.World.{Cluster, Link, World, cell_at, cluster_at, home_at, is_link, link_at, link_found, new_cluster, shards_of}
-use Rattle.ndc_model.proofs.ListLemmas.{all-flat, all-weaker}
+use Rattle.ndc_model.proofs.ListLemmas.{all-flat, all-weaker, set-there}
 use Rattle.ndc_network.specs.Conditions.{MayDoAll, again_jobs, due_jobs, flight_jobs, late_jobs}
 use Rattle.ndc_rounds.specs.Rounds.{AreAllowed}
 use Rattle.ndc_sets.proofs.Lists.{Among, all-among, all-from, filter-among, filter_map-among, find-among}

@@ -1,5 +1,5 @@
 -- Steps that let tables grow.
-use Rattle.std.proofs.Common.{◌≡◌, ℕ, ◌≤◌, Bool, true, false, ◌||◌, ◌&&◌, not, cond, if◌then◌else◌, List, [], ◌∷◌, Option, Some, None, IsSomeAnd, Result, Ok, Err, slice_index_or, refl, sym, ◌∙◌, subst, ap, arith, true≢false}
+use Rattle.std.proofs.Common.{◌≡◌, ℕ, ◌≤◌, Bool, true, false, ◌||◌, ◌&&◌, not, cond, if◌then◌else◌, List, [], ◌∷◌, Option, Some, None, Result, Ok, Err, slice_index_or, refl, sym, ◌∙◌, subst, ap, arith, true≢false}
 use Rattle.std.specs.Prelude.{◌==◌, codes, is_some, option_to_list}
 use Rattle.std.specs.Str.{bytes_eq}
 use Rattle.std.proofs.lemmas.Slice.Eq.{bytes_eq-Decides}
@@ -34,6 +34,7 @@ use Rattle.ndc_graceful.specs.declared.handover.BeginError.TheVariants.{NotActiv
 use Rattle.ndc_graceful.specs.declared.handover.Handover.{Handover}
 use Rattle.ndc_graceful.specs.declared.handover.ReadyError.{ReadyError}
 use Rattle.ndc_graceful.specs.declared.handover.ReadyError.TheVariants.{BootstrapDue, NotYet, Overtaken}
+use Rattle.ndc_model.proofs.ListLemmas.{some-and}
 use Rattle.ndc_model.specs.Facts.{IsHandoverFit, IsReached}
 use Rattle.ndc_model.specs.Handovers.{complete_by, complete_open, complete_step, handover_begun, handover_step, handover_to, is_handover_of, open_handover, queue_ends, ready_in}
 use Rattle.ndc_model.specs.Steps.{answered}
@@ -80,11 +81,6 @@ found-once : (table : List DomainRecord) (name : Name) (old other : DomainRecord
 found-once table name old other is e f =
     let named : old.name ≡ name = (found_has IsRecord table name old is.sound e).1 in
     let both : Some old ≡ Some other = sym e ∙ ap (record_of table) (sym named) ∙ f in cc
-
--- what is there and has a property
-some-and : {X : Type 0} (P : X → Type 0) (o : Option X) → IsSomeAnd o P → (x : X) × (o ≡ Some x) × P x
-some-and P None h = elim h [ ]
-some-and P (Some x) h = (x, refl, h)
 
 -- a table merges another
 pub merge-grows : (ours theirs : List DomainRecord) → IsTable ours → IsTable theirs → TableGrows ours (merged ours theirs)

@@ -1,41 +1,29 @@
 -- The world in which a line of a script runs is reached, with a line to spare.
-use Rattle.std.proofs.Common.{◌<◌, ◌≤◌, ◌+◌, ℕ, suc, List, [], ◌∷◌, ◌++◌, length, map, subst, arith}
-use Rattle.std.specs.List.{All, AllByRecursion}
+use Rattle.std.proofs.Common.{◌<◌, ◌+◌, ℕ, List, [], ◌∷◌, ◌++◌, length, map, subst, arith}
+use Rattle.std.specs.List.{AllByRecursion}
 use Rattle.std.specs.Prelude.{codes}
 use Rattle.std.proofs.lemmas.List.{length-append}
 use Rattle.ndc_act.specs.Print.{act_lines, body_lines, header_lines, job_words}
-use Rattle.ndc_act.specs.WellFormed.{IsWellFormed, IsWellFormedAct, IsWellFormedHeader, IsWellFormedJob}
+use Rattle.ndc_act.specs.WellFormed.{IsWellFormed, IsWellFormedAct, IsWellFormedHeader}
 use Rattle.ndc_act.specs.declared.script.Act.{Act}
 use Rattle.ndc_act.specs.declared.script.Act.TheVariants as act
-use Rattle.ndc_act.specs.declared.script.BurstJob.{BurstJob}
 use Rattle.ndc_act.specs.declared.script.Header.{Header}
 use Rattle.ndc_act.specs.declared.script.Line.{Line}
 use Rattle.ndc_domain.specs.Clusters.{name_of}
 use Rattle.ndc_fair.proofs.LineLemmas.{line_kept}
+use Rattle.ndc_fair.proofs.ScriptLemmas.{act-fits, act-short}
 use Rattle.ndc_fair.proofs.WorkflowApplyLemmas.{writing_keeps}
 use Rattle.ndc_laws.specs.Promised.{RunsReached, world_before}
 use Rattle.ndc_model.specs.Facts.{IsReached}
 use Rattle.ndc_model.specs.Laws.{script_of}
-use Rattle.ndc_model.specs.Lines.{act_step, job_line, lines_of_act, plain_lines, ran_from, world_behind}
+use Rattle.ndc_model.specs.Lines.{act_step, lines_of_act, plain_lines, ran_from, world_behind}
 use Rattle.ndc_model.specs.World.{World, opening_world}
 use Rattle.ndc_model.proofs.FairLemmas.{opening_reached}
-use Rattle.ndc_model.proofs.ListLemmas.{all-append, length-mapped}
+use Rattle.ndc_model.proofs.ListLemmas.{all-append, all-listed}
 
 -- a line that is well-formed
 abbrev Fits : Header → Line → Type 0
 Fits header line = IsWellFormedAct header line.act
-
-all-listed : {X : Type 0} (P : X → Type 0) (xs : List X) → All P xs → AllByRecursion P xs
-all-listed P [] all = tt
-all-listed P (x ∷ xs) all = (all 0 x (omega arith), all-listed P xs (λ k d less. all (suc k) d (omega (arith, less))))
-
-act-fits : (header : Header) (number : ℕ) (asked : Act) → IsWellFormedAct header asked → AllByRecursion (Fits header) (lines_of_act number asked)
-act-fits header number (act.Burst cluster jobs) fit = each jobs (all-listed IsWellFormedJob jobs fit.1)
-  where
-    each : (jobs : List BurstJob) → AllByRecursion IsWellFormedJob jobs → AllByRecursion (Fits header) (map (job_line cluster) jobs)
-    each [] all = tt
-    each (job ∷ jobs) all = ((record { known = fit.0; domain_name = all.0.domain; workflow_name = all.0.workflow }, all.0.command), each jobs all.1)
-act-fits header number other fit = (fit, tt)
 
 -- the first lines, with each burst taken apart, are well-formed
 front-fits : (header : Header) (front back : List Line) → AllByRecursion (Fits header) (front ++ back) → AllByRecursion (Fits header) (plain_lines front)
@@ -46,11 +34,6 @@ front-fits header (line ∷ front) back all = all-append (Fits header) (lines_of
 behind-fits : (header : Header) (front back : List Line) (line : Line) → AllByRecursion (Fits header) (front ++ line ∷ back) → IsWellFormedAct header line.act
 behind-fits header [] back line all = all.0
 behind-fits header (first ∷ front) back line all = behind-fits header front back line all.1
-
-act-short : (header : Header) (number : ℕ) (asked : Act) → length (lines_of_act number asked) ≤ length (act_lines header asked)
-act-short header number (act.Burst cluster jobs) =
-    omega (arith, length-mapped (job_line cluster) jobs, length-append (map (job_words (name_of header.clusters cluster)) jobs) ((codes "end" ∷ []) ∷ []), length-mapped (job_words (name_of header.clusters cluster)) jobs)
-act-short header number other = omega arith
 
 -- each line is printed in a line at least
 act-some : (header : Header) (asked : Act) → 0 < length (act_lines header asked)

@@ -26,6 +26,7 @@ use Rattle.ndc_fair.proofs.OneWriterLemmas.{learned_sound}
 use Rattle.ndc_laws.specs.Promised.{HasArrivedFor}
 use Rattle.ndc_letters.specs.Letters.{place_of_letter}
 use Rattle.ndc_letters.specs.declared.letter.Letter.{Letter}
+use Rattle.ndc_model.proofs.ListLemmas.{any-one}
 use Rattle.ndc_model.specs.Facts.{IsLetterFit, IsReached}
 use Rattle.ndc_model.specs.Fair.{IsMessageTrue, IsOwn, is_named}
 use Rattle.ndc_model.specs.Letters.{letter_job, letters_merged, with_letters}
@@ -36,7 +37,6 @@ use Rattle.ndc_model.proofs.WorldLemmas.{set-cases}
 use Rattle.ndc_sets.specs.Sets.{Has}
 use Rattle.ndc_sets.proofs.BranchLemmas.{among-has, has-among, same-batch}
 use Rattle.ndc_sets.proofs.Lists.{Among, all-among, all-from, among-filter_map, filter_map-among, find-only}
-use Rattle.ndc_laws.proofs.StrayLemmas.{any-one}
 
 module _ (header : Header) (fit : IsWellFormedHeader header) (lines : ℕ) (w : World) (is : IsReached header lines w) (reader : ClusterNo) (known : IsCluster header reader) where
   some : 0 < header.shards

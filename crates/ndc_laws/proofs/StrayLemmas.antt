@@ -1,6 +1,6 @@
 -- Behind a batch below the current tip that copies all strays there is none.
 use Rattle.std.proofs.Common.{◌≡◌, Bool, true, false, ◌&&◌, ◌||◌, not, is_some, List, [], ◌∷◌, ◌++◌, ◌⊎◌, inl, inr, Option, Some, None, refl, sym, ◌∙◌, subst, ap, true≢false, if◌then◌else◌}
-use Rattle.std.specs.List.{cons_option, filter, list_any}
+use Rattle.std.specs.List.{cons_option, filter}
 use Rattle.std.specs.Prelude.{is_none}
 use Rattle.std.proofs.lemmas.Bool.{or_left, or_right}
 use Rattle.std.proofs.lemmas.List.{append-nil, append_assoc, map-append}
@@ -10,6 +10,8 @@ use Rattle.ndc_event.specs.declared.batch.Batch.{Batch}
 use Rattle.ndc_event.specs.declared.batch.Event.{Event}
 use Rattle.ndc_event.specs.declared.key.Origin.{Origin}
 use Rattle.ndc_event.specs.declared.key.RunId.{RunId}
+use Rattle.ndc_fair.proofs.StrayLemmas.{signal-batch}
+use Rattle.ndc_model.proofs.ListLemmas.{any-one}
 use Rattle.ndc_reapply.specs.Strays.{origins_of, strays_of}
 use Rattle.ndc_reapply.specs.declared.stray.Stray.{Stray}
 use Rattle.ndc_reapply.proofs.LawProofs.{unsettled_origins}
@@ -25,7 +27,7 @@ use Rattle.ndc_sets.proofs.ArrivalLemmas.{is_there, stays, was_or_new}
 use Rattle.ndc_sets.proofs.BranchLemmas.{IsUpTo, among-has, greatest-among, greatest-of, greatest-top, has-among, run-same, same-batch, same-run}
 use Rattle.ndc_sets.proofs.CurrentLaws.{current-has, workflow_is_greatest}
 use Rattle.ndc_sets.proofs.CurrentLemmas.{IsGreatestOf, current-greatest, of_run, run-greatest}
-use Rattle.ndc_sets.proofs.ForkLemmas.{among-cases, among-left, among-right}
+use Rattle.ndc_sets.proofs.ForkLemmas.{among-left, among-right}
 use Rattle.ndc_sets.proofs.Lists.{Among, among-filter, among-map, filter-among, filter_map-among, list_any-one, map-among}
 use Rattle.ndc_sets.proofs.WritePaths.{path_behind_parent, paths_stay}
 use Rattle.ndc_state.specs.Origins.{is_among, same_origin}
@@ -35,15 +37,6 @@ use Rattle.ndc_state.specs.Replay.{history_of, replay_of}
 pub none-stray : (list : List Stray) (known : List Origin) → ((s : Stray) → Among s list → is_among s.origin known ≡ true) → strays_of list known ≡ []
 none-stray [] known each = refl
 none-stray (s ∷ list) known each = rw (each s (inl refl)) (none-stray list known (λ x h. each x (inr h)))
-
--- where some item passes, which
-pub any-one : {X : Type 0} (p : X → Bool) (xs : List X) → list_any p xs ≡ true → (x : X) × Among x xs × (p x ≡ true)
-any-one p [] h = absurd (true≢false (sym h))
-any-one {X = X} p (y ∷ ys) h = by (p y) refl h (any-one p ys)
-  where
-    by : (t : Bool) → p y ≡ t → (t || list_any p ys) ≡ true → (list_any p ys ≡ true → (x : X) × Among x ys × (p x ≡ true)) → (x : X) × Among x (y ∷ ys) × (p x ≡ true)
-    by true passes h rest = (y, inl refl, passes)
-    by false fails h rest = let r = rest h in (r.0, inr r.1, r.2)
 
 -- an origin that is one of them is among them
 listed : (o : Origin) (list : List Origin) → Among o list → is_among o list ≡ true
@@ -72,16 +65,6 @@ origins-parts run xs ys = ap origins_of (signals-parts run xs ys) ∙ map-append
 history-last : (path : List Batch) (b : Batch) → history_of (path ++ b ∷ []) ≡ history_of path ++ b.events
 history-last [] b = append-nil b.events
 history-last (c ∷ path) b = ap (λ l. c.events ++ l) (history-last path b) ∙ sym (append_assoc c.events (history_of path) b.events)
-
--- a signal of batches is one of a batch
-signal-of : (bs : List Batch) (s : Stray) → Among s (signals bs) → (b : Batch) × Among b bs × Among s (signals_in b.run b.events)
-signal-of [] s h = absurd h
-signal-of (b ∷ bs) s h = by (among-cases s (signals_in b.run b.events) (signals bs) h) (signal-of bs s)
-  where
-    by : Among s (signals_in b.run b.events) ⊎ Among s (signals bs) → (Among s (signals bs) → (x : Batch) × Among x bs × Among s (signals_in x.run x.events))
-        → (x : Batch) × Among x (b ∷ bs) × Among s (signals_in x.run x.events)
-    by (inl k) rest = (b, inl refl, k)
-    by (inr k) rest = let r = rest k in (r.0, inr r.1, r.2)
 
 -- and that of a batch is one of the batches
 of-signal : (bs : List Batch) (b : Batch) (s : Stray) → Among b bs → Among s (signals_in b.run b.events) → Among s (signals bs)
@@ -260,7 +243,7 @@ module _ (old : List Batch) (new tip : Batch) (sound : IsSound old) (later : IsS
   signal-settled s h = by (either at.0 (among-has all at.0 later.set.ordered at.1))
     where
       at : (b : Batch) × Among b all × Among s (signals_in b.run b.events)
-      at = signal-of all s h
+      at = signal-batch all s h
 
       copy : (known : Bool) → is_among s.origin (settled old) ≡ known → Among s (signals old) → is_among s.origin (settled all) ≡ true
       copy true e among = still-settled s.origin e

@@ -1,11 +1,11 @@
 -- What holds of all items of a list.
-use Rattle.std.proofs.Common.{◌≡◌, ℕ, zero, suc, ◌+◌, ◌<◌, ◌≤◌, Bool, true, false, cond, if◌then◌else◌, List, [], ◌∷◌, ◌++◌, length, map, take, drop, remove, slice_get, slice_index_or, slice_set, Some, inl, inr, refl, sym, ◌∙◌, subst, ap, arith, min}
-use Rattle.std.specs.List.{AllByRecursion, IsAmong, filter, flat_map, fold, prefix_len, reduce}
-use Rattle.std.specs.Prelude.{find, unwrap_or}
+use Rattle.std.proofs.Common.{◌≡◌, ℕ, zero, suc, ◌+◌, ◌<◌, ◌≤◌, Bool, true, false, cond, if◌then◌else◌, List, [], ◌∷◌, ◌++◌, length, map, take, drop, remove, slice_get, slice_index_or, slice_set, Some, inl, inr, refl, sym, ◌∙◌, subst, ap, arith, min, Option, None, true≢false, ◌||◌}
+use Rattle.std.specs.List.{AllByRecursion, IsAmong, filter, flat_map, fold, prefix_len, reduce, All, list_any}
+use Rattle.std.specs.Prelude.{find, unwrap_or, IsSomeAnd}
 use Rattle.std.proofs.Math.Nat.{min-le_left, min-le_right}
 use Rattle.ndc_model.specs.Moves.{map_from}
 use Rattle.ndc_model.specs.World.{changed_first}
-use Rattle.ndc_sets.proofs.Lists.{Among}
+use Rattle.ndc_sets.proofs.Lists.{Among, filter-cases}
 
 pub all-append : {X : Type 0} (P : X → Type 0) (xs ys : List X) → AllByRecursion P xs → AllByRecursion P ys → AllByRecursion P (xs ++ ys)
 all-append P [] ys p q = q
@@ -170,3 +170,45 @@ pub least-most : (xs : List ℕ) (x otherwise : ℕ) → Among x xs → unwrap_o
 least-most [] x otherwise none = absurd none
 least-most (y ∷ ys) x otherwise (inl same) = omega (arith, fold-min ys y, same)
 least-most (y ∷ ys) x otherwise (inr among) = fold-min-each ys y x among
+
+-- what holds at each place holds of each item
+pub all-listed : {X : Type 0} (P : X → Type 0) (xs : List X) → All P xs → AllByRecursion P xs
+all-listed P [] all = tt
+all-listed P (x ∷ xs) all = (all 0 x (omega arith), all-listed P xs (λ k d less. all (suc k) d (omega (arith, less))))
+
+-- where some item passes, which
+pub any-one : {X : Type 0} (p : X → Bool) (xs : List X) → list_any p xs ≡ true → (x : X) × Among x xs × (p x ≡ true)
+any-one p [] h = absurd (true≢false (sym h))
+any-one {X = X} p (y ∷ ys) h = by (p y) refl h (any-one p ys)
+  where
+    by : (t : Bool) → p y ≡ t → (t || list_any p ys) ≡ true → (list_any p ys ≡ true → (x : X) × Among x ys × (p x ≡ true)) → (x : X) × Among x (y ∷ ys) × (p x ≡ true)
+    by true passes h rest = (y, inl refl, passes)
+    by false fails h rest = let r = rest h in (r.0, inr r.1, r.2)
+
+-- what is put twice is what was put last
+pub set-twice : {X : Type 0} (xs : List X) (i : ℕ) (x y : X) → slice_set (slice_set xs i x) i y ≡ slice_set xs i y
+set-twice [] i x y = refl
+set-twice (z ∷ zs) zero x y = refl
+set-twice (z ∷ zs) (suc i) x y = ap (λ l. z ∷ l) (set-twice zs i x y)
+
+-- a list has as many items behind a putting as before
+pub set-length : {X : Type 0} (xs : List X) (i : ℕ) (x : X) → length (slice_set xs i x) ≡ length xs
+set-length [] i x = refl
+set-length (y ∷ ys) zero x = refl
+set-length (y ∷ ys) (suc i) x = ap suc (set-length ys i x)
+
+-- an item that is put stands at its place
+pub set-there : {X : Type 0} (xs : List X) (i : ℕ) (x d : X) → i < length xs → slice_index_or (slice_set xs i x) i d ≡ x
+set-there [] i x d less = absurd (omega (arith, less))
+set-there (y ∷ ys) zero x d less = refl
+set-there (y ∷ ys) (suc i) x d less = set-there ys i x d (omega (arith, less))
+
+-- where no item passes, none is left
+pub filter-none : {X : Type 0} (p : X → Bool) (xs : List X) → ((x : X) → Among x xs → p x ≡ false) → filter p xs ≡ []
+filter-none p [] fails = refl
+filter-none p (x ∷ xs) fails = filter-cases (λ ys. ys ≡ []) p x xs (λ passes. absurd (true≢false (sym passes ∙ fails x (inl refl)))) (λ _. filter-none p xs (λ y among. fails y (inr among)))
+
+-- what is there and has a property
+pub some-and : {X : Type 0} (P : X → Type 0) (o : Option X) → IsSomeAnd o P → (x : X) × (o ≡ Some x) × P x
+some-and P None h = elim h [ ]
+some-and P (Some x) h = (x, refl, h)

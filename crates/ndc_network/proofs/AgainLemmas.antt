@@ -1,5 +1,5 @@
 -- What is gathered, looked up and sent again in a world that some lines lead to.
-use Rattle.std.proofs.Common.{◌≡◌, ℕ, zero, suc, ◌<◌, ◌≤◌, ◌+◌, Bool, true, false, not, List, [], ◌∷◌, ◌++◌, length, get_or, take, map, Option, Some, None, inl, inr, refl, sym, ◌∙◌, subst, ap, arith}
+use Rattle.std.proofs.Common.{◌≡◌, ℕ, zero, suc, ◌<◌, ◌≤◌, ◌+◌, Bool, true, false, List, [], ◌∷◌, ◌++◌, length, get_or, take, map, Option, Some, None, inl, inr, refl, sym, ◌∙◌, subst, ap, arith}
 use Rattle.std.specs.Prelude.{IfSome, is_some, option_to_list}
 use Rattle.std.specs.List.{AllByRecursion, IsAmong, cons_option, filter, flat_map}
 use Rattle.std.proofs.lemmas.List.{append-nil, append_assoc, map-append, take_all, take_more}
@@ -9,10 +9,9 @@ use Rattle.ndc_again.specs.Again.{AreGatheredFor, IsGatheredFor, messages_by_aut
 use Rattle.ndc_again.specs.Authors.{batch_by_author}
 use Rattle.ndc_again.specs.Gathered.{missing_key}
 use Rattle.ndc_again.specs.Steps.{keys_to}
-use Rattle.ndc_again.proofs.AboveLemmas.{begun-with, earlier-smaller, found-written, stepped, stopped-arrived, stopped-gathered, stopped-nowhere}
+use Rattle.ndc_again.proofs.AboveLemmas.{begun-with, earlier-smaller, found-written, stepped, stopped-arrived, stopped-nowhere}
 use Rattle.ndc_again.proofs.AgainLemmas.{sent-by-workflow, sent-of-workflow}
 use Rattle.ndc_again.proofs.GatherLemmas.{gathered-none}
-use Rattle.ndc_cells.specs.declared.message.Message.{Message}
 use Rattle.ndc_cells.specs.declared.place.Place.{Place}
 use Rattle.ndc_cells.specs.Cells.{Cell, arrived_of, put_off_in}
 use Rattle.ndc_cells.specs.Jobs.{workflows_of}
@@ -21,6 +20,7 @@ use Rattle.ndc_domain.specs.declared.clusters.ClusterNo.{ClusterNo}
 use Rattle.ndc_event.specs.declared.batch.Batch.{Batch}
 use Rattle.ndc_event.specs.declared.key.BatchKey.{BatchKey}
 use Rattle.ndc_event.specs.declared.name.Name.{Name}
+use Rattle.ndc_fair.proofs.OwnLemmas.{workflows-among}
 use Rattle.ndc_fair.specs.Sometime.{IsReachedSometime}
 use Rattle.ndc_links.specs.Lacking.{all_lacking, lacking_of}
 use Rattle.ndc_links.specs.declared.reads.Lacking.{Lacking}
@@ -31,7 +31,7 @@ use Rattle.ndc_network.proofs.OrderlyLemmas.{orderly_fair}
 use Rattle.ndc_network.specs.Orderly.{IsOrderly}
 use Rattle.ndc_sets.specs.Sets.{batch_at, earlier}
 use Rattle.ndc_tree.specs.Tips.{with_key}
-use Rattle.ndc_sets.proofs.Lists.{Among, all-from, among-map, filter-among, map-among}
+use Rattle.ndc_sets.proofs.Lists.{Among, all-from, among-map, map-among}
 
 -- a world that some lines lead to is orderly
 pub orderly_sometime : (header : Header) (w : World) → IsReachedSometime header w → IsOrderly header w
@@ -129,11 +129,6 @@ module _ (header : Header) (w : World) (it : IsReachedSometime header w) (shard 
           (sent-of-workflow header it.lines w it.reached shard below reader known m.0 m.1 keys
           (subst (λ (q : Place). AreGatheredFor (all_written header shard w) (cell_at reader shard w) q.domain q.workflow keys) m.2 gathered))
 
-  heads-among : (bs : List Batch) (x : Batch) → Among x (workflows_of bs) → Among x bs
-  heads-among [] x none = none
-  heads-among (b ∷ bs) x (inl same) = inl same
-  heads-among (b ∷ bs) x (inr among) = inr (heads-among bs x ((filter-among (λ other. not (is_of b.domain b.workflow other)) (workflows_of bs) x among).1))
-
   -- the places of the first of each workflow are places of what is put off
   pub places_among : (places : List Place) → places ≡ map place_of (workflows_of (put_off_in (cell_at reader shard w))) → AllByRecursion (IsAmong (map place_of (put_off_in (cell_at reader shard w)))) places
   places_among places is =
@@ -145,7 +140,7 @@ module _ (header : Header) (w : World) (it : IsReachedSometime header w) (shard 
           let m = map-among place_of (workflows_of (put_off_in (cell_at reader shard w))) q among in
           among-is (map place_of (put_off_in (cell_at reader shard w))) q
           (subst (λ (p : Place). Among p (map place_of (put_off_in (cell_at reader shard w)))) (sym m.2)
-          (among-map place_of (put_off_in (cell_at reader shard w)) m.0 (heads-among (put_off_in (cell_at reader shard w)) m.0 m.1)))
+          (among-map place_of (put_off_in (cell_at reader shard w)) m.0 (workflows-among (put_off_in (cell_at reader shard w)) m.0 m.1)))
 
   -- what is sent again, place by place
   pub sent_by_places : (places : List Place) → places ≡ map place_of (workflows_of (put_off_in (cell_at reader shard w))) → flat_map (sent_again_at header reader w shard) places ≡ sent_again header reader w shard

@@ -108,8 +108,9 @@ impl<C: Reads + Drop> Network<C> {
         }
     }
 
-    /// The batch of a key of a workflow that was written: its author has learned it.
-    fn find_written(
+    /// The batch of a key of a workflow that was written, in a shard: its author has learned it. None where nothing of that
+    /// key was written.
+    pub fn find_written(
         &self,
         header: &Header,
         shard: u32,

@@ -1,24 +1,22 @@
 -- Lines of a script that run one after the other.
-use Rattle.std.proofs.Common.{◌≡◌, ℕ, suc, ◌+◌, ◌<◌, ◌≤◌, Bool, true, false, List, [], ◌∷◌, ◌++◌, length, map, drop, get_or, refl, ap, sym, subst, ◌∙◌, arith}
-use Rattle.std.specs.List.{All, AllByRecursion}
-use Rattle.std.specs.Prelude.{Option, codes, ◌==◌, not}
+use Rattle.std.proofs.Common.{◌≡◌, ℕ, ◌+◌, ◌<◌, ◌≤◌, Bool, true, false, List, [], ◌∷◌, ◌++◌, length, map, drop, get_or, refl, ap, sym, subst, ◌∙◌, arith}
+use Rattle.std.specs.Prelude.{Option, ◌==◌, not}
 use Rattle.std.proofs.lemmas.Bool.{eqb-true, false≢true}
 use Rattle.std.proofs.lemmas.Grind.{flat_map-append}
 use Rattle.std.proofs.lemmas.List.{append_assoc, append-nil, at_drop_all, at_drop_more, length-append}
-use Rattle.ndc_act.specs.Print.{act_lines, body_lines, header_lines, job_words}
+use Rattle.ndc_act.specs.Print.{body_lines, header_lines}
 use Rattle.ndc_act.specs.WellFormed.{IsWellFormed, IsWellFormedAct}
-use Rattle.ndc_act.specs.declared.script.Act.{Act}
 use Rattle.ndc_act.specs.declared.script.Act.TheVariants as act
 use Rattle.ndc_act.specs.declared.script.Header.{Header}
 use Rattle.ndc_act.specs.declared.script.Line.{Line}
 use Rattle.ndc_act.specs.declared.script.Script.{Script}
-use Rattle.ndc_domain.specs.Clusters.{name_of}
+use Rattle.ndc_fair.proofs.ScriptLemmas.{lines-short}
 use Rattle.ndc_index.specs.Seats.{SeatValue, after_all, after_told}
 use Rattle.ndc_index.specs.declared.seen.Seen.{Seen}
-use Rattle.ndc_model.specs.Lines.{Ran, answer_text, answers_of, job_line, lines_of_act, plain_lines, ran_of, seen_in, world_behind}
+use Rattle.ndc_model.specs.Lines.{Ran, answer_text, answers_of, lines_of_act, plain_lines, ran_of, seen_in, world_behind}
 use Rattle.ndc_model.specs.World.{World, opening_world}
 use Rattle.ndc_bare.specs.Standing.{StandFor}
-use Rattle.ndc_model.proofs.ListLemmas.{length-mapped}
+use Rattle.ndc_model.proofs.ListLemmas.{all-listed}
 use Rattle.ndc_model.proofs.ScriptLemmas.{runs_in_parts}
 use Rattle.ndc_port.specs.Bytes.{Appends, AppendsFront, Sent}
 use Rattle.ndc_port.proofs.Steps.{Sent_end, Sent_part, Sent_piece, Sent_start}
@@ -26,32 +24,11 @@ use Rattle.ndc_report.specs.Left.{MayRun, at_world, kept_where, left_of, opening
 use Rattle.ndc_world.specs.Running.{Running, behind_line, ran_at}
 use Rattle.ndc_world.specs.Standing.{Standing}
 
-all-listed : {X : Type 0} (P : X → Type 0) (xs : List X) → All P xs → AllByRecursion P xs
-all-listed P [] all = tt
-all-listed P (x ∷ xs) all = (all 0 x (omega arith), all-listed P xs (λ k d less. all (suc k) d (omega (arith, less))))
-
--- no more lines run than stand in print
-act-short : (header : Header) (number : ℕ) (asked : Act) → length (lines_of_act number asked) ≤ length (act_lines header asked)
-act-short header number (act.Burst cluster jobs) =
-    omega (arith, length-mapped (job_line cluster) jobs, length-append (map (job_words (name_of header.clusters cluster)) jobs) ((codes "end" ∷ []) ∷ []), length-mapped (job_words (name_of header.clusters cluster)) jobs)
-act-short header number other = omega arith
-
-all-short : (header : Header) (lines : List Line) → length (plain_lines lines) ≤ length (body_lines header lines)
-all-short header [] = omega arith
-all-short header (line ∷ lines) =
-    omega (
-      arith,
-      act-short header line.number line.act,
-      all-short header lines,
-      length-append (lines_of_act line.number line.act) (plain_lines lines),
-      length-append (act_lines header line.act) (body_lines header lines),
-    )
-
 -- a well-formed script may run
 pub opening_may_run : (script : Script) → IsWellFormed script → MayRun script.header 0 script.lines
 opening_may_run script is = record {
   fit = all-listed (λ line. IsWellFormedAct script.header line.act) script.lines is.lines;
-  few = omega (arith, is.short, all-short script.header script.lines, length-append (header_lines script.header) (body_lines script.header script.lines));
+  few = omega (arith, is.short, lines-short script.header script.lines, length-append (header_lines script.header) (body_lines script.header script.lines));
 }
 
 -- a seat that is told of some and then of others

@@ -114,12 +114,6 @@ may_tell a version own fresh small = by (held a own) fresh (held-holds (λ (repo
         of true e h = absurd (cc)
         of false e h = (let most : report.version ≤ version = ltb-false version report.version e in most, g)
 
--- what is put where something was put
-pub put_again : {X : Type 0} (xs : List X) (i : ℕ) (x y : X) → slice_set (slice_set xs i x) i y ≡ slice_set xs i y
-put_again [] i x y = refl
-put_again (z ∷ xs) zero x y = refl
-put_again (z ∷ xs) (suc i) x y = ap (λ l. z ∷ l) (put_again xs i x y)
-
 -- what a line leaves, by what it is
 pub left_as : {step : Stepped} {v : World} {reports after : List (List Report)} {answer told : List ℕ} {seen shown : List Seen} → IsLeftBy step v reports answer seen → after ≡ reports → told ≡ answer → shown ≡ seen
     → IsLeftBy step v after told shown

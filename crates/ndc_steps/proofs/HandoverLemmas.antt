@@ -1,5 +1,5 @@
 -- Handovers that are found, and worlds behind them.
-use Rattle.std.proofs.Common.{◌≡◌, ℕ, zero, suc, ◌<◌, ◌≤◌, Bool, true, false, List, [], ◌∷◌, Option, Some, None, find, length, slice_set, is_some, refl, sym, ◌∙◌, ap, subst, arith, if◌then◌else◌}
+use Rattle.std.proofs.Common.{◌≡◌, Bool, true, false, List, [], ◌∷◌, Option, Some, find, length, is_some, refl, sym, ◌∙◌, ap, subst, if◌then◌else◌}
 use Rattle.std.specs.Prelude.{codes}
 use Rattle.std.specs.List.{AllByRecursion}
 use Rattle.ndc_act.specs.WellFormed.{AreTwoClusters}
@@ -9,18 +9,14 @@ use Rattle.ndc_event.specs.declared.name.Name.{Name}
 use Rattle.ndc_fair.proofs.TrimmedLemmas.{link-there}
 use Rattle.ndc_graceful.specs.Begin.{begin_of}
 use Rattle.ndc_graceful.specs.declared.handover.Handover.{Handover}
+use Rattle.ndc_model.proofs.ListLemmas.{set-length}
 use Rattle.ndc_model.specs.Fair.{IsShaped}
-use Rattle.ndc_model.specs.Handovers.{complete_open, complete_step, handed_over, handover_begun, handover_step, handover_to, open_handover, queue_ends}
-use Rattle.ndc_model.specs.Steps.{Stepped, answered}
+use Rattle.ndc_model.specs.Handovers.{complete_open, complete_step, handed_over, handover_begun, handover_step, open_handover, queue_ends}
+use Rattle.ndc_model.specs.Steps.{answered}
 use Rattle.ndc_model.specs.Texts.{refused}
 use Rattle.ndc_model.specs.World.{Link, World, cluster_at, is_link, link_at, link_found, with_table}
 use Rattle.ndc_sets.proofs.Lists.{all-among, find-among}
-use Rattle.ndc_steps.specs.Links.{IsBetween, is_handover_to}
-
-set-length : {X : Type 0} (xs : List X) (i : ℕ) (x : X) → length (slice_set xs i x) ≡ length xs
-set-length [] i x = refl
-set-length (y ∷ ys) zero x = refl
-set-length (y ∷ ys) (suc i) x = ap suc (set-length ys i x)
+use Rattle.ndc_steps.specs.Links.{is_handover_to}
 
 -- there are as many clusters behind a handover
 pub over_length : (handover : Handover) (w : World) → length (handed_over handover w).clusters ≡ length w.clusters

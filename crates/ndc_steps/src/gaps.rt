@@ -1,12 +1,8 @@
-ghost use Rattle.std.specs.Prelude.{◌≡◌, ◌<◌, ◌++◌, [], ◌∷◌, decimal, length, Some, IfNone, IfOk, IfSome, OnOk};
+ghost use Rattle.std.specs.Prelude.{◌≡◌, ◌<◌, ◌++◌, [], ◌∷◌, decimal, length, Some, IfOk, OnOk};
 ghost use Rattle.std.specs.List.{filter, flat_map};
-ghost use Rattle.std.specs.Option.{option_copied};
 ghost use Rattle.ndc_act.specs.WellFormed.{IsCluster};
-ghost use Rattle.ndc_again.specs.Authors.{batch_by_author, cell_by};
 ghost use Rattle.ndc_again.specs.Steps.{keys_to};
-ghost use Rattle.ndc_cells.specs.Cells.{empty_cell, learned_of};
-ghost use Rattle.ndc_domain.specs.Clusters.{writer_of};
-ghost use Rattle.ndc_model.specs.Fair.{IsShaped};
+ghost use Rattle.ndc_cells.specs.Cells.{learned_of};
 ghost use Rattle.ndc_cells.specs.Places.{is_of};
 ghost use Rattle.ndc_fair.specs.Sometime.{IsReachedSometime};
 ghost use Rattle.ndc_links.specs.Lacking.{all_lacking};
@@ -15,7 +11,6 @@ ghost use Rattle.ndc_model.specs.Sending.{gaps_answer};
 ghost use Rattle.ndc_model.specs.Texts.{ok};
 ghost use Rattle.ndc_model.specs.World.{cell_at, shards_of};
 ghost use Rattle.ndc_sets.specs.Learned.{has_key};
-ghost use Rattle.ndc_sets.specs.Sets.{batch_at};
 ghost use Rattle.ndc_steps.specs.Waiting.{IfHigher, looked, found_above, learned_up_to, waiting_at, waiting_for, waiting_in, waiting_text};
 
 use crate::sites::cell_of;
@@ -49,72 +44,6 @@ pub(crate) enum Above {
     Found { item: Item },
     /// It is that of the path to the batch of this key.
     Higher { key: Option<BatchKey> },
-}
-
-/// The cell, for a shard, of the cluster that writes with a version.
-fn author_of<'a, C: Reads + Drop>(
-    network: &'a Network<C>,
-    header: &Header,
-    shard: u32,
-    version: u64,
-) -> Option<&'a C>
-    requires shard { shard < header.now.shards }
-    requires shaped { IsShaped header.now network.now }
-    ensures found { IfSome result (λ cell. C.cell cell.now ≡ cell_by shard network.now (writer_of header.now.clusters version)) }
-    ensures none { IfNone result (cell_by shard network.now (writer_of header.now.clusters version) ≡ empty_cell) }
-{
-    let author = header.clusters.writer_of(version)?;
-    Some(cell_of(network, author, shard))
-}
-
-/// The batch of a key of a workflow that a cell has learned.
-fn learned_at<'a, C: Reads>(
-    cell: &'a C,
-    domain: &Name,
-    workflow: &Name,
-    key: BatchKey,
-) -> Option<&'a Batch>
-    ensures { option_copied result ≡ batch_at key (learned_of domain.now workflow.now (C.cell cell.now)) }
-{
-    match cell.runs(domain, workflow) {
-        Some(runs) => runs.get(key),
-        None => None,
-    }
-}
-
-/// The batch of a key of a workflow, as the cluster that writes with its version has learned it.
-fn find_learned<'a, C: Reads + Drop>(
-    network: &'a Network<C>,
-    header: &Header,
-    shard: u32,
-    domain: &Name,
-    workflow: &Name,
-    key: BatchKey,
-) -> Option<&'a Batch>
-    requires shard { shard < header.now.shards }
-    requires shaped { IsShaped header.now network.now }
-    ensures { option_copied result ≡ batch_by_author header.now shard network.now (record { domain = domain.now; workflow = workflow.now; key = key }) }
-{
-    match author_of(network, header, shard, key.version) {
-        Some(cell) => learned_at(cell, domain, workflow, key),
-        None => None,
-    }
-}
-
-/// The batch of a key of a workflow that was written.
-fn find_written<'a, C: Reads + Drop>(
-    network: &'a Network<C>,
-    header: &Header,
-    shard: u32,
-    domain: &Name,
-    workflow: &Name,
-    key: BatchKey,
-) -> Option<&'a Batch>
-    requires shard { shard < header.now.shards }
-    requires reached { IsReachedSometime header.now network.now }
-    ensures { option_copied result ≡ batch_at key (filter (is_of domain.now workflow.now) (all_written header.now shard network.now)) }
-{
-    find_learned(network, header, shard, domain, workflow, key)
 }
 
 /// Whether a cluster has learned the batch of a key.
@@ -160,7 +89,7 @@ fn look_at<C: Reads + Drop>(
     ensures smaller { IfHigher result (λ up. keys_to (filter (is_of domain.now workflow.now) (all_written header.now shard network.now)) up
         < keys_to (filter (is_of domain.now workflow.now) (all_written header.now shard network.now)) key) }
 {
-    let Some(batch) = find_written(network, header, shard, domain, workflow, key) else {
+    let Some(batch) = network.find_written(header, shard, domain, workflow, key) else {
         return Above::Higher { key: None };
     };
     let cell = cell_of(network, cluster, shard);

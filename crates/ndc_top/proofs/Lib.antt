@@ -1,4 +1,3 @@
-pub mod Ends
 pub mod Endings
 pub mod ShowEndings
 pub mod Pieces

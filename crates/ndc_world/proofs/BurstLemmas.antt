@@ -13,9 +13,9 @@ use Rattle.ndc_domain.specs.declared.clusters.ClusterNo.{ClusterNo}
 use Rattle.ndc_fair.proofs.BringLemmas.{after-more, world_after}
 use Rattle.ndc_fair.proofs.LetterLemmas.{shard-below}
 use Rattle.ndc_fair_jobs.specs.Lines.{burst_jobs, job_for}
-use Rattle.ndc_fair.proofs.LandLemmas.{set-there}
 use Rattle.ndc_fair.proofs.MoveLemmas.{command-kept}
 use Rattle.ndc_index.specs.declared.seen.Seen.{Seen}
+use Rattle.ndc_model.proofs.ListLemmas.{all-listed, set-there}
 use Rattle.ndc_model.specs.Facts.{IsReached}
 use Rattle.ndc_model.specs.Fair.{IsShaped}
 use Rattle.ndc_model.specs.Lines.{act_step, answers_of, job_line, ran_from, seen_in, world_behind}
@@ -33,11 +33,6 @@ replies_of header cluster jobs w = replies_to (home_at header cluster w) jobs (c
 -- the job of a line in a burst
 abbrev pub one_job : Header → BurstJob → ShardJob
 one_job header one = job_for header one.domain one.workflow (job.Command one.domain one.workflow one.command)
-
--- what all at their places have
-all-listed : {X : Type 0} (P : X → Type 0) (xs : List X) → All P xs → AllByRecursion P xs
-all-listed P [] all = tt
-all-listed P (x ∷ xs) all = (all 0 x (omega arith), all-listed P xs (λ k d less. all (suc k) d (omega (arith, less))))
 
 module _ (header : Header) (cluster : ClusterNo) (w : World) where
   -- what a command line leaves, answers and makes learned

@@ -1,6 +1,6 @@
 use Rattle.std.proofs.Common.{◌<◌, length, arith}
 use Rattle.ndc_port.specs.Bytes.{AppendsFront}
-use Rattle.ndc_top.proofs.Ends.{on_err}
+use Rattle.ndc_report.proofs.Ends.{on_err}
 use Rattle.ndc_top.proofs.Pieces.{bytes_of, Sent_next, Sent_last}
 use Rattle.ndc_top.proofs.fault.write_pieces.Goals as goal
 
