@@ -1,34 +1,17 @@
 -- What is held of activities by the greatest report of each, where more reports are told or taken over.
-use Rattle.std.proofs.Common.{◌≡◌, Bool, true, false, cond, not, ◌||◌, List, [], ◌∷◌, ◌++◌, append-nil, append_assoc, map, count_by, Some, None, refl, sym, ap, subst, ◌∙◌, true≢false, if◌then◌else◌, ℕ, ◌==◌, nat_lt, ◌&&◌, arith}
+use Rattle.std.proofs.Common.{◌≡◌, Bool, true, false, cond, not, ◌||◌, List, [], ◌∷◌, ◌++◌, append-nil, append_assoc, map, count_by, Some, None, refl, sym, ap, subst, ◌∙◌, true≢false, if◌then◌else◌, ℕ, ◌==◌, nat_lt, ◌&&◌}
 use Rattle.std.specs.List.{AllByRecursion, filter}
-use Rattle.std.proofs.lemmas.Bool.Decides.{nat_tests}
 use Rattle.ndc_event.specs.declared.name.Name.{Name}
 use Rattle.ndc_progress.specs.Keyed.{AreOnce}
 use Rattle.ndc_progress.specs.Reports.{activities_of, greater_report, greatest_of, held, merge_count, merged, next_beat, next_report, replaces, report_lt, same_activity, with_report}
 use Rattle.ndc_progress.specs.declared.report.ActivityRef.{ActivityRef}
 use Rattle.ndc_progress.specs.declared.report.Report.{Report}
 use Rattle.ndc_progress.proofs.HeldLemmas.{other_flip, same_is_one, self_same}
-use Rattle.ndc_progress.proofs.OrderLemmas.{held_greatest, merged_once, with_once}
+use Rattle.ndc_progress.proofs.OrderLemmas.{held_greatest, merged_once, with_once, greater-of_three}
 
 -- whether numbers come before others: a version and a beat
 abbrev before : ℕ → ℕ → ℕ → ℕ → Bool
 before v b w c = nat_lt v w || ((v == w) && nat_lt b c)
-
-before-before : (v b w c x d : ℕ) → before v b w c ≡ true → before w c x d ≡ true → before v b x d ≡ true
-before-before v b w c x d h g = grind (arith, nat_tests)
-
-not-before : (v b w c x d : ℕ) → before v b w c ≡ false → before w c x d ≡ false → before v b x d ≡ false
-not-before v b w c x d h g = grind (arith, nat_tests)
-
--- the greatest of three reports
-of-three : (x y z : Report) → greater_report (greater_report x (Some y)) (Some z) ≡ greater_report x (Some (greater_report y (Some z)))
-of-three x y z = by (report_lt x y) refl (report_lt y z) refl
-  where
-    by : (s : Bool) → report_lt x y ≡ s → (t : Bool) → report_lt y z ≡ t → greater_report (cond s y x) (Some z) ≡ greater_report x (Some (cond t z y))
-    by true p true q = rw (q, before-before x.version x.beat y.version y.beat z.version z.beat p q) refl
-    by true p false q = rw (p, q) refl
-    by false p true q = refl
-    by false p false q = rw (p, not-before x.version x.beat y.version y.beat z.version z.beat p q) refl
 
 -- the greater of two reports of an activity is of it
 of-both : (a : ActivityRef) (x y : Report) → a ≡ x.activity → a ≡ y.activity → a ≡ (greater_report x (Some y)).activity
@@ -65,7 +48,7 @@ with-both (x ∷ list) f r e = with-cases (λ l. with_report l r ≡ with_report
     here : f.activity ≡ x.activity → with_report (greater_report x (Some f) ∷ list) r ≡ with_report (x ∷ list) top
     here g =
         with-here (greater_report x (Some f)) list r (of-both r.activity x f (e ∙ g) e)
-        ∙ ap (λ y. y ∷ list) (of-three x f r)
+        ∙ ap (λ y. y ∷ list) (greater-of_three x f r)
         ∙ sym (with-here x list top (sym (of-both x.activity f r (sym g) (sym (e ∙ g)))))
 
     there : with_report (with_report list f) r ≡ with_report list top → same_activity f.activity x.activity ≡ false → with_report (x ∷ with_report list f) r ≡ with_report (x ∷ list) top

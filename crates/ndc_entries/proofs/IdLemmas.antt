@@ -30,6 +30,7 @@ use Rattle.ndc_sets.specs.Current.{state_to}
 use Rattle.ndc_sets.specs.Paths.{events_to}
 use Rattle.ndc_state.specs.Value.{StateValue}
 use Rattle.ndc_state.specs.Written.{events_from, failover_close, is_failover_close_due, wake}
+use Rattle.ndc_waiting.proofs.OrderLemmas.{all-join}
 use Rattle.ndc_entries.specs.Written.{HasIdsUpTo}
 use Rattle.ndc_entries.proofs.LawProofs.{after-ok}
 
@@ -72,10 +73,6 @@ module _ (domain workflow : Name) (key : BatchKey) (most : ℕ) where
           let l = ltb-false most (s.next - 1 + length (reset_close s key.version)) f in
           ((all-ids s.next key.version most (reset_close s key.version) (omega (arith, l)), tt), tt)
       by false f = tt
-
-all-append : {X : Type 0} (P : X → Type 0) (xs ys : List X) → AllByRecursion P xs → AllByRecursion P ys → AllByRecursion P (xs ++ ys)
-all-append P [] ys p q = q
-all-append P (x ∷ xs) ys p q = (p.0, all-append P xs ys p.1 q)
 
 -- a reset has no more kinds than the limit
 reset-few : (history : List Event) (run : RunId) (event limit : ℕ) (kinds : List EventKind) → reset_refused (reset_of history run event limit) ≡ Ok kinds → length kinds ≤ limit
@@ -129,7 +126,7 @@ module _ (batches : List Batch) (version : ℕ) (domain workflow : Name) where
           → IfOk (if full then Err (Refused refusal.HistoryFull) else Ok (closing_entries domain workflow key tip s ++ new ∷ [])) (AllByRecursion (HasIdsUpTo limit))
       by true e = tt
       by false e =
-          all-append (HasIdsUpTo limit) (closing_entries domain workflow key tip s) (new ∷ []) (closing-ids domain workflow key limit tip s e)
+          all-join (HasIdsUpTo limit) (closing_entries domain workflow key tip s) (new ∷ []) (closing-ids domain workflow key limit tip s e)
           ((first-ids domain workflow (reset_key key s) limit None kinds few, tt), tt)
 
   pub resets-ids : (event limit : ℕ) (tip : Option Batch) → IfOk (reset_below domain workflow event limit version tip batches) (AllByRecursion (HasIdsUpTo limit))

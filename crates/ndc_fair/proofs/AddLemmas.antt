@@ -1,25 +1,19 @@
 -- What one write adds to a workflow.
-use Rattle.std.proofs.Common.{◌≡◌, ℕ, true, List, [], ◌∷◌, ◌++◌, ◌⊎◌, inl, inr, Option, Some, None, IsOk, refl, sym, ◌∙◌, subst, ap}
+use Rattle.std.proofs.Common.{◌≡◌, true, List, [], ◌∷◌, ◌++◌, ◌⊎◌, inl, inr, Option, Some, None, IsOk, refl, sym, ◌∙◌, subst, ap}
 use Rattle.std.specs.Prelude.{Ok, Result, is_ok, is_some}
-use Rattle.std.specs.List.{AllByRecursion, cons_option}
-use Rattle.std.proofs.lemmas.List.{append-nil, append_assoc}
+use Rattle.std.specs.List.{AllByRecursion}
 use Rattle.ndc_event.specs.declared.batch.Batch.{Batch}
 use Rattle.ndc_event.specs.declared.batch.Event.{Event}
 use Rattle.ndc_event.specs.declared.key.BatchKey.{BatchKey}
 use Rattle.ndc_event.specs.declared.key.RunId.{RunId}
 use Rattle.ndc_event.specs.declared.kind.EventKind.{EventKind}
-use Rattle.ndc_event.specs.declared.kind.EventKind.TheVariants.{WorkflowExecutionSignaled}
-use Rattle.ndc_reapply.specs.declared.stray.Stray.{Stray}
-use Rattle.ndc_reapply.specs.Strays.{origins_of}
 use Rattle.ndc_state.specs.Laws.{AreApart}
 use Rattle.ndc_state.specs.Replay.{replay, replay_of}
-use Rattle.ndc_state.specs.Table.{row, after}
 use Rattle.ndc_state.specs.Value.{StateValue, new_state}
 use Rattle.ndc_state.proofs.LawProofs.{origins_apart}
-use Rattle.ndc_state.proofs.ReplayLemmas.{replay-cons}
-use Rattle.ndc_state.proofs.RowLemmas.{run-row}
+use Rattle.ndc_sets.proofs.ViewLaws.{replay-signals}
 use Rattle.ndc_sets.specs.Learned.{IsPart, has_key}
-use Rattle.ndc_sets.specs.Origins.{signal_of, signals_in, origins_in}
+use Rattle.ndc_sets.specs.Origins.{origins_in}
 use Rattle.ndc_sets.specs.Paths.{events_to}
 use Rattle.ndc_sets.specs.Sets.{Has, arrived, batch_at, earlier, earlier_of}
 use Rattle.ndc_sets.specs.Sound.{CopiesNamed, IsCopyFit, IsSound, NamesOriginal}
@@ -30,27 +24,6 @@ use Rattle.ndc_sets.proofs.SoundLemmas.{all-faultless, new-closed, new-set, old-
 use Rattle.ndc_sets.proofs.WriteLaws.{begin-sound, below-carriers, below-chains, below-origins, below-parents, below-replays}
 use Rattle.ndc_fair.specs.Adding.{Added, IsChained}
 use Rattle.ndc_fair.proofs.NamedLemmas.{chained, copies_fit, copy-fits}
-
--- the origins that an event adds to a state
-row-signal : (s : StateValue) (id version : ℕ) (kind : EventKind) → (row s id version kind).effect.origins ≡ s.origins ++ origins_of (cons_option (signal_of s.run id version kind) [])
-unfolding row
-row-signal s id version (WorkflowExecutionSignaled name input from) = refl
-row-signal s id version _ = sym (append-nil s.origins)
-
-origins-cons : (o : Option Stray) (rest : List Stray) → origins_of (cons_option o rest) ≡ origins_of (cons_option o []) ++ origins_of rest
-origins-cons None rest = refl
-origins-cons (Some stray) rest = refl
-
--- replay adds the origins of the events' signals
-pub replay-signals : (s t : StateValue) (events : List Event) → replay s events ≡ Ok t → t.origins ≡ s.origins ++ origins_in s.run events
-replay-signals s t [] h = let same : s ≡ t = cc in ap (λ (v : StateValue). v.origins) (sym same) ∙ sym (append-nil s.origins)
-replay-signals s t (e ∷ es) h =
-    let p = replay-cons s t e es h in
-    replay-signals (after s e) t es p.1
-    ∙ ap (λ run. (after s e).origins ++ origins_in run es) (run-row s e.id e.version e.kind)
-    ∙ ap (λ origins. origins ++ origins_in s.run es) (row-signal s e.id e.version e.kind)
-    ∙ append_assoc s.origins (origins_of (cons_option (signal_of s.run e.id e.version e.kind) [])) (origins_in s.run es)
-    ∙ ap (λ l. s.origins ++ l) (sym (origins-cons (signal_of s.run e.id e.version e.kind) (signals_in s.run es)))
 
 -- events that replay have origins that differ
 pub replayed-apart : (run : RunId) (events : List Event) (t : StateValue) → replay_of run events ≡ Ok t → AreApart (origins_in run events)

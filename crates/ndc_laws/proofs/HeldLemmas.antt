@@ -9,6 +9,7 @@ use Rattle.ndc_model.specs.World.{World, cluster_at}
 use Rattle.ndc_model.proofs.ListLemmas.{among-is, is-among}
 use Rattle.ndc_laws.specs.Promised.{HaveTheSameReports}
 use Rattle.ndc_progress.proofs.HeldLemmas.{same_is_one}
+use Rattle.ndc_progress.proofs.OrderLemmas.{not-before}
 use Rattle.ndc_progress.specs.Reports.{greater_report, held, report_lt, same_activity}
 use Rattle.ndc_progress.specs.declared.report.ActivityRef.{ActivityRef}
 use Rattle.ndc_progress.specs.declared.report.Report.{Report}
@@ -24,9 +25,6 @@ not-itself v b = grind (arith, nat_tests)
 
 not-back : (v b w c : ℕ) → before v b w c ≡ true → before w c v b ≡ false
 not-back v b w c h = grind (arith, nat_tests)
-
-not-through : (v b w c x d : ℕ) → before v b w c ≡ false → before w c x d ≡ false → before v b x d ≡ false
-not-through v b w c x d h k = grind (arith, nat_tests)
 
 one-version : (v b w c : ℕ) → before v b w c ≡ false → before w c v b ≡ false → v ≡ w
 one-version v b w c h k = grind (arith, nat_tests)
@@ -66,7 +64,7 @@ held-is activity (y ∷ ys) = by (same_activity activity y.activity) refl (held-
 
     greater : same_activity activity y.activity ≡ true → (r : Report) → IsHeld activity ys r → (t : Bool) → report_lt y r ≡ t → (z : Report) × (Some (if t then r else y) ≡ Some z) × IsHeld activity (y ∷ ys) z
     greater mine r is true e = (r, refl, behind r is (λ _. not-back y.version y.beat r.version r.beat e))
-    greater mine r is false e = (y, refl, first mine (λ x h own. not-through y.version y.beat r.version r.beat x.version x.beat e (is.most x h own)))
+    greater mine r is false e = (y, refl, first mine (λ x h own. not-before y.version y.beat r.version r.beat x.version x.beat e (is.most x h own)))
 
     by : (t : Bool) → same_activity activity y.activity ≡ t
         → Known activity ys (held activity ys)

@@ -8,9 +8,10 @@ use Rattle.ndc_cells.specs.Cells.{Cell, learned_message}
 use Rattle.ndc_event.specs.declared.name.Name.{Name}
 use Rattle.ndc_model.specs.Moves.{learned_of_domains}
 use Rattle.ndc_sets.specs.Learned.{learned}
+use Rattle.ndc_waiting.proofs.OrderLemmas.{all-more}
+use Rattle.ndc_workflow.proofs.CellLemmas.{own-names}
 use Rattle.ndc_workflow.specs.Workflow.{WorkflowValue, workflow_of}
 use Rattle.ndc_workflows.specs.Reading.{HoldLearned, IsIn}
-use Rattle.ndc_workflows.proofs.SameLemmas.{of-itself}
 use Rattle.ndc_messages.specs.Messages.{messages_in}
 use Rattle.ndc_messages.proofs.PlaceLemmas.{all-learned, own-same, own_in}
 
@@ -25,18 +26,14 @@ given-as : {X Y : Type 0} (f g : X → Option Y) (xs : List X) → AllByRecursio
 given-as f g [] all = refl
 given-as f g (x ∷ xs) all = ap (λ o. cons_option o (filter_map f xs)) all.0 ∙ ap (cons_option (g x)) (given-as f g xs all.1)
 
-all-as : {X : Type 0} (P Q : X → Type 0) → ((x : X) → P x → Q x) → (xs : List X) → AllByRecursion P xs → AllByRecursion Q xs
-all-as P Q turn [] all = tt
-all-as P Q turn (x ∷ xs) all = (turn x all.0, all-as P Q turn xs all.1)
-
 module _ (cell : Cell) where
   -- the messages of a workflow of the cell
   own-messages : (w : WorkflowValue) → IsIn cell w → filter_map (learned_message cell) (learned w.arrived) ≡ messages_in w
   own-messages w is =
       given-as (learned_message cell) (own_in w.arrived) (learned w.arrived)
       (all-learned (λ b. learned_message cell b ≡ own_in w.arrived b) [] w.arrived
-      (all-as (λ b. workflow_of b.domain b.workflow cell ≡ w) (λ b. learned_message cell b ≡ own_in w.arrived b)
-      (λ b e. own-same b.domain b.workflow cell b (of-itself b) ∙ ap (λ (v : WorkflowValue). own_in v.arrived b) e) w.arrived is))
+      (all-more (λ b. workflow_of b.domain b.workflow cell ≡ w) (λ b. learned_message cell b ≡ own_in w.arrived b)
+      (λ b e. own-same b.domain b.workflow cell b (own-names b) ∙ ap (λ (v : WorkflowValue). own_in v.arrived b) e) w.arrived is))
 
   each-messages : (list : List WorkflowValue) → AllByRecursion (IsIn cell) list → flat_map (λ (w : WorkflowValue). filter_map (learned_message cell) (learned w.arrived)) list ≡ flat_map messages_in list
   each-messages [] all = refl

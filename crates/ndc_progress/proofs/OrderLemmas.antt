@@ -1,6 +1,6 @@
 -- The order of reports, the greater of several, and what is held behind merges.
-use Rattle.std.proofs.Common.{◌≡◌, ℕ, Bool, true, false, cond, not, List, [], ◌∷◌, ◌++◌, Option, Some, None, IfSome, if◌then◌else◌, refl, sym, ap, subst, ◌∙◌, true≢false, nat_lt, ◌==◌, ◌||◌, ◌&&◌, arith}
-use Rattle.std.specs.List.{AllByRecursion, fold}
+use Rattle.std.proofs.Common.{◌≡◌, ℕ, Bool, true, false, cond, not, List, [], ◌∷◌, Option, Some, None, IfSome, if◌then◌else◌, refl, sym, ap, subst, ◌∙◌, true≢false, nat_lt, ◌==◌, ◌||◌, ◌&&◌, arith}
+use Rattle.std.specs.List.{AllByRecursion}
 use Rattle.std.proofs.lemmas.Bool.Decides.{nat_tests}
 use Rattle.ndc_progress.specs.Keyed.{AreOnce}
 use Rattle.ndc_progress.specs.Laws.{Agree, AllAgree}
@@ -14,11 +14,11 @@ abbrev before : ℕ → ℕ → ℕ → ℕ → Bool
 before v b w c = nat_lt v w || ((v == w) && nat_lt b c)
 
 -- what comes before what comes before another comes before that
-before-before : (v b w c x d : ℕ) → before v b w c ≡ true → before w c x d ≡ true → before v b x d ≡ true
+pub before-before : (v b w c x d : ℕ) → before v b w c ≡ true → before w c x d ≡ true → before v b x d ≡ true
 before-before v b w c x d h g = grind (arith, nat_tests)
 
 -- what does not come before what does not come before another does not come before that
-not-before : (v b w c x d : ℕ) → before v b w c ≡ false → before w c x d ≡ false → before v b x d ≡ false
+pub not-before : (v b w c x d : ℕ) → before v b w c ≡ false → before w c x d ≡ false → before v b x d ≡ false
 not-before v b w c x d h g = grind (arith, nat_tests)
 
 -- what comes before another does not come behind it
@@ -48,7 +48,7 @@ joined-none None = refl
 joined-none (Some one) = refl
 
 -- the greatest of three reports
-greater-of_three : (x y z : Report) → greater_report (greater_report x (Some y)) (Some z) ≡ greater_report x (Some (greater_report y (Some z)))
+pub greater-of_three : (x y z : Report) → greater_report (greater_report x (Some y)) (Some z) ≡ greater_report x (Some (greater_report y (Some z)))
 greater-of_three x y z = by (report_lt x y) refl (report_lt y z) refl
   where
     by : (s : Bool) → report_lt x y ≡ s → (t : Bool) → report_lt y z ≡ t

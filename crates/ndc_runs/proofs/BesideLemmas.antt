@@ -24,6 +24,7 @@ use Rattle.ndc_sets.proofs.Lists.{Among, among-filter}
 use Rattle.ndc_sets.proofs.PathLemmas.{part-path}
 use Rattle.ndc_state.specs.Replay.{history_of, replay_of}
 use Rattle.ndc_state.specs.Value.{StateValue}
+use Rattle.ndc_tree.proofs.LastLemmas.{last-among, none-last}
 use Rattle.ndc_tree.specs.Last.{last_batch}
 use Rattle.ndc_tree.specs.Reading.{current_key}
 use Rattle.ndc_runs.specs.Kept.{is_empty, is_ahead, lies_beside, follows, after_any, AreKnown}
@@ -32,7 +33,7 @@ use Rattle.ndc_runs.specs.Settled.{settled_with}
 use Rattle.ndc_runs.proofs.ArrivedLemmas.{Compared, less, same, more, compared, arrived-less, arrived-same, arrived-more, filter-arrived}
 use Rattle.ndc_runs.proofs.FollowLemmas.{settled-is, known-with}
 use Rattle.ndc_runs.proofs.PartLemmas.{part-has, part-tip}
-use Rattle.ndc_runs.proofs.ReadLemmas.{tip-is-last, last-among, last-above, none-last}
+use Rattle.ndc_runs.proofs.ReadLemmas.{tip-is-last, last-above}
 
 last-some : (x : Batch) (xs : List Batch) (b : Batch) → option_or (last_batch (x ∷ xs)) (Some b) ≡ last_batch (x ∷ xs)
 last-some x xs b = by (last_batch xs)

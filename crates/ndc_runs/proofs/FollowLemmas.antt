@@ -34,6 +34,7 @@ use Rattle.ndc_sets.proofs.PathLemmas.{parent-back, path_is}
 use Rattle.ndc_sets.proofs.SetLemmas.{found-key, found-has, has-found}
 use Rattle.ndc_sets.proofs.SoundLemmas.{faultless-back}
 use Rattle.ndc_sets.proofs.WritePaths.{path_behind_parent, path_of_beginning}
+use Rattle.ndc_tree.proofs.LastLemmas.{none-last}
 use Rattle.ndc_tree.specs.Last.{last_batch}
 use Rattle.std.specs.Option.{option_map}
 use Rattle.std.proofs.lemmas.Bool.{and_parts}
@@ -45,7 +46,7 @@ use Rattle.ndc_runs.specs.RunMap.{part_of}
 use Rattle.ndc_runs.specs.Settled.{settled_with}
 use Rattle.ndc_runs.proofs.ArrivedLemmas.{arrived-more, filter-arrived}
 use Rattle.ndc_runs.proofs.PartLemmas.{has-part}
-use Rattle.ndc_runs.proofs.ReadLemmas.{tip-is-last, last-has, last-current, last-above, none-last, new-faultless}
+use Rattle.ndc_runs.proofs.ReadLemmas.{tip-is-last, last-has, last-current, last-above, new-faultless}
 use Rattle.ndc_runs.proofs.StrayLemmas.{part-current, current-origins, settles}
 use Rattle.ndc_runs.proofs.UnlistedLemmas.{among-both, fewer-strays, settled-behind}
 

@@ -18,6 +18,7 @@ use Rattle.ndc_sets.proofs.CurrentLemmas.{current-greatest}
 use Rattle.ndc_sets.proofs.KeyLemmas.{IsBefore, before-parts}
 use Rattle.ndc_sets.proofs.Lists.{Among, all-among}
 use Rattle.ndc_sets.proofs.SetLemmas.{found-has}
+use Rattle.ndc_tree.proofs.LastLemmas.{last-among, none-last}
 use Rattle.ndc_tree.specs.Last.{last_batch}
 use Rattle.ndc_tree.specs.Tree.{TreeValue}
 use Rattle.ndc_runs.specs.Places.{places_of, place_at, last_place}
@@ -25,23 +26,6 @@ use Rattle.ndc_runs.specs.RunMap.{part_of, run_in, run_at, batches_of}
 use Rattle.ndc_runs.proofs.LearnLemmas.{found-run}
 use Rattle.ndc_runs.proofs.PartLemmas.{has-part, found-part, part-state, part-tip}
 use Rattle.ndc_runs.proofs.PlaceLemmas.{place, place-batch, last-batch}
-
--- the last of batches that rise is one of them, and none is above it
-pub last-among : (batches : List Batch) (m : Batch) → last_batch batches ≡ Some m → Among m batches
-last-among [] m h = absurd (cc)
-last-among (b ∷ batches) m h = by (last_batch batches) refl h (last-among batches m)
-  where
-    by : (o : Option Batch) → last_batch batches ≡ o → option_or o (Some b) ≡ Some m → (last_batch batches ≡ Some m → Among m batches) → Among m (b ∷ batches)
-    by None e h rest = inl (cc)
-    by (Some x) e h rest = inr (rest (e ∙ h))
-
-pub none-last : (batches : List Batch) → last_batch batches ≡ None → batches ≡ []
-none-last [] h = refl
-none-last (b ∷ batches) h = by (last_batch batches) h
-  where
-    by : (o : Option Batch) → option_or o (Some b) ≡ None → b ∷ batches ≡ []
-    by None e = absurd (cc)
-    by (Some x) e = absurd (cc)
 
 pub last-above : (batches : List Batch) (m : Batch) → Rise batches → last_batch batches ≡ Some m → (x : Batch) → Among x batches → (x ≡ m) ⊎ (key_lt x.key m.key ≡ true)
 last-above [] m rise h x among = absurd among

@@ -39,7 +39,7 @@ origins-cons None rest = refl
 origins-cons (Some stray) rest = refl
 
 -- replay adds the origins of the events' signals
-replay-signals : (s t : StateValue) (events : List Event) → replay s events ≡ Ok t → t.origins ≡ s.origins ++ origins_in s.run events
+pub replay-signals : (s t : StateValue) (events : List Event) → replay s events ≡ Ok t → t.origins ≡ s.origins ++ origins_in s.run events
 replay-signals s t [] h = let same : s ≡ t = cc in ap (λ (v : StateValue). v.origins) (sym same) ∙ sym (append-nil s.origins)
 replay-signals s t (e ∷ es) h =
     let p = replay-cons s t e es h in

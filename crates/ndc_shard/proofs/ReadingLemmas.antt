@@ -1,7 +1,7 @@
 -- What is read of a cell, as its workflows have it.
-use Rattle.std.proofs.Common.{◌≡◌, Bool, true, false, ◌&&◌, List, [], ◌∷◌, ◌++◌, Option, Some, cond, map, refl, sym, ◌∙◌, subst, ap}
-use Rattle.std.specs.Prelude.{find, is_some, unwrap_or}
-use Rattle.std.specs.List.{AllByRecursion, filter}
+use Rattle.std.proofs.Common.{◌≡◌, List, [], ◌∷◌, ◌++◌, Option, Some, map, refl, sym, ◌∙◌, subst, ap}
+use Rattle.std.specs.Prelude.{is_some, unwrap_or}
+use Rattle.std.specs.List.{AllByRecursion}
 use Rattle.ndc_cells.specs.Cells.{Cell, arrived_of, missing_of}
 use Rattle.ndc_cells.specs.Places.{batch_there, is_of}
 use Rattle.ndc_event.specs.Key.{key_eq}
@@ -15,18 +15,10 @@ use Rattle.ndc_shard.specs.Lacking.{first_in, lacking_there}
 use Rattle.ndc_waiting.specs.Waiting.{batches_of}
 use Rattle.ndc_waiting.specs.declared.waiting.PutOff.{PutOff}
 use Rattle.ndc_waiting.proofs.FreeLemmas.{all-there}
+use Rattle.ndc_workflow.proofs.CellLemmas.{find-filter}
 use Rattle.ndc_workflow.specs.Workflow.{WorkflowValue, IsWorkflow, all_missing, has_arrived, put_off_in, workflow_of}
 use Rattle.ndc_workflow.proofs.PutOffLemmas.{put_off_waits}
 use Rattle.ndc_workflows.proofs.WaitLemmas.{off-own}
-
--- what is found by two tests is found by the second among what passes the first
-find-filter : {X : Type 0} (p q : X → Bool) (xs : List X) → find (λ x. p x && q x) xs ≡ find q (filter p xs)
-find-filter p q [] = refl
-find-filter p q (x ∷ xs) = by (p x) (find-filter p q xs)
-  where
-    by : (t : Bool) → find (λ y. p y && q y) xs ≡ find q (filter p xs) → cond (t && q x) (Some x) (find (λ y. p y && q y) xs) ≡ find q (cond t (x ∷ filter p xs) (filter p xs))
-    by true rest = ap (cond (q x) (Some x)) rest
-    by false rest = rest
 
 -- whether a batch has arrived at a place is whether it has in the place's workflow
 pub arrived-there : (d w : Name) (key : BatchKey) (cell : Cell) → has_arrived key (workflow_of d w cell) ≡ is_some (batch_there cell.arrived (record { domain = d; workflow = w; key = key }))

@@ -97,7 +97,7 @@ first_batch (e ∷ entries) = Some e.1
 numbers-from : (a b x y : ℕ) → is_le (if nat_lt a x || (a == x) && nat_lt b y then Less else if (a == x) && (b == y) then Equal else Greater) ≡ not (nat_lt x a || (x == a) && nat_lt y b)
 numbers-from a b x y = grind (arith, nat_tests)
 
-key_cmp-from : (key other : BatchKey) → is_le (key_cmp key other) ≡ not (key_lt other key)
+pub key_cmp-from : (key other : BatchKey) → is_le (key_cmp key other) ≡ not (key_lt other key)
 key_cmp-from key other = numbers-from key.version key.task other.version other.task
 
 module _ (cmp : BatchKey → BatchKey → Ordering) (law : (a b : BatchKey) → cmp a b ≡ key_cmp a b) where

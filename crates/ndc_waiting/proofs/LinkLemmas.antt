@@ -14,7 +14,7 @@ use Rattle.ndc_sets.proofs.KeyLemmas.{key_eq-self, same-keys, before-irrefl, bef
 use Rattle.ndc_sets.proofs.Lists.{filter-cases}
 use Rattle.std.proofs.lemmas.Bool.{and_parts, and_from}
 use Rattle.ndc_waiting.proofs.OrderLemmas.{all-more}
-use Rattle.ndc_tree.proofs.MapLemmas.{key_cmp, key_cmp-by, key_cmp-same}
+use Rattle.ndc_tree.proofs.MapLemmas.{key_cmp, key_cmp-by, key_cmp-same, key_cmp-from}
 use Rattle.ndc_tree.specs.Tips.{is_key_among, with_key}
 use Rattle.ndc_waiting.specs.Linking.{is_link, is_linked}
 use Rattle.ndc_waiting.specs.declared.links.Link.{Link}
@@ -98,12 +98,6 @@ pub record Wakes (earlier : BatchKey) (links : List Link) (before now : List Bat
   pub all : (one : BatchKey) → (is_key_among one now || is_linked earlier one rest) ≡ (is_key_among one before || is_linked earlier one links)
   pub climb : Climb rest
   pub from : AllByRecursion (λ link. key_lt link.earlier earlier ≡ false) rest
-
-numbers-from : (a b x y : ℕ) → is_le (if nat_lt a x || (a == x) && nat_lt b y then Less else if (a == x) && (b == y) then Equal else Greater) ≡ not (nat_lt x a || (x == a) && nat_lt y b)
-numbers-from a b x y = grind (arith, nat_tests)
-
-key_cmp-from : (key other : BatchKey) → is_le (key_cmp key other) ≡ not (key_lt other key)
-key_cmp-from key other = numbers-from key.version key.task other.version other.task
 
 not-greater : (one two : BatchKey) → is_le (key_cmp one two) ≡ true → key_lt two one ≡ false
 not-greater one two h = unnot (key_lt two one) (sym (key_cmp-from one two) ∙ h)

@@ -1,5 +1,5 @@
 -- Workflows as a cell has them: what an arrival at the cell, or what is written there, makes of them.
-use Rattle.std.proofs.Common.{◌≡◌, Bool, true, false, not, ◌&&◌, List, [], ◌∷◌, Option, Some, None, cond, map, refl, sym, ◌∙◌, subst, ap}
+use Rattle.std.proofs.Common.{◌≡◌, Bool, true, false, not, ◌&&◌, List, [], ◌∷◌, Some, cond, map, refl, sym, ◌∙◌, ap}
 use Rattle.std.specs.Prelude.{is_some, find, if◌then◌else◌, IfSome}
 use Rattle.std.specs.List.{filter}
 use Rattle.std.specs.Str.{bytes_eq}
@@ -8,9 +8,9 @@ use Rattle.std.proofs.lemmas.Slice.Eq.{bytes_eq-Decides}
 use Rattle.ndc_cells.specs.declared.job.Arrived.TheVariants.{Known}
 use Rattle.ndc_cells.specs.declared.message.Message.{Message}
 use Rattle.ndc_cells.specs.Arrival as cells
-use Rattle.ndc_cells.specs.Arrival.{arrival_in, arrival_of, arrived_at, learned_by, message_placed, newly_learned, placed_second}
+use Rattle.ndc_cells.specs.Arrival.{arrival_in, arrival_of, arrived_at, learned_by, message_placed, newly_learned}
 use Rattle.ndc_cells.specs.Cells.{Cell, IsCell, arrived_of, is_learned_in, learned_of}
-use Rattle.ndc_cells.specs.Places.{AreInOrder, is_of, placed, place_lt, place_of, is_at}
+use Rattle.ndc_cells.specs.Places.{AreInOrder, is_of, place_lt, place_of, is_at}
 use Rattle.ndc_cells.specs.Writing.{Entry}
 use Rattle.ndc_cells.specs.Writing as writing
 use Rattle.ndc_cells.proofs.CellLemmas.{others_arrived_by}
@@ -21,13 +21,12 @@ use Rattle.ndc_event.specs.declared.name.Name.{Name}
 use Rattle.ndc_sets.specs.Learned.{has_key, learned}
 use Rattle.ndc_sets.specs.Sets.{PointsBack}
 use Rattle.ndc_waiting.specs.Learning.{with_message}
-use Rattle.ndc_waiting.specs.Waiting.{put_off}
 use Rattle.ndc_waiting.proofs.PlacedLemmas.{placed_by_key}
 use Rattle.ndc_workflow.specs.Learnable.{carrying}
 use Rattle.ndc_workflow.specs.Workflow.{WorkflowValue, workflow_of, is_learned, has_arrived, still_waiting, workflow_with, learned_with, answer_to, made_learned, after_arrival, with_written}
 
 -- what is found by two tests is found by the second among what passes the first
-find-filter : {X : Type 0} (p q : X → Bool) (xs : List X) → find (λ x. p x && q x) xs ≡ find q (filter p xs)
+pub find-filter : {X : Type 0} (p q : X → Bool) (xs : List X) → find (λ x. p x && q x) xs ≡ find q (filter p xs)
 find-filter p q [] = refl
 find-filter p q (x ∷ xs) = by (p x) (find-filter p q xs)
   where
@@ -36,7 +35,7 @@ find-filter p q (x ∷ xs) = by (p x) (find-filter p q xs)
     by false rest = rest
 
 -- two filters in the other order, where the second test is another one for what passes the first
-filter-swap : {X : Type 0} (p q r : X → Bool) (xs : List X) → ((x : X) → p x ≡ true → q x ≡ r x) → filter p (filter q xs) ≡ filter r (filter p xs)
+pub filter-swap : {X : Type 0} (p q r : X → Bool) (xs : List X) → ((x : X) → p x ≡ true → q x ≡ r x) → filter p (filter q xs) ≡ filter r (filter p xs)
 filter-swap p q r [] same = refl
 filter-swap p q r (x ∷ xs) same = by (p x) refl (q x) refl (filter-swap p q r xs same)
   where
@@ -50,7 +49,7 @@ filter-swap p q r (x ∷ xs) same = by (p x) refl (q x) refl (filter-swap p q r 
     by false e false f rest = rest
 
 -- a message of another workflow
-placed-other : (p : Batch → Bool) (new : Message) (messages : List Message) → p new.batch ≡ false → filter (λ m. p m.batch) (message_placed new messages) ≡ filter (λ m. p m.batch) messages
+pub placed-other : (p : Batch → Bool) (new : Message) (messages : List Message) → p new.batch ≡ false → filter (λ m. p m.batch) (message_placed new messages) ≡ filter (λ m. p m.batch) messages
 placed-other p new [] n = ap (λ t. cond t (new ∷ []) []) n
 placed-other p new (m ∷ messages) n = by (place_lt (place_of new.batch) (place_of m.batch)) (is_at (place_of new.batch) m.batch) (placed-other p new messages n)
   where
@@ -61,13 +60,13 @@ placed-other p new (m ∷ messages) n = by (place_lt (place_of new.batch) (place
     by false false rest = ap (λ l. cond (p m.batch) (m ∷ l) l) rest
 
 -- what is learned in a batch's own workflow
-learned-own : (domain workflow : Name) (b : Batch) (cell : Cell) → is_of domain workflow b ≡ true → is_learned_in cell b ≡ is_learned (workflow_of domain workflow cell) b
+pub learned-own : (domain workflow : Name) (b : Batch) (cell : Cell) → is_of domain workflow b ≡ true → is_learned_in cell b ≡ is_learned (workflow_of domain workflow cell) b
 learned-own domain workflow b cell own =
     let parts = and_parts (bytes_eq b.domain domain) (bytes_eq b.workflow workflow) own in
     ap (λ (d : Name). has_key (Some b.key) (learned_of d b.workflow cell)) ((bytes_eq-Decides b.domain domain).0 parts.0)
     ∙ ap (λ (w : Name). has_key (Some b.key) (learned_of domain w cell)) ((bytes_eq-Decides b.workflow workflow).0 parts.1)
 
-own-names : (b : Batch) → is_of b.domain b.workflow b ≡ true
+pub own-names : (b : Batch) → is_of b.domain b.workflow b ≡ true
 own-names b =
     and_from (bytes_eq b.domain b.domain) (bytes_eq b.workflow b.workflow) ((bytes_eq-Decides b.domain b.domain).1 refl) ((bytes_eq-Decides b.workflow b.workflow).1 refl)
 

@@ -22,14 +22,14 @@ use Rattle.ndc_waiting.specs.Waiting.{IsMessage}
 use Rattle.ndc_waiting.proofs.KeptLemmas.{both-back}
 use Rattle.ndc_workflow.specs.Learnable.{carrying}
 use Rattle.ndc_workflow.specs.Workflow.{WorkflowValue, after_arrival, with_written, workflow_of}
-use Rattle.ndc_workflow.proofs.CellLemmas.{other_same, workflow-same, written_same}
+use Rattle.ndc_workflow.proofs.CellLemmas.{other_same, workflow-same, written_same, own-names}
 use Rattle.ndc_workflow.proofs.PutOffLemmas.{all_wait}
 use Rattle.ndc_workflows.specs.Named.{under, IsPut}
 use Rattle.ndc_workflows.specs.Workflows.{DomainValue, cell_of, workflow_or_empty, workflows_in, found, IsOwn, AreOwn, AreDomains}
 use Rattle.ndc_workflows.proofs.NameLemmas.{put-there, put-holds}
 use Rattle.ndc_workflows.proofs.DomainLemmas.{own-there, workflow-there, arrived-ordered, waiting-ordered, is-cell}
 use Rattle.ndc_workflows.proofs.OwnLemmas.{own-or-empty}
-use Rattle.ndc_workflows.proofs.SameLemmas.{names-of, of-itself, same_in_order}
+use Rattle.ndc_workflows.proofs.SameLemmas.{names-of, same_in_order}
 
 -- a workflow is put into its domain, and the domain into the cell
 module _ (domain workflow : Name) (w : WorkflowValue) (workflows : DomainValue) (domains after : List (Name × DomainValue)) (outer : IsPut domain workflows domains after)
@@ -169,7 +169,7 @@ batches-behind entry domains after are later message own there others =
     (with_batches entry (cell_of domains)) refl
     (writing_keeps entry (cell_of domains) (is-cell domains are) message.back (second-back (carrying entry.batch entry.second) message)).ordered
     (waiting-ordered domains are)
-    (written_same entry.batch.domain entry.batch.workflow entry (cell_of domains) (is-cell domains are) message.back (of-itself entry.batch) own)
+    (written_same entry.batch.domain entry.batch.workflow entry (cell_of domains) (is-cell domains are) message.back (own-names entry.batch) own)
     (λ d n other i. record {
       arrived = others_arrived d n entry (cell_of domains) other (second-other d n entry.batch entry.second other own) i;
       waiting = (workflow_of d n (cell_of domains)).waiting;

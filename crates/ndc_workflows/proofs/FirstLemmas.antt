@@ -9,11 +9,12 @@ use Rattle.ndc_cells.specs.Jobs.{workflows_of}
 use Rattle.ndc_cells.specs.Places.{AreInOrder, is_of, place_of}
 use Rattle.ndc_event.specs.declared.batch.Batch.{Batch}
 use Rattle.ndc_event.specs.declared.name.Name.{Name}
+use Rattle.ndc_workflow.proofs.CellLemmas.{own-names}
 use Rattle.ndc_workflows.specs.Behind.{first_batch}
 use Rattle.ndc_workflows.specs.Due.{is_listed, names_order}
 use Rattle.ndc_workflows.proofs.KeptLemmas.{same-kept}
 use Rattle.ndc_workflows.proofs.ListLemmas.{all_names, names_in, names-sorted, none-listed, others_than}
-use Rattle.ndc_workflows.proofs.SameLemmas.{of-itself, of-turn}
+use Rattle.ndc_workflows.proofs.SameLemmas.{of-turn}
 
 -- the first batch of a workflow among these
 abbrev first_in : List Batch → Name × Name → Option Batch
@@ -23,7 +24,7 @@ first_in bs names = first_batch (filter (is_of names.0 names.1) bs)
 firsts : (bs : List Batch) → AllByRecursion (λ b. first_in bs (names_in b) ≡ Some b) (workflows_of bs)
 firsts [] = tt
 firsts (b ∷ bs) =
-    (ap (λ t. first_batch (cond t (b ∷ filter (is_of b.domain b.workflow) bs) (filter (is_of b.domain b.workflow) bs))) (of-itself b), others (workflows_of bs) (firsts bs))
+    (ap (λ t. first_batch (cond t (b ∷ filter (is_of b.domain b.workflow) bs) (filter (is_of b.domain b.workflow) bs))) (own-names b), others (workflows_of bs) (firsts bs))
   where
     apart : (x : Batch) → is_of b.domain b.workflow x ≡ false → (t : Bool) → is_of x.domain x.workflow b ≡ t → t ≡ false
     apart x e true f = absurd (true≢false (sym (of-turn x b f) ∙ e))

@@ -19,7 +19,7 @@ use Rattle.ndc_waiting.specs.Waiting.{IsNewTo}
 use Rattle.ndc_workflow.specs.Allowed.{MayArrive}
 use Rattle.ndc_workflow.specs.Learnable.{carrying}
 use Rattle.ndc_workflow.specs.Workflow.{WorkflowValue, IsWorkflow, beside, workflow_of}
-use Rattle.ndc_workflow.proofs.CellLemmas.{written_same}
+use Rattle.ndc_workflow.proofs.CellLemmas.{written_same, own-names}
 use Rattle.ndc_workflow.proofs.PutOffLemmas.{new-to-known}
 use Rattle.ndc_workflow.proofs.WriteLemmas.{CanBeWritten, written-is, written-learned}
 use Rattle.ndc_workflows.specs.Due.{HoldDue, is_listed, is_named}
@@ -28,7 +28,7 @@ use Rattle.ndc_workflows.specs.Writing.{MayBeWritten}
 use Rattle.ndc_workflows.proofs.BehindLemmas.{second-other}
 use Rattle.ndc_workflows.proofs.NameLemmas.{name-itself}
 use Rattle.ndc_workflows.proofs.PutLemmas.{can-be}
-use Rattle.ndc_workflows.proofs.SameLemmas.{names-of, of-itself}
+use Rattle.ndc_workflows.proofs.SameLemmas.{names-of}
 
 abbrev Names : Type 0
 Names = List (Name × Name)
@@ -84,7 +84,7 @@ module _ (entry : Entry) (cell : Cell) (is : IsCell cell) (workflow : IsWorkflow
   -- what is learned of the workflow then
   learned-then : learned_of entry.batch.domain entry.batch.workflow (with_batches entry cell) ≡ with_message sent (learned own.arrived)
   learned-then =
-      ap (λ (v : WorkflowValue). learned v.arrived) (written_same entry.batch.domain entry.batch.workflow entry cell is may.message.back (of-itself entry.batch) may.own)
+      ap (λ (v : WorkflowValue). learned v.arrived) (written_same entry.batch.domain entry.batch.workflow entry cell is may.message.back (own-names entry.batch) may.own)
       ∙ ap (λ (v : WorkflowValue). learned (with_message sent v.arrived)) workflow.parts
       ∙ ap (λ (v : WorkflowValue). learned v.arrived) (sym (written-is (learned own.arrived) own.waiting workflow.apart sent can))
       ∙ written-learned (learned own.arrived) own.waiting workflow.apart sent can

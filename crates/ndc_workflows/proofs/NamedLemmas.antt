@@ -20,7 +20,8 @@ use Rattle.ndc_sets.proofs.LearnedLemmas.{IsSet-learned, learned-reaches, reache
 use Rattle.ndc_sets.proofs.SetLemmas.{found-has, found-key, has-found}
 use Rattle.ndc_waiting.proofs.FreeLemmas.{filter-found}
 use Rattle.ndc_waiting.proofs.LearnLemmas.{set-all}
-use Rattle.ndc_waiting.proofs.OrderLemmas.{same-found}
+use Rattle.ndc_waiting.proofs.OrderLemmas.{same-found, all-join, all-more}
+use Rattle.ndc_workflow.proofs.CellLemmas.{learned-own}
 use Rattle.ndc_workflow.specs.Workflow.{WorkflowValue, workflow_of}
 use Rattle.ndc_workflows.specs.Named.{HoldUnder, all_under, under}
 use Rattle.ndc_workflows.specs.Reading.{HoldLearned, IsIn, workflows_named}
@@ -28,7 +29,6 @@ use Rattle.ndc_workflows.specs.Workflows.{AreDomains, DomainValue, IsOwn, arrive
 use Rattle.ndc_workflows.proofs.DomainLemmas.{workflow-there}
 use Rattle.ndc_workflows.proofs.NameLemmas.{hold-first, hold-rest}
 use Rattle.ndc_workflows.proofs.SameLemmas.{names-of}
-use Rattle.ndc_workflows.proofs.WaitLemmas.{learned-own}
 
 -- what is learned of a set is what is found among the learned
 learned-kept : (xs : List Batch) → IsSet xs → filter (λ b. has_key (Some b.key) (learned xs)) xs ≡ learned xs
@@ -50,14 +50,6 @@ filter-as p q (x ∷ xs) all = ap (λ t. cond t (x ∷ filter p xs) (filter p xs
 filter-nothing : {X : Type 0} (xs : List X) → filter (λ x. false) xs ≡ []
 filter-nothing [] = refl
 filter-nothing (x ∷ xs) = filter-nothing xs
-
-all-as : {X : Type 0} (P Q : X → Type 0) → ((x : X) → P x → Q x) → (xs : List X) → AllByRecursion P xs → AllByRecursion Q xs
-all-as P Q turn [] all = tt
-all-as P Q turn (x ∷ xs) all = (turn x all.0, all-as P Q turn xs all.1)
-
-all-join : {X : Type 0} (P : X → Type 0) (xs ys : List X) → AllByRecursion P xs → AllByRecursion P ys → AllByRecursion P (xs ++ ys)
-all-join P [] ys one two = two
-all-join P (x ∷ xs) ys one two = (one.0, all-join P xs ys one.1 two)
 
 -- a workflow of its names that the cell has
 record IsThere (cell : Cell) (domain workflow : Name) (w : WorkflowValue) : Type 0 where
@@ -92,7 +84,7 @@ module _ (names : List Name) (cell : Cell) where
   module _ (d n : Name) (w : WorkflowValue) (is : IsThere cell d n w) where
     is-in : IsIn cell w
     is-in =
-        all-as (λ b. is_of d n b ≡ true) (λ b. workflow_of b.domain b.workflow cell ≡ w)
+        all-more (λ b. is_of d n b ≡ true) (λ b. workflow_of b.domain b.workflow cell ≡ w)
         (λ b e. ap (λ (k : Name). workflow_of k b.workflow cell) (names-of d n b e).0 ∙ ap (λ (k : Name). workflow_of d k cell) (names-of d n b e).1 ∙ is.there) w.arrived is.own.arrived
 
     set : IsSet w.arrived
@@ -101,7 +93,7 @@ module _ (names : List Name) (cell : Cell) where
     kept-one : has d ≡ true → filter test w.arrived ≡ learned w.arrived
     kept-one e =
         filter-as test (λ b. has_key (Some b.key) (learned w.arrived)) w.arrived
-        (all-as (λ b. is_of d n b ≡ true) (λ b. test b ≡ has_key (Some b.key) (learned w.arrived))
+        (all-more (λ b. is_of d n b ≡ true) (λ b. test b ≡ has_key (Some b.key) (learned w.arrived))
         (λ b own. ap (λ t. is_learned_in cell b && t) (ap has (names-of d n b own).0 ∙ e) ∙ and-true (is_learned_in cell b)
         ∙ learned-own d n b cell own ∙ ap (λ (v : WorkflowValue). has_key (Some b.key) (learned v.arrived)) is.there) w.arrived is.own.arrived)
         ∙ learned-kept w.arrived set
@@ -113,7 +105,7 @@ module _ (names : List Name) (cell : Cell) where
     kept-none : has d ≡ false → filter test w.arrived ≡ []
     kept-none e =
         filter-as test (λ b. false) w.arrived
-        (all-as (λ b. is_of d n b ≡ true) (λ b. test b ≡ false) (λ b own. ap (λ t. is_learned_in cell b && t) (ap has (names-of d n b own).0 ∙ e) ∙ and-false (is_learned_in cell b)) w.arrived is.own.arrived)
+        (all-more (λ b. is_of d n b ≡ true) (λ b. test b ≡ false) (λ b own. ap (λ t. is_learned_in cell b && t) (ap has (names-of d n b own).0 ∙ e) ∙ and-false (is_learned_in cell b)) w.arrived is.own.arrived)
         ∙ filter-nothing w.arrived
       where
         and-false : (t : Bool) → (t && false) ≡ false

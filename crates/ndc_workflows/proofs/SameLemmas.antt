@@ -12,11 +12,7 @@ use Rattle.ndc_event.specs.declared.batch.Batch.{Batch}
 use Rattle.ndc_event.specs.declared.name.Name.{Name}
 use Rattle.ndc_sets.proofs.Lists.{Among, all-among, among-map, filter-among}
 use Rattle.ndc_waiting.proofs.FreeLemmas.{not-itself}
-use Rattle.ndc_workflows.proofs.NameLemmas.{name-itself}
-
--- a batch is of its own workflow
-pub of-itself : (b : Batch) → is_of b.domain b.workflow b ≡ true
-of-itself b = and_from (bytes_eq b.domain b.domain) (bytes_eq b.workflow b.workflow) (name-itself b.domain) (name-itself b.workflow)
+use Rattle.ndc_workflow.proofs.CellLemmas.{own-names}
 
 -- the names of a batch of a workflow
 pub names-of : (domain workflow : Name) (b : Batch) → is_of domain workflow b ≡ true → (b.domain ≡ domain) × (b.workflow ≡ workflow)
@@ -45,7 +41,7 @@ module _ {Y : Type 0} (batch : Y → Batch) where
   -- of the first's workflow, the first stays
   kept-first : (y : Y) (ys : List Y) → filter (λ x. is_of (batch y).domain (batch y).workflow (batch x)) (y ∷ ys) ≡ y ∷ filter (λ x. is_of (batch y).domain (batch y).workflow (batch x)) ys
   kept-first y ys =
-      ap (λ t. cond t (y ∷ filter (λ x. is_of (batch y).domain (batch y).workflow (batch x)) ys) (filter (λ x. is_of (batch y).domain (batch y).workflow (batch x)) ys)) (of-itself (batch y))
+      ap (λ t. cond t (y ∷ filter (λ x. is_of (batch y).domain (batch y).workflow (batch x)) ys) (filter (λ x. is_of (batch y).domain (batch y).workflow (batch x)) ys)) (own-names (batch y))
 
   -- one that stands first in its workflow, but not here, comes later
   comes-later : (y z : Y) (ys zs : List Y) → AreInOrder (map batch (z ∷ zs)) → is_of (batch y).domain (batch y).workflow (batch z) ≡ false

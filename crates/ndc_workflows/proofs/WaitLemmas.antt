@@ -1,5 +1,5 @@
 -- Nothing is put off of any workflow but those that are listed, and of these the first batches are found.
-use Rattle.std.proofs.Common.{◌≡◌, Bool, true, false, not, ◌&&◌, ◌||◌, List, [], ◌∷◌, Option, Some, Result, Ok, Err, OnOk, OnErr, cond, map, refl, sym, ◌∙◌, subst, ap, true≢false}
+use Rattle.std.proofs.Common.{◌≡◌, Bool, true, false, not, ◌&&◌, ◌||◌, List, [], ◌∷◌, Option, Result, Ok, Err, OnOk, OnErr, cond, map, refl, sym, ◌∙◌, subst, ap, true≢false}
 use Rattle.std.specs.Prelude.{if◌then◌else◌}
 use Rattle.std.specs.List.{filter, filter_map}
 use Rattle.std.specs.List.Sorted.{IsStrictlySortedBy}
@@ -9,15 +9,15 @@ use Rattle.ndc_cells.specs.declared.message.Message.{Message}
 use Rattle.ndc_cells.specs.declared.place.Place.{Place}
 use Rattle.ndc_cells.specs.Arrival as cells
 use Rattle.ndc_cells.specs.Arrival.{arrived_at, message_placed}
-use Rattle.ndc_cells.specs.Cells.{Cell, IsCell, is_learned_in, learned_of, put_off_in}
+use Rattle.ndc_cells.specs.Cells.{Cell, IsCell, is_learned_in, put_off_in}
 use Rattle.ndc_cells.specs.Jobs.{workflows_of}
-use Rattle.ndc_cells.specs.Places.{AreBehind, AreInOrder, is_at, is_of, place_lt, place_of}
+use Rattle.ndc_cells.specs.Places.{AreBehind, AreInOrder, is_of, place_of}
 use Rattle.ndc_cells.specs.Writing.{Entry, with_batches}
 use Rattle.ndc_event.specs.declared.batch.Batch.{Batch}
 use Rattle.ndc_event.specs.declared.name.Name.{Name}
-use Rattle.ndc_sets.specs.Learned.{has_key}
 use Rattle.ndc_sets.proofs.Lists.{filter-cases}
 use Rattle.ndc_waiting.specs.Waiting.{batches_of}
+use Rattle.ndc_workflow.proofs.CellLemmas.{filter-swap, placed-other, learned-own}
 use Rattle.ndc_workflow.specs.Workflow.{WorkflowValue, IsWorkflow, is_learned, workflow_of}
 use Rattle.ndc_workflow.specs.Workflow as own
 use Rattle.ndc_workflow.proofs.PutOffLemmas.{put_off_waits}
@@ -43,17 +43,6 @@ none-kept p q (x ∷ xs) none = by (p x) refl none (λ e. none-kept p q xs e)
         kept : (t : Bool) → filter p (cond t (x ∷ filter q xs) (filter q xs)) ≡ []
         kept true = ap (λ t. cond t (x ∷ filter p (filter q xs)) (filter p (filter q xs))) e ∙ rest h
         kept false = rest h
-
--- a message of another workflow
-placed-other : (p : Batch → Bool) (new : Message) (messages : List Message) → p new.batch ≡ false → filter (λ m. p m.batch) (message_placed new messages) ≡ filter (λ m. p m.batch) messages
-placed-other p new [] n = ap (λ t. cond t (new ∷ []) []) n
-placed-other p new (m ∷ messages) n = by (place_lt (place_of new.batch) (place_of m.batch)) (is_at (place_of new.batch) m.batch) (placed-other p new messages n)
-  where
-    by : (s t : Bool) → filter (λ x. p x.batch) (message_placed new messages) ≡ filter (λ x. p x.batch) messages
-        → filter (λ x. p x.batch) (if s then new ∷ m ∷ messages else if t then m ∷ messages else m ∷ message_placed new messages) ≡ filter (λ x. p x.batch) (m ∷ messages)
-    by true t rest = ap (λ t. cond t (new ∷ filter (λ x. p x.batch) (m ∷ messages)) (filter (λ x. p x.batch) (m ∷ messages))) n
-    by false true rest = refl
-    by false false rest = ap (λ l. cond (p m.batch) (m ∷ l) l) rest
 
 -- where nothing is put off of a workflow, nothing is behind the arrival of a message of another one
 others-still : (d w : Name) (sent : Message) (cell : Cell) → is_of d w sent.batch ≡ false → (workflow_of d w cell).waiting ≡ [] → (workflow_of d w (arrived_at sent cell)).waiting ≡ []
@@ -98,26 +87,6 @@ module _ (domain workflow : Name) (cell : Cell) (before after : Names) where
   pub listed-taken : ((d w : Name) → is_listed d w after ≡ (not (is_named d w (domain, workflow)) && is_listed d w before)) → (workflow_of domain workflow cell).waiting ≡ []
       → IsListedWhereBehind domain workflow cell before after
   listed-taken taken none = record { kept = λ d w n e. sym (ap (λ t. not t && is_listed d w before) n) ∙ sym (taken d w) ∙ e; own = λ e. none }
-
--- two filters in the other order, where the second test is another one for what passes the first
-filter-swap : {X : Type 0} (p q r : X → Bool) (xs : List X) → ((x : X) → p x ≡ true → q x ≡ r x) → filter p (filter q xs) ≡ filter r (filter p xs)
-filter-swap p q r [] same = refl
-filter-swap p q r (x ∷ xs) same = by (p x) refl (q x) refl (filter-swap p q r xs same)
-  where
-    by : (s : Bool) → p x ≡ s → (t : Bool) → q x ≡ t → filter p (filter q xs) ≡ filter r (filter p xs)
-        → filter p (cond t (x ∷ filter q xs) (filter q xs)) ≡ filter r (cond s (x ∷ filter p xs) (filter p xs))
-    by true e true f rest =
-        ap (λ t. cond t (x ∷ filter p (filter q xs)) (filter p (filter q xs))) e ∙ ap (λ l. x ∷ l) rest
-        ∙ sym (ap (λ t. cond t (x ∷ filter r (filter p xs)) (filter r (filter p xs))) (sym (same x e) ∙ f))
-    by true e false f rest = rest ∙ sym (ap (λ t. cond t (x ∷ filter r (filter p xs)) (filter r (filter p xs))) (sym (same x e) ∙ f))
-    by false e true f rest = ap (λ t. cond t (x ∷ filter p (filter q xs)) (filter p (filter q xs))) e ∙ rest
-    by false e false f rest = rest
-
--- what is learned in a batch's own workflow
-pub learned-own : (d w : Name) (b : Batch) (cell : Cell) → is_of d w b ≡ true → is_learned_in cell b ≡ is_learned (workflow_of d w cell) b
-learned-own d w b cell mine =
-    let names = names-of d w b mine in
-    ap (λ (k : Name). has_key (Some b.key) (learned_of k b.workflow cell)) names.0 ∙ ap (λ (k : Name). has_key (Some b.key) (learned_of d k cell)) names.1
 
 -- what is put off of a workflow of the cell
 pub off-own : (d w : Name) (cell : Cell) → filter (is_of d w) (put_off_in cell) ≡ own.put_off_in (workflow_of d w cell)

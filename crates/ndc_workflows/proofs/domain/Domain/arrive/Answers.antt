@@ -2,6 +2,7 @@ use Rattle.std.proofs.Common.{◌≡◌, Some, None, false, refl, sym, ◌∙◌
 use Rattle.std.specs.Prelude.{is_some}
 use Rattle.ndc_sets.specs.Learned.{learned}
 use Rattle.ndc_sets.specs.Sound.{IsSound}
+use Rattle.ndc_workflow.proofs.CellLemmas.{own-names}
 use Rattle.ndc_workflow.specs.Workflow.{WorkflowValue, after_arrival, empty_workflow, has_arrived}
 use Rattle.ndc_waiting.specs.Waiting.{IsNewTo}
 use Rattle.ndc_workflow.proofs.OkLemmas.{on-ok}
@@ -10,7 +11,6 @@ use Rattle.ndc_workflows.specs.Workflows.{workflow_or_empty, IsOwn}
 use Rattle.ndc_workflows.proofs.NameLemmas.{put-holds}
 use Rattle.ndc_workflows.proofs.OwnLemmas.{empty-own, own-after}
 use Rattle.ndc_workflows.proofs.PutLemmas.{map-put, same-put, own-either}
-use Rattle.ndc_workflows.proofs.SameLemmas.{of-itself}
 use Rattle.ndc_workflows.proofs.domain.Domain.arrive.Goals as goal
 
 pub arrive-requires-clause-sound : goal.arrive-requires-clause-sound
@@ -39,7 +39,7 @@ returns-in-Some-clause-own g c =
     (c.get_mut.follows.lender c.arrive.new.self).entries refl refl c.self.view_is
     (map-put m.batch.workflow c.arrive.new.self c.self.inside.workflows.entries (c.get_mut.follows.lender c.arrive.new.self).entries (w.3 (ap is_some (sym c.in-Some.ensures.value))).0 w.4))
     (own-either m.batch.domain m.batch.workflow m c.in-Some.workflow.now c.arrive.new.self c.arrive.result c.arrive.ensures.ok c.arrive.ensures.err
-    (c.requires.own.each m.batch.workflow c.in-Some.workflow.now (sym at)) (of-itself m.batch) c.requires.second c.requires.message
+    (c.requires.own.each m.batch.workflow c.in-Some.workflow.now (sym at)) (own-names m.batch) c.requires.second c.requires.message
     (subst (λ (w : WorkflowValue). has_arrived m.batch.key w ≡ false → IsNewTo w.arrived m) (sym (ap workflow_or_empty at)) c.requires.new)
     (subst (λ (w : WorkflowValue). IsSound (learned (after_arrival m w).arrived)) (sym (ap workflow_or_empty at)) c.requires.sound))
     c.requires.own
@@ -68,7 +68,7 @@ returns-clause-own g c =
     c.get_mut.follows.lender-at-none.entries c.insert.new.self.entries c.in_ok-name.ensures refl (ap (λ n. n.entries) c.get_mut.follows.holds-at-none ∙ c.self.view_is)
     (map-put c.in_ok-name.name c.arrive-2.new.self c.get_mut.follows.lender-at-none.entries c.insert.new.self.entries c.in_ok-insert.ensures.updates.0 c.in_ok-insert.ensures.ordered))
     (subst (IsOwn m.batch.domain m.batch.workflow) (sym (c.in_ok-arrival.ensures.ok ∙ ap (after_arrival m) c.new-workflow.ensures))
-    (own-after m.batch.domain m.batch.workflow m empty_workflow (empty-own m.batch.domain m.batch.workflow) (of-itself m.batch) c.requires.second c.requires.message
+    (own-after m.batch.domain m.batch.workflow m empty_workflow (empty-own m.batch.domain m.batch.workflow) (own-names m.batch) c.requires.second c.requires.message
     (subst (λ (w : WorkflowValue). has_arrived m.batch.key w ≡ false → IsNewTo w.arrived m) (sym (ap workflow_or_empty at)) c.requires.new)
     (subst (λ (w : WorkflowValue). IsSound (learned (after_arrival m w).arrived)) (sym (ap workflow_or_empty at)) c.requires.sound)))
     c.requires.own

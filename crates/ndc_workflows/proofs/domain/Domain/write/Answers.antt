@@ -2,6 +2,7 @@ use Rattle.std.proofs.Common.{◌≡◌, Some, None, refl, sym, ◌∙◌, subst
 use Rattle.std.specs.Prelude.{is_some}
 use Rattle.std.specs.Option.{option_copied}
 use Rattle.std.proofs.lemmas.Map.Steps.{set_value_same}
+use Rattle.ndc_workflow.proofs.CellLemmas.{own-names}
 use Rattle.ndc_workflow.specs.Learnable.{carrying}
 use Rattle.ndc_workflow.specs.Workflow.{with_written}
 use Rattle.ndc_workflow.proofs.OkLemmas.{on-ok}
@@ -11,7 +12,6 @@ use Rattle.ndc_workflows.specs.Writing.{MayBeWritten}
 use Rattle.ndc_workflows.proofs.NameLemmas.{put-holds}
 use Rattle.ndc_workflows.proofs.OwnLemmas.{empty-own}
 use Rattle.ndc_workflows.proofs.PutLemmas.{map-put, same-put, own-written-either, on-err}
-use Rattle.ndc_workflows.proofs.SameLemmas.{of-itself}
 use Rattle.ndc_workflows.proofs.domain.Domain.write.Goals as goal
 
 pub write-requires-clause-message : goal.write-requires-clause-message
@@ -134,7 +134,7 @@ returns-in-Some-clause-own g c =
     (c.get_mut.follows.lender c.write.new.self).entries refl refl c.self.view_is
     (map-put b.workflow c.write.new.self c.self.inside.workflows.entries (c.get_mut.follows.lender c.write.new.self).entries (w.3 (ap is_some (sym c.in-Some.ensures.value))).0 w.4))
     (own-written-either b.domain b.workflow sent c.in-Some.workflow.now c.write.new.self c.write.result c.write.ensures.ok c.write.ensures.err
-    (c.requires.own.each b.workflow c.in-Some.workflow.now (sym at)) (of-itself b) refl refl can)
+    (c.requires.own.each b.workflow c.in-Some.workflow.now (sym at)) (own-names b) refl refl can)
     c.requires.own
 
 pub returns-in-Some-clause-err : goal.returns-in-Some-clause-err
@@ -165,5 +165,5 @@ returns-clause-own g c =
     c.get_mut.follows.lender-at-none.entries c.insert.new.self.entries c.in_ok-name.ensures refl (ap (λ n. n.entries) c.get_mut.follows.holds-at-none ∙ c.self.view_is)
     (map-put c.in_ok-name.name c.write-2.new.self c.get_mut.follows.lender-at-none.entries c.insert.new.self.entries c.in_ok-insert.ensures.updates.0 c.in_ok-insert.ensures.ordered))
     (own-written-either b.domain b.workflow sent c.new-workflow.result c.write-2.new.self c.write-2.result c.write-2.ensures.ok c.write-2.ensures.err
-    (subst (IsOwn b.domain b.workflow) (sym c.new-workflow.ensures) (empty-own b.domain b.workflow)) (of-itself b) refl refl can)
+    (subst (IsOwn b.domain b.workflow) (sym c.new-workflow.ensures) (empty-own b.domain b.workflow)) (own-names b) refl refl can)
     c.requires.own
