@@ -27,74 +27,17 @@ fn build(
     Ok(Clusters::build(increment, members))
 }
 
-/// Why such clusters are not built, if they are not.
-fn refusal(
-    alloc: Global,
-    increment: u64,
-    list: &[(&str, u64)],
-) -> Result<Option<ClustersError>, Fail> {
-    Ok(build(alloc, increment, list)?.err())
-}
-
 #[test]
-fn clusters_that_are_refused(rt: HostRuntime) -> Result<(), Fail> {
+fn three_clusters(rt: HostRuntime) -> Result<(), Fail> {
     let alloc = rt.alloc();
-    assert_eq!(rt;
-        refusal(alloc, 0, &[])?,
-        Some(ClustersError::IncrementLimit)
-    );
-    assert_eq!(rt;
-        refusal(alloc, 1_000_000_000_001, &[("A", 1)])?,
-        Some(ClustersError::IncrementLimit)
-    );
-    assert_eq!(rt;
-        refusal(alloc, 1_000_000_000_000, &[])?,
-        Some(ClustersError::NoClusters)
-    );
-    assert_eq!(rt;
-        refusal(alloc, 10, &[("A", 1), ("B", 2), ("A", 2)])?,
-        Some(ClustersError::SameName { place: 2 })
-    );
-    assert_eq!(rt;
-        refusal(alloc, 10, &[("A", 1), ("B", 1)])?,
-        Some(ClustersError::SameInitial { place: 1 })
-    );
-    assert_eq!(rt;
-        refusal(alloc, 10, &[("A", 1), ("B", 10), ("A", 1)])?,
-        Some(ClustersError::NotBelowIncrement { place: 1 })
-    );
-    Ok(())
-}
-
-#[test]
-fn eight_clusters(rt: HostRuntime) -> Result<(), Fail> {
-    let alloc = rt.alloc();
-    let nine = [
-        ("A", 1),
-        ("B", 2),
-        ("C", 3),
-        ("D", 4),
-        ("E", 5),
-        ("F", 6),
-        ("G", 7),
-        ("H", 8),
-        ("I", 9),
-    ];
-    assert_eq!(rt;
-        refusal(alloc, 10, &nine)?,
-        Some(ClustersError::TooMany { place: 8 })
-    );
-    let eight = build(alloc, 10, &nine[..8])??.try_copy()?;
-    assert!(rt; eight.count() == 8 && eight.increment() == 10);
-    assert_eq!(rt; eight.initial(C), 3);
-    assert_eq!(rt; eight.name(C).as_str(), "C");
-    assert_eq!(rt; eight.find(b"C"), Some(C));
-    assert_eq!(rt; eight.find(b"I"), None);
-    assert_eq!(rt; eight.writer_of(13), Some(C));
-    assert_eq!(rt; eight.writer_of(19), None);
-    assert_eq!(rt; eight.next_version(3, C), Ok(3));
-    assert_eq!(rt; eight.next_version(4, C), Ok(13));
-    assert_eq!(rt; eight.next_version(9_999_999_999_994, C), Err(VersionLimit));
+    let built = build(alloc, 10, &[("A", 1), ("B", 2), ("C", 3)])??.try_copy()?;
+    assert!(rt; built.count() == 3 && built.increment() == 10);
+    assert_eq!(rt; built.initial(C), 3);
+    assert_eq!(rt; built.name(C).as_str(), "C");
+    assert_eq!(rt; built.find(b"C"), Some(C));
+    assert_eq!(rt; built.find(b"I"), None);
+    assert_eq!(rt; built.writer_of(13), Some(C));
+    assert_eq!(rt; built.next_version(4, C), Ok(13));
     Ok(())
 }
 
@@ -155,42 +98,19 @@ fn says(
 }
 
 #[test]
-fn changing_one_table(rt: HostRuntime) -> Result<(), Fail> {
+fn one_table_is_changed_and_read(rt: HostRuntime) -> Result<(), Fail> {
     let alloc = rt.alloc();
-    let clusters = build(alloc, 10, &[("A", 1), ("B", 2)])??;
-    assert!(rt; clusters.count() == 2);
+    let clusters = build(alloc, 10, &[("A", 1), ("B", 2), ("C", 3)])??;
+    assert!(rt; clusters.count() == 3);
     let alpha = Name::new(alloc, b"alpha")?;
     let beta = Name::new(alloc, b"beta")?;
     let mut table = DomainTable::new(alloc);
     assert_eq!(rt; register(&mut table, &clusters, A, &beta, B), Ok(2));
     assert_eq!(rt; register(&mut table, &clusters, A, &alpha, A), Ok(1));
-    assert_eq!(rt; table.failover(&clusters, &alpha, B), Ok(2));
-    assert_eq!(rt; table.failover(&clusters, &beta, A), Ok(11));
-    assert_eq!(rt; table.failover(&clusters, &beta, A), Ok(11));
-    assert!(rt; says(&table, &alpha, 2, 0, 7, &[A, B]));
     assert_eq!(rt; retain(&mut table, A, &alpha, 30), Some(Ok(1)));
-    assert_eq!(rt;
-        retain(&mut table, B, &alpha, 30),
-        Some(Err(RetainError::NotPrimary))
-    );
-    assert!(rt; says(&table, &alpha, 2, 1, 30, &[A, B]));
-    assert_eq!(rt;
-        register(&mut table, &clusters, A, &alpha, A),
-        Err(DomainError::DomainExists)
-    );
-    Ok(())
-}
-
-#[test]
-fn reading_one_table(rt: HostRuntime) -> Result<(), Fail> {
-    let alloc = rt.alloc();
-    let clusters = build(alloc, 10, &[("A", 1), ("B", 2)])??;
-    assert!(rt; clusters.count() == 2);
-    let alpha = Name::new(alloc, b"alpha")?;
-    let beta = Name::new(alloc, b"beta")?;
-    let mut table = DomainTable::new(alloc);
-    assert_eq!(rt; register(&mut table, &clusters, A, &beta, B), Ok(2));
-    assert_eq!(rt; register(&mut table, &clusters, A, &alpha, A), Ok(1));
+    assert_eq!(rt; table.join(A, &alpha, C), Ok(()));
+    assert_eq!(rt; table.failover(&clusters, &alpha, C), Ok(3));
+    assert!(rt; says(&table, &alpha, 3, 1, 30, &[A, B, C]));
     let names = table.names()?;
     assert!(rt;
         names.len() == 2 && names[0] == alpha && names[1] == beta,
@@ -203,70 +123,15 @@ fn reading_one_table(rt: HostRuntime) -> Result<(), Fail> {
 }
 
 #[test]
-fn joining(rt: HostRuntime) -> Result<(), Fail> {
+fn one_table_takes_another_over(rt: HostRuntime) -> Result<(), Fail> {
     let alloc = rt.alloc();
-    let clusters = build(alloc, 10, &[("A", 1), ("B", 2), ("C", 3)])??;
-    assert!(rt; clusters.count() == 3);
-    let alpha = Name::new(alloc, b"alpha")?;
-    let mut table = DomainTable::new(alloc);
-    assert_eq!(rt; register(&mut table, &clusters, A, &alpha, A), Ok(1));
-    assert_eq!(rt;
-        table.failover(&clusters, &alpha, C),
-        Err(FailoverError::NotMember)
-    );
-    assert_eq!(rt; table.join(A, &alpha, C), Ok(()));
-    assert_eq!(rt; table.join(A, &alpha, C), Err(JoinError::MemberExists));
-    assert_eq!(rt; table.failover(&clusters, &alpha, C), Ok(3));
-    assert!(rt; says(&table, &alpha, 3, 0, 7, &[A, B, C]));
-    Ok(())
-}
-
-#[test]
-fn the_version_limit(rt: HostRuntime) -> Result<(), Fail> {
-    let alloc = rt.alloc();
-    let clusters = build(alloc, 1_000_000_000_000, &[("A", 1), ("B", 2)])??;
+    let clusters = build(alloc, 10, &[("A", 1), ("B", 2)])??;
     assert!(rt; clusters.count() == 2);
     let alpha = Name::new(alloc, b"alpha")?;
-    let mut table = DomainTable::new(alloc);
-    assert_eq!(rt; register(&mut table, &clusters, A, &alpha, A), Ok(1));
-    for round in 0..9_u64 {
-        let base = round * 1_000_000_000_000;
-        assert_eq!(rt; table.failover(&clusters, &alpha, B), Ok(base + 2));
-        assert_eq!(rt;
-            table.failover(&clusters, &alpha, A),
-            Ok(base + 1_000_000_000_001)
-        );
-    }
-    assert_eq!(rt; table.failover(&clusters, &alpha, B), Ok(9_000_000_000_002));
-    assert_eq!(rt;
-        table.failover(&clusters, &alpha, A),
-        Err(FailoverError::VersionLimit)
-    );
-    assert!(rt; says(&table, &alpha, 9_000_000_000_002, 0, 7, &[A, B]));
-    Ok(())
-}
-
-#[test]
-fn merging_two_tables(rt: HostRuntime) -> Result<(), Fail> {
-    let alloc = rt.alloc();
-    let clusters = build(alloc, 10, &[("A", 1), ("B", 2), ("C", 3)])??;
-    assert!(rt; clusters.count() == 3);
-    let alpha = Name::new(alloc, b"alpha")?;
-    let beta = Name::new(alloc, b"beta")?;
     let mut ours = DomainTable::new(alloc);
-    assert_eq!(rt; register(&mut ours, &clusters, A, &beta, A), Ok(1));
     assert_eq!(rt; register(&mut ours, &clusters, A, &alpha, A), Ok(1));
     let mut theirs = DomainTable::new(alloc);
-    assert_eq!(rt; theirs.merge(&ours)?, 2);
-    assert_eq!(rt; theirs.merge(&ours)?, 0);
-    assert_eq!(rt; retain(&mut ours, A, &alpha, 30), Some(Ok(1)));
-    assert_eq!(rt; theirs.failover(&clusters, &alpha, B), Ok(2));
-    assert_eq!(rt; ours.join(A, &beta, C), Ok(()));
-    assert_eq!(rt; theirs.merge(&ours)?, 2);
-    assert!(rt;
-        says(&theirs, &alpha, 2, 1, 30, &[A, B]) && says(&theirs, &beta, 1, 0, 7, &[A, B, C])
-    );
-    assert_eq!(rt; ours.merge(&theirs)?, 1);
+    assert_eq!(rt; theirs.merge(&ours)?, 1);
     assert!(rt; theirs.same(&ours));
     Ok(())
 }
