@@ -7,6 +7,3 @@ pub mod author_laws;
 mod key_set;
 
 pub use key_set::KeySet;
-
-#[cfg(test)]
-mod tests;

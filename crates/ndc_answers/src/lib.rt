@@ -24,6 +24,3 @@ pub use reading::{branches, compared, current, dump, history, no_workflow, state
 pub use tally::{Tally, add_seen};
 pub use word::behind_number;
 pub use writing::{outcome, refusal};
-
-#[cfg(test)]
-mod tests;

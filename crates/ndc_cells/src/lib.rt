@@ -12,6 +12,3 @@ pub mod worked_cells;
 pub use job::{Arrived, Job, JobReply, Keys, Outcome, ShardJob, Written};
 pub use message::Message;
 pub use place::Place;
-
-#[cfg(test)]
-mod tests;

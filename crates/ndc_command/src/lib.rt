@@ -12,6 +12,3 @@ mod tip;
 pub use command::{Action, Actions, Command};
 pub use planning::plan;
 pub use refusal::{CommandError, Refusal};
-
-#[cfg(test)]
-mod tests;

@@ -6,6 +6,3 @@ pub mod laws;
 
 pub use current::{pick, status};
 pub use ndc_sets::RunStatus;
-
-#[cfg(test)]
-mod tests;

@@ -8,8 +8,6 @@ mod merging;
 mod record;
 mod table;
 pub mod table_laws;
-#[cfg(test)]
-mod tests;
 
 pub use clusters::{
     ClusterNo, Clusters, ClustersError, MAX_CLUSTERS, MAX_INCREMENT, MAX_VERSION, VersionLimit,

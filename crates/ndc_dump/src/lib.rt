@@ -28,6 +28,3 @@ pub use error::{DumpError, KeyCause, LineCause};
 pub use print::dump_text;
 pub use read::read_dump;
 pub use tree::tree_text;
-
-#[cfg(test)]
-mod tests;

@@ -2,8 +2,6 @@
 #![tactic(auto)]
 
 mod batch;
-#[cfg(test)]
-mod examples;
 mod key;
 mod kind;
 mod name;

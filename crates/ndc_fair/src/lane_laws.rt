@@ -31,7 +31,7 @@ pub fn faults_of_the_network_keep_worlds_reached()
 {}
 
 /// In each lane what is trimmed is done, what is done was read, and what was read is in the queue.
-#[tactic(auto, using(crate::proofs::LawLemmas::levels_true))]
+#[tactic(auto, using(crate::proofs::LaneLaws::levels_true))]
 pub fn levels_are_in_turn()
     ensures { (header : Head) (lines : ℕ) (w : World) → IsReached header lines w → LevelsAreTrue header w }
 {}

@@ -2,7 +2,5 @@
 #![tactic(auto)]
 
 mod handover;
-#[cfg(test)]
-mod tests;
 
 pub use handover::{BeginError, Handover, Places, ReadyError};

@@ -6,6 +6,3 @@ mod item;
 
 pub use history::{VersionHistory, best_common};
 pub use item::{AddError, Item};
-
-#[cfg(test)]
-mod tests;

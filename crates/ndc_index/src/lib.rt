@@ -9,8 +9,6 @@ mod seat;
 mod seen;
 mod shipped;
 mod tally;
-#[cfg(test)]
-mod tests;
 
 pub use choose::{ChooseError, Indexers};
 pub use indexer::{Counted, Indexer, ToldError};

@@ -16,6 +16,3 @@ pub use queues::Queues;
 pub use reads::{Lacking, Reads};
 pub use serves::Serves;
 pub use writes::Writes;
-
-#[cfg(test)]
-mod tests;

@@ -8,6 +8,3 @@ mod reading;
 
 pub use cell::{message_there, messages_of};
 pub use reading::{message_at, messages};
-
-#[cfg(test)]
-mod tests;

@@ -18,6 +18,3 @@ mod working;
 
 pub use network::Network;
 pub use working::{Done, Worked};
-
-#[cfg(test)]
-mod tests;

@@ -5,8 +5,6 @@ mod error;
 mod names;
 mod number;
 mod options;
-#[cfg(test)]
-mod tests;
 mod words;
 pub mod words_laws;
 

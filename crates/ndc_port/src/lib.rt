@@ -9,8 +9,6 @@ mod gate;
 mod memory;
 mod reading;
 mod standard;
-#[cfg(test)]
-mod tests;
 mod writing;
 
 pub use fault::Failed;

@@ -4,8 +4,6 @@
 mod laws;
 mod progress;
 mod report;
-#[cfg(test)]
-mod tests;
 
 pub use laws::{
     merging_twice_is_merging_once, the_greatest_reports_are_held,

@@ -5,8 +5,6 @@ mod flight;
 mod laws;
 mod levels;
 mod queue;
-#[cfg(test)]
-mod tests;
 
 pub use flight::{Flight, FlightError, NoSuchPlace};
 pub use laws::{entries_are_those_of_the_queue, what_is_kept_is_the_rest_of_the_queue};

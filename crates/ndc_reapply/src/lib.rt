@@ -9,6 +9,3 @@ mod stray;
 pub use order::strays;
 pub use reapply::reapply_events;
 pub use stray::Stray;
-
-#[cfg(test)]
-mod tests;

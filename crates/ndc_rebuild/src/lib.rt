@@ -6,6 +6,3 @@ mod replay;
 
 pub use checkpoints::{Checkpoints, INTERVAL};
 pub use replay::rebuild;
-
-#[cfg(test)]
-mod tests;

@@ -3,8 +3,6 @@
 
 mod gap;
 mod laws;
-#[cfg(test)]
-mod tests;
 
 pub use gap::{Gap, serve};
 pub use laws::{a_gap_begins_behind_the_last_learned_ancestor, what_lies_between_is_served};

@@ -5,6 +5,3 @@ pub mod laws;
 mod plan;
 
 pub use plan::{ResetError, plan_reset};
-
-#[cfg(test)]
-mod tests;

@@ -5,8 +5,6 @@ mod halves;
 mod piece;
 pub mod round_laws;
 mod rounds;
-#[cfg(test)]
-mod tests;
 
 pub use halves::{Work, work_all};
 pub use piece::{Desk, Works};

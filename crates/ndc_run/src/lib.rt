@@ -8,6 +8,3 @@ mod run;
 
 pub use answer::{Learned, RunError};
 pub use run::Run;
-
-#[cfg(test)]
-mod tests;

@@ -11,6 +11,3 @@ mod stray;
 mod views;
 
 pub use runs::Runs;
-
-#[cfg(test)]
-mod tests;

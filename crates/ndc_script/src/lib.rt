@@ -3,8 +3,6 @@
 
 mod generating;
 pub mod laws;
-#[cfg(test)]
-mod tests;
 
 pub use generating::generate;
 pub use ndc_act::{Act, BurstJob, Header, Jobs, Line, Lines, Script, ScriptCause, ScriptError};

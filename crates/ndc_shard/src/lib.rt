@@ -9,6 +9,3 @@ mod shard;
 mod writing;
 
 pub use shard::Shard;
-
-#[cfg(test)]
-mod tests;

@@ -4,6 +4,3 @@
 mod site;
 
 pub use site::Site;
-
-#[cfg(test)]
-mod tests;

@@ -16,6 +16,3 @@ pub use rule::{CloseKind, Rule, StateError};
 pub use state::State;
 pub use steps::Steps;
 pub use tracked::Tracked;
-
-#[cfg(test)]
-mod tests;

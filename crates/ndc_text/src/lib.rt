@@ -9,8 +9,6 @@ mod member;
 mod print;
 mod read;
 mod tag;
-#[cfg(test)]
-mod tests;
 
 pub use error::TextError;
 pub use form::TextForm;

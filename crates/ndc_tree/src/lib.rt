@@ -9,6 +9,3 @@ mod tree;
 
 pub use answer::{Inserted, TreeError};
 pub use tree::Tree;
-
-#[cfg(test)]
-mod tests;

@@ -10,6 +10,3 @@ mod shortcuts;
 mod waiting;
 
 pub use waiting::{PutOff, Waiting};
-
-#[cfg(test)]
-mod tests;

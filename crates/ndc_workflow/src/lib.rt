@@ -8,6 +8,3 @@ mod workflow;
 
 pub use arrival::Arrival;
 pub use workflow::Workflow;
-
-#[cfg(test)]
-mod tests;

@@ -8,6 +8,3 @@ mod listing;
 mod workflows;
 
 pub use workflows::Workflows;
-
-#[cfg(test)]
-mod tests;

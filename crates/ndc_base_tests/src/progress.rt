@@ -1,0 +1,83 @@
+ghost use Rattle.std.specs.Prelude.{◌≤◌, ◌<◌, ◌^◌, IfSome};
+ghost use Rattle.std.specs.Bool.{OnTrue};
+ghost use Rattle.ndc_progress.specs.Reports.{held};
+
+use ndc_event::{Name, RunId};
+use ndc_progress::{ActivityRef, Progress};
+use std::alloc::{AllocError, Global};
+use std::test::Fail;
+
+fn name(alloc: Global, text: &str) -> Result<Name, AllocError> {
+    Name::new(alloc, text.as_bytes()).map_err(|_| AllocError)
+}
+
+/// The activity that the fifth event of a run has scheduled.
+fn activity(alloc: Global) -> Result<ActivityRef, AllocError> {
+    Ok(ActivityRef {
+        domain: name(alloc, "shop")?,
+        workflow: name(alloc, "o1")?,
+        run: RunId {
+            value: 18446744073709551617,
+        },
+        scheduled: 5,
+        version: 1,
+    })
+}
+
+/// Whether a report of this version may be told.
+fn may_tell(progress: &Progress, activity: &ActivityRef, version: u64) -> bool
+    ensures { OnTrue result (IfSome (held activity.now progress.now)
+        (λ report. (report.version ≤ version) × (report.beat < 10 ^ 12))) }
+{
+    match progress.find(activity) {
+        Some(report) => report.version <= version && report.beat < 1_000_000_000_000,
+        None => true,
+    }
+}
+
+/// The beat of what is told, where it may be told.
+fn tell(
+    alloc: Global,
+    progress: &mut Progress,
+    version: u64,
+    details: &str,
+) -> Result<Option<u64>, AllocError> {
+    let activity = activity(alloc)?;
+    if !may_tell(progress, &activity, version) {
+        return Ok(None);
+    }
+    Ok(Some(progress.tell(activity, version, name(alloc, details)?)?))
+}
+
+/// Version and beat of the held report, where it has these details.
+fn held(
+    alloc: Global,
+    progress: &Progress,
+    details: &str,
+) -> Result<Option<(u64, u64)>, AllocError> {
+    match progress.find(&activity(alloc)?) {
+        Some(report) if report.details.as_str() == details => {
+            let copy = report.try_copy()?;
+            Ok(Some((copy.version, copy.beat)))
+        }
+        _ => Ok(None),
+    }
+}
+
+#[test]
+fn two_clusters_tell_of_an_activity(rt: HostRuntime) -> Result<(), Fail> {
+    let alloc = rt.alloc();
+    let (mut a, mut b) = (Progress::new(alloc), Progress::new(alloc));
+    assert_eq!(rt; tell(alloc, &mut a, 1, "p10")?, Some(1));
+    assert_eq!(rt; tell(alloc, &mut a, 1, "p20")?, Some(2));
+    assert!(rt; b.find(&activity(alloc)?).is_none());
+    assert_eq!(rt; b.merge(&a)?, 1);
+    assert_eq!(rt; held(alloc, &b, "p20")?, Some((1, 2)));
+    assert_eq!(rt; tell(alloc, &mut b, 2, "p5")?, Some(1));
+    assert_eq!(rt; tell(alloc, &mut a, 1, "p30")?, Some(3));
+    assert_eq!(rt; a.merge(&b)?, 1);
+    assert_eq!(rt; b.merge(&a)?, 0);
+    assert_eq!(rt; held(alloc, &a, "p5")?, Some((2, 1)));
+    assert_eq!(rt; tell(alloc, &mut a, 1, "p40")?, None);
+    Ok(())
+}

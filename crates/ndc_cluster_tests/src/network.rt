@@ -1,0 +1,315 @@
+ghost use Rattle.std.specs.Prelude.{◌≡◌, length, IfOk};
+ghost use Rattle.ndc_domain.specs.Clusters.{count_of};
+ghost use Rattle.ndc_fair.specs.Sometime.{IsReachedSometime};
+ghost use Rattle.ndc_model.specs.Facts.{IsReached};
+ghost use Rattle.ndc_network.specs.Networks.{opening_site};
+ghost use Rattle.ndc_network.specs.Orderly.{IsOrderly};
+
+use ndc_act::Header;
+use ndc_cells::{Job, JobReply, Message, Place};
+use ndc_domain::{ClusterNo, Clusters, DomainTable, Members};
+use ndc_event::{BatchKey, Name};
+use ndc_graceful::{Handover, Places};
+use ndc_links::{Lacking, Learns, Reads, Serves, Writes};
+use ndc_network::Network;
+use ndc_port::OpenGate;
+use ndc_queue::{FlightError, NoSuchPlace};
+use ndc_rounds::{Desk, Works};
+use ndc_runs::Runs;
+use ndc_sites::Site;
+use std::alloc::{AllocError, Global};
+use std::test::Fail;
+
+/// A cell that has written some messages and learned nothing, and finds no memory for any job.
+#[derive(Drop)]
+struct ListCell {
+    written: Vec<Message>,
+}
+
+impl Works for ListCell {
+    ghost use Rattle.std.specs.Prelude.{[]};
+
+    ghost cell = { λ list. record { arrived = []; written = list.written.items; waiting = [] } };
+
+    ghost allows = { λ _ _ _. Unit {0} };
+
+    fn do_job(&mut self, _desk: &Desk, _job: &Job) -> Result<JobReply, AllocError> {
+        Err(AllocError)
+    }
+}
+
+impl Learns for ListCell {
+    fn has_learned(&self, _domain: &Name, _workflow: &Name, _key: BatchKey) -> bool {
+        false
+    }
+}
+
+impl Writes for ListCell {
+    fn written_len(&self) -> u64 {
+        self.written.len() as u64
+    }
+
+    fn written_at(&self, place: u64) -> Result<Message, AllocError> {
+        let message = &self.written[place as usize];
+        message.try_copy()
+    }
+}
+
+impl Serves for ListCell {
+    fn learned_of(&self, alloc: Global, _domains: &[Name]) -> Result<Vec<Message>, AllocError> {
+        Ok(Vec::new(alloc))
+    }
+}
+
+impl Reads for ListCell {
+    fn runs(&self, _domain: &Name, _workflow: &Name) -> Option<&Runs> {
+        None
+    }
+
+    fn has_arrived(&self, _domain: &Name, _workflow: &Name, _key: BatchKey) -> bool {
+        false
+    }
+
+    fn behind(&self, alloc: Global) -> Result<Vec<Place>, AllocError> {
+        Ok(Vec::new(alloc))
+    }
+
+    fn put_off(
+        &self,
+        alloc: Global,
+        _domain: &Name,
+        _workflow: &Name,
+    ) -> Result<Vec<Lacking>, AllocError> {
+        Ok(Vec::new(alloc))
+    }
+
+    fn message_at(
+        &self,
+        _alloc: Global,
+        _domain: &Name,
+        _workflow: &Name,
+        _key: BatchKey,
+    ) -> Result<Option<Message>, AllocError> {
+        Ok(None)
+    }
+}
+
+/// A cluster with one cell.
+fn site(alloc: Global) -> Result<Site<ListCell>, AllocError>
+    ensures { IfOk result (λ site. site ≡ opening_site 1) }
+{
+    let mut cells = Vec::new(alloc);
+    cells.push(ListCell {
+        written: Vec::new(alloc),
+    })?;
+    Site::new(alloc, cells, 1)
+}
+
+/// Two clusters with one shard, in the beginning.
+#[derive(Drop)]
+struct Opened {
+    header: Header,
+    network: Network<ListCell>,
+}
+
+/// Two clusters with one shard, in the beginning.
+fn in_the_beginning(alloc: Global) -> Result<Opened, Fail>
+    ensures clusters { IfOk result (λ opened. length opened.network.clusters ≡ 2) }
+    ensures members { IfOk result (λ opened. count_of opened.header.clusters ≡ 2) }
+    ensures shards { IfOk result (λ opened. opened.header.shards ≡ 1) }
+    ensures reached { IfOk result (λ opened. IsReached opened.header 0 opened.network) }
+    ensures sometime { IfOk result (λ opened. IsReachedSometime opened.header opened.network) }
+    ensures orderly { IfOk result (λ opened. IsOrderly opened.header opened.network) }
+{
+    let mut members = Vec::new(alloc);
+    members.push((Name::new(alloc, b"A".as_slice())?, 1))?;
+    members.push((Name::new(alloc, b"B".as_slice())?, 2))?;
+    let header = Header {
+        clusters: Clusters::build(10, members)?,
+        shards: 1,
+        limit: 100,
+    };
+    let mut sites = Vec::new(alloc);
+    sites.push(site(alloc)?)?;
+    sites.push(site(alloc)?)?;
+    let network = Network::new(alloc, &header, sites)?;
+    Ok(Opened { header, network })
+}
+
+#[test]
+fn nothing_is_in_flight_in_the_beginning(rt: HostRuntime) -> Result<(), Fail> {
+    let alloc = rt.alloc();
+    let Opened {
+        header,
+        mut network,
+    } = in_the_beginning(alloc)?;
+    let reader = ClusterNo { number: 0 };
+    let source = ClusterNo { number: 1 };
+    assert!(rt; network.links().len() == 2 && network.handovers().is_empty());
+    assert!(rt; network.lose(reader, source, 0, 0) == Err(NoSuchPlace));
+    assert!(rt; network.repeat(reader, source, 0, 0) == Err(FlightError::NoSuchPlace));
+    assert!(rt; network.move_to(reader, source, 0, 0, 0) == Err(NoSuchPlace));
+    network.renew(&header, reader);
+    network.rewind(reader, source);
+    Ok(())
+}
+
+#[test]
+fn nothing_is_pulled_in_the_beginning(rt: HostRuntime) -> Result<(), Fail> {
+    let alloc = rt.alloc();
+    let Opened {
+        header,
+        mut network,
+    } = in_the_beginning(alloc)?;
+    let reader = ClusterNo { number: 0 };
+    let source = ClusterNo { number: 1 };
+    assert!(rt; network.pull(alloc, &header, reader, source)? == 0);
+    Ok(())
+}
+
+#[test]
+fn nothing_is_pulled_for_a_shard_in_the_beginning(rt: HostRuntime) -> Result<(), Fail> {
+    let alloc = rt.alloc();
+    let Opened {
+        header,
+        mut network,
+    } = in_the_beginning(alloc)?;
+    let reader = ClusterNo { number: 0 };
+    let source = ClusterNo { number: 1 };
+    assert!(rt; network.pull_some(alloc, &header, reader, source, 0, 5)? == 0);
+    Ok(())
+}
+
+#[test]
+fn nothing_is_trimmed_in_the_beginning(rt: HostRuntime) -> Result<(), Fail> {
+    let alloc = rt.alloc();
+    let Opened {
+        header,
+        mut network,
+    } = in_the_beginning(alloc)?;
+    let source = ClusterNo { number: 1 };
+    assert!(rt; network.trim(&header, source) == 0);
+    Ok(())
+}
+
+#[test]
+fn a_handover_is_opened_and_ended(rt: HostRuntime) -> Result<(), Fail> {
+    let alloc = rt.alloc();
+    let Opened {
+        header: _header,
+        mut network,
+    } = in_the_beginning(alloc)?;
+    let handover = Handover {
+        domain: Name::new(alloc, b"alpha".as_slice())?,
+        from: ClusterNo { number: 0 },
+        to: ClusterNo { number: 1 },
+        old: 1,
+        new: 2,
+        places: Places::new(Vec::new(alloc)),
+    };
+    network.open_handover(handover)?;
+    let other = Name::new(alloc, b"beta".as_slice())?;
+    network.close_handover(&other);
+    assert!(rt; network.handovers().len() == 1);
+    let alpha = Name::new(alloc, b"alpha".as_slice())?;
+    network.close_handover(&alpha);
+    assert!(rt; network.handovers().is_empty());
+    Ok(())
+}
+
+#[test]
+fn nothing_is_late_in_the_beginning(rt: HostRuntime) -> Result<(), Fail> {
+    let alloc = rt.alloc();
+    let Opened {
+        header,
+        mut network,
+    } = in_the_beginning(alloc)?;
+    let reader = ClusterNo { number: 0 };
+    let source = ClusterNo { number: 1 };
+    let done = network.bootstrap(&rt, alloc, &OpenGate {}, 2, &header, reader, source)?;
+    assert!(rt; done.jobs.is_empty() && done.replies.is_empty());
+    Ok(())
+}
+
+#[test]
+fn nothing_is_sent_again_in_the_beginning(rt: HostRuntime) -> Result<(), Fail> {
+    let alloc = rt.alloc();
+    let Opened {
+        header,
+        mut network,
+    } = in_the_beginning(alloc)?;
+    let reader = ClusterNo { number: 0 };
+    let done = network.resend(&rt, alloc, &OpenGate {}, 2, &header, reader)?;
+    assert!(rt; done.jobs.is_empty() && done.replies.is_empty());
+    Ok(())
+}
+
+#[test]
+fn nothing_arrives_in_the_beginning(rt: HostRuntime) -> Result<(), Fail> {
+    let alloc = rt.alloc();
+    let Opened {
+        header,
+        mut network,
+    } = in_the_beginning(alloc)?;
+    let reader = ClusterNo { number: 0 };
+    let done = network.arrive(&rt, alloc, &OpenGate {}, 2, &header, reader)?;
+    assert!(rt; done.jobs.is_empty() && done.replies.is_empty());
+    assert!(rt; network.sites().len() == 2);
+    Ok(())
+}
+
+#[test]
+fn a_cluster_without_memory_reapplies_nothing(rt: HostRuntime) -> Result<(), Fail> {
+    let alloc = rt.alloc();
+    let Opened {
+        header,
+        mut network,
+    } = in_the_beginning(alloc)?;
+    let cluster = ClusterNo { number: 1 };
+    assert!(rt;
+        network
+            .reapply(&rt, alloc, &OpenGate {}, 2, &header, cluster)
+            .is_err()
+    );
+    Ok(())
+}
+
+/// A table with a record of `alpha` that names these clusters.
+fn table_naming(
+    alloc: Global,
+    clusters: &Clusters,
+    members: &[ClusterNo],
+) -> Result<DomainTable, Fail> {
+    let mut table = DomainTable::new(alloc);
+    let primary = ClusterNo { number: 0 };
+    let alpha = Name::new(alloc, b"alpha".as_slice())?;
+    if members
+        .iter()
+        .all(|member| member.number < clusters.count())
+    {
+        table.register(clusters, primary, &alpha, primary, 7, Members::of(members))?;
+    }
+    Ok(table)
+}
+
+#[test]
+fn no_reader_is_late_where_a_domain_is_new(rt: HostRuntime) -> Result<(), Fail> {
+    let alloc = rt.alloc();
+    let Opened {
+        header,
+        mut network,
+    } = in_the_beginning(alloc)?;
+    let source = ClusterNo { number: 0 };
+    let reader = ClusterNo { number: 1 };
+    let table = table_naming(alloc, &header.clusters, &[source, reader])?;
+    let before = network.replace_table(alloc, source, table)?;
+    assert!(rt; before.records().is_empty());
+    assert!(rt;
+        network
+            .sites()
+            .iter()
+            .any(|site| site.table().records().len() == 1)
+    );
+    assert!(rt; network.links().iter().all(|link| link.late().is_empty()));
+    Ok(())
+}
