@@ -7,3 +7,4 @@ pub mod PathLemmas
 pub mod LastLemmas
 pub mod VersionLemmas
 pub mod ReadingLemmas
+pub mod NotedLemmas

@@ -6,3 +6,4 @@ pub mod Inserting
 pub mod Reading
 pub mod Fields
 pub mod TreeFields
+pub mod Noted

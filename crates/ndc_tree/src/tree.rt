@@ -1,4 +1,4 @@
-ghost use Rattle.std.specs.Prelude.{◌≡◌, ◌<◌, ◌↔◌, map, IfSome, IfOk, OnOk, IsTrue, Some, Ok};
+ghost use Rattle.std.specs.Prelude.{◌≡◌, ◌<◌, ◌↔◌, ◌++◌, [], ◌∷◌, map, IfSome, IfOk, OnOk, IsTrue, Some, Ok};
 ghost use Rattle.ndc_history.specs.History.{rises, added};
 ghost use Rattle.ndc_sets.specs.Sets.{Has};
 ghost use Rattle.ndc_sets.specs.Paths.{first_id, last_id};
@@ -20,6 +20,10 @@ pub struct Tree {
     run: RunId,
     batches: Batches,
     tips: Tips,
+    /// The batch whose path's version history is noted: the last one, where memory allowed.
+    noted_to: Option<BatchKey>,
+    /// The items of that history.
+    noted: Vec<Item>,
 }
 
 impl Model for Tree {
@@ -40,6 +44,8 @@ impl Drop for Tree {
             run: _run,
             batches: _batches,
             tips: _tips,
+            noted_to: _noted_to,
+            noted: _noted,
         } = self;
     }
 }
@@ -60,6 +66,7 @@ impl Tree {
     ghost use Rattle.ndc_sets.specs.Paths.{path_to};
     ghost use Rattle.ndc_history.specs.History.{rises};
     ghost use Rattle.ndc_tree.specs.Inserting.{end_of};
+    ghost use Rattle.ndc_tree.specs.Noted.{BeginsEach, IsNoted};
     ghost use Rattle.ndc_tree.specs.Reading.{current_key, path_at, path_keys, history_at, elder_of, items_of, named};
 
     /// The tree of a run without a batch.
@@ -70,6 +77,8 @@ impl Tree {
             run,
             batches: Batches::new(alloc),
             tips: Tips::new(alloc),
+            noted_to: None,
+            noted: Vec::new(alloc),
         }
     }
 
@@ -133,8 +142,20 @@ impl Tree {
     }
 
     /// Takes in a batch that joins the tree, as [`Tree::judge`] tells where it neither refuses nor knows it. For want
-    /// of memory the tree is as it was. In time of the logarithm of its batches, and of the batch's copy.
+    /// of memory the tree is as it was. In time of the logarithm of its batches, of the batch's copy, and of the versions
+    /// on its path.
     pub fn join(&mut self, batch: &Batch) -> Result<(), AllocError>
+        requires { Joins self.old.run self.old.batches batch.now }
+        ensures ok { OnOk result (self.new ≡ record self.old { batches = arrived batch.now self.old.batches }) }
+        ensures err { OnErr result (self.new ≡ self.old) }
+    {
+        self.take_in(batch)?;
+        self.note(batch.key);
+        Ok(())
+    }
+
+    /// Takes in a batch that joins the tree.
+    fn take_in(&mut self, batch: &Batch) -> Result<(), AllocError>
         requires { Joins self.old.run self.old.batches batch.now }
         ensures ok { OnOk result (self.new ≡ record self.old { batches = arrived batch.now self.old.batches }) }
         ensures err { OnErr result (self.new ≡ self.old) }
@@ -150,6 +171,30 @@ impl Tree {
                 self.tips.take(batch.key);
                 Err(error)
             }
+        }
+    }
+
+    /// Notes the version history of the path to the batch of this key, where it is the last one and memory allows.
+    fn note(&mut self, key: BatchKey)
+        ensures { self.new ≡ self.old }
+    {
+        if let Some(items) = self.items_to_last(key) {
+            self.noted = items;
+            self.noted_to = Some(key);
+        }
+    }
+
+    /// The items of the version history of the path to the last batch, where its key is this one and memory allows.
+    fn items_to_last(&self, key: BatchKey) -> Option<Vec<Item>>
+        ensures { IfSome result (λ items. IsNoted self.now.batches (Some key) items.items) }
+    {
+        let last = self.batches.last()?;
+        if last.key != key {
+            return None;
+        }
+        match self.items_to(*self.noted.allocator(), last) {
+            Ok(items) => Some(items),
+            Err(_) => None,
         }
     }
 
@@ -194,8 +239,9 @@ impl Tree {
         }
     }
 
-    /// The version history of the path to the batch of this key; none exactly where it is not there. Two look-ups for
-    /// each version on the path.
+    /// The version history of the path to the batch of this key; none exactly where it is not there. In time of the
+    /// versions on the path, with two look-ups where the batch's version, or that before it, is on the path to the last
+    /// batch, and else two for each version.
     pub fn history_of(
         &self,
         alloc: Global,
@@ -233,6 +279,18 @@ impl Tree {
         ensures items { IfOk result (λ list. list.items ≡ items_of (Some batch.now) self.now.batches) }
         ensures rise { IfOk result (λ list. IsTrue (rises list.items)) }
     {
+        match self.items_by_noted(alloc, batch)? {
+            Some(items) => Ok(items),
+            None => self.items_by_walk(alloc, batch),
+        }
+    }
+
+    /// The same by going from version to version.
+    fn items_by_walk(&self, alloc: Global, batch: &Batch) -> Result<Vec<Item>, AllocError>
+        requires { Has self.now.batches batch.now }
+        ensures items { IfOk result (λ list. list.items ≡ items_of (Some batch.now) self.now.batches) }
+        ensures rise { IfOk result (λ list. IsTrue (rises list.items)) }
+    {
         let mut items = Vec::new(alloc);
         let mut next = self.batches.get(batch.key);
         while let Some(one) = next {
@@ -241,6 +299,43 @@ impl Tree {
         }
         items.reverse();
         Ok(items)
+    }
+
+    /// The same by the history that is noted, where this has the batch's version, or that before it.
+    fn items_by_noted(&self, alloc: Global, batch: &Batch) -> Result<Option<Vec<Item>>, AllocError>
+        requires { Has self.now.batches batch.now }
+        ensures items { IfOk result (λ found. IfSome found (λ list. list.items ≡ items_of (Some batch.now) self.now.batches)) }
+        ensures rise { IfOk result (λ found. IfSome found (λ list. IsTrue (rises list.items))) }
+    {
+        if self.noted.is_empty() {
+            return Ok(None);
+        }
+        if let Some(front) = self.noted_before(batch.key.version) {
+            let items = with_end(alloc, front, end_of(Some(batch)))?;
+            return Ok(Some(items));
+        }
+        let Some(elder) = self.elder(batch) else {
+            return Ok(None);
+        };
+        let Some(front) = self.noted_before(elder.key.version) else {
+            return Ok(None);
+        };
+        let mut items = with_end(alloc, front, end_of(Some(elder)))?;
+        items.push(end_of(Some(batch)))?;
+        Ok(Some(items))
+    }
+
+    /// The items of the noted history before that of this version, where it has one.
+    fn noted_before(&self, version: u64) -> Option<&[Item]>
+        ensures { IfSome result (λ front. BeginsEach front.now version self.now.batches) }
+    {
+        let items = self.noted.as_slice();
+        let place = items.partition_point(|item| item.version < version);
+        let (front, rest) = items.split_at(place);
+        match rest.first() {
+            Some(item) if item.version == version => Some(front),
+            _ => None,
+        }
     }
 
     /// The last batch of a smaller version on the path to this one, where there is one: the parent of the first batch
@@ -430,6 +525,16 @@ fn keys_of(alloc: Global, batches: &[&Batch]) -> Result<Vec<BatchKey>, AllocErro
     ensures { IfOk result (λ keys. keys.items ≡ map (λ b. b.now.key) batches.now) }
 {
     batches.iter().map(|batch| batch.key).collect(alloc)
+}
+
+/// The items, and one more.
+fn with_end(alloc: Global, front: &[Item], end: Item) -> Result<Vec<Item>, AllocError>
+    ensures { IfOk result (λ list. list.items ≡ front.now ++ end ∷ []) }
+{
+    let mut items = Vec::new(alloc);
+    items.extend_from_slice(front)?;
+    items.push(end)?;
+    Ok(items)
 }
 
 /// The version history of these items.
