@@ -1,11 +1,11 @@
 -- What clusters have learned can be dumped.
-use Rattle.std.proofs.Common.{◌≡◌, ◌⊎◌, inl, inr, ℕ, ◌<◌, true, List, [], ◌∷◌, ◌++◌, codes, refl, sym, ap, ◌∙◌}
+use Rattle.std.proofs.Common.{◌≡◌, ◌⊎◌, inl, inr, ℕ, true, List, [], ◌∷◌, ◌++◌, codes, refl}
 use Rattle.std.specs.List.{AllByRecursion}
 use Rattle.std.specs.Prelude.{◌≢◌}
 use Rattle.std.specs.Str.{bytes_eq}
 use Rattle.std.proofs.lemmas.Bool.{and_parts}
 use Rattle.std.proofs.lemmas.Slice.Eq.{bytes_eq-Decides}
-use Rattle.ndc_act.specs.WellFormed.{IsWellFormed, IsWellFormedHeader, IsWorkflowAt}
+use Rattle.ndc_act.specs.WellFormed.{IsWellFormed, IsWellFormedHeader}
 use Rattle.ndc_act.specs.declared.script.Act.TheVariants as act
 use Rattle.ndc_act.specs.declared.script.Header.{Header}
 use Rattle.ndc_act.specs.declared.script.Line.{Line}
@@ -15,7 +15,6 @@ use Rattle.ndc_event.specs.declared.batch.Batch.{Batch}
 use Rattle.ndc_event.specs.declared.name.Name.{Name}
 use Rattle.ndc_cells.specs.Places.{is_of}
 use Rattle.ndc_dump.specs.Printed.{CanBeDumped, IsOwn}
-use Rattle.ndc_dump.specs.Read.{dump_of}
 use Rattle.ndc_dump.proofs.Printed.{dump-again}
 use Rattle.ndc_fair.proofs.LetterLemmas.{shard-below}
 use Rattle.ndc_fair_dumps.specs.Dumps.{HoldsDump, LearnedCanBeDumped}
