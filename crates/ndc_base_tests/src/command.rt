@@ -1,5 +1,6 @@
-ghost use Rattle.std.specs.Prelude.{◌≤◌, ◌^◌, All, IfOk, IfSome};
+ghost use Rattle.std.specs.Prelude.{◌≤◌, ◌^◌, All, IfOk};
 
+use crate::given::name;
 use ndc_command::{Action, Actions, Command, CommandError, plan};
 use ndc_event::{Event, EventKind, Name, RunId};
 use ndc_state::{State, Steps};
@@ -14,10 +15,6 @@ const RUN: RunId = RunId {
 };
 
 const NEXT_RUN: RunId = RunId { value: 7 };
-
-fn name(alloc: Global, text: &str) -> Result<Name, AllocError> {
-    Name::new(alloc, text.as_bytes()).map_err(|_| AllocError)
-}
 
 // The kind of an event before the command; of no other word than these it is the scheduling of a decision.
 fn kind(alloc: Global, word: &str) -> Result<EventKind, AllocError> {

@@ -1,9 +1,6 @@
+use crate::given::key;
 use ndc_current::{RunStatus, pick, status};
 use ndc_event::BatchKey;
-
-fn key(version: u64, task: u64) -> BatchKey {
-    BatchKey { version, task }
-}
 
 #[test]
 fn the_greatest_tip_is_picked(rt: HostRuntime) {

@@ -1,12 +1,9 @@
+use crate::given::key;
 use ndc_event::{
     Batch, BatchFault, BatchKey, Event, EventKind, Events, Name, NameError, Origin, RunId,
 };
 use std::alloc::Global;
 use std::test::Fail;
-
-fn key(version: u64, task: u64) -> BatchKey {
-    BatchKey { version, task }
-}
 
 /// A batch of a workflow, with markers of these ids and versions.
 fn batch(

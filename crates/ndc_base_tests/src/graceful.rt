@@ -1,6 +1,7 @@
-ghost use Rattle.std.specs.Prelude.{◌≡◌, ◌≤◌, length};
+ghost use Rattle.std.specs.Prelude.{◌≤◌};
 ghost use Rattle.ndc_domain.specs.Clusters.{count_of};
 
+use crate::given::name;
 use ndc_domain::{ClusterNo, Clusters, ClustersError, DomainError, DomainTable, Members};
 use ndc_event::Name;
 use ndc_graceful::{BeginError, Handover, ReadyError};
@@ -11,10 +12,6 @@ use std::test::Fail;
 const A: ClusterNo = ClusterNo { number: 0 };
 
 const B: ClusterNo = ClusterNo { number: 1 };
-
-fn name(alloc: Global, text: &str) -> Result<Name, AllocError> {
-    Name::new(alloc, text.as_bytes()).map_err(|_| AllocError)
-}
 
 /// The clusters A and B, with the initial versions 1 and 2.
 fn clusters(alloc: Global) -> Result<Result<Clusters, ClustersError>, AllocError> {

@@ -1,3 +1,4 @@
+use crate::given::item;
 use ndc_history::{AddError, Item, VersionHistory, best_common};
 use std::alloc::Global;
 use std::test::Fail;
@@ -12,10 +13,6 @@ fn history(alloc: Global, items: &[(u64, u64)]) -> Result<VersionHistory, AddErr
         })?;
     }
     Ok(history)
-}
-
-fn item(id: u64, version: u64) -> Item {
-    Item { id, version }
 }
 
 #[test]

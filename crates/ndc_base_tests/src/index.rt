@@ -1,3 +1,4 @@
+use crate::given::name;
 use ndc_domain::ClusterNo;
 use ndc_event::{Batch, BatchKey, Event, EventKind, Events, Name, Origin, RunId};
 use ndc_index::{
@@ -5,10 +6,6 @@ use ndc_index::{
 };
 use std::alloc::{AllocError, Global};
 use std::test::Fail;
-
-fn name(alloc: Global, text: &str) -> Result<Name, AllocError> {
-    Name::new(alloc, text.as_bytes()).map_err(|_| AllocError)
-}
 
 /// A signal, with an origin or without.
 fn signal(alloc: Global, origin: Option<Origin>) -> Result<EventKind, AllocError> {

@@ -1,3 +1,4 @@
+use crate::given::name;
 use ndc_domain::ClusterNo;
 use ndc_event::{BatchKey, Name};
 use ndc_letters::{Bytes, Letter, Letters, Taken};
@@ -7,10 +8,6 @@ use std::test::Fail;
 // The text of the first batch of a run.
 const FIRST: &str =
     "{\"domain\":\"alpha\",\"events\":[{\"eventId\":1,\"eventType\":\"WorkflowExecutionStarted\",\"version\":1,\"workflowType\":\"order\"},{\"eventId\":2,\"eventType\":\"DecisionTaskScheduled\",\"version\":1}],\"parent\":null,\"run\":\"00000000-0000-0001-0000-000000000001\",\"task\":1,\"version\":1,\"workflow\":\"w1\"}";
-
-fn name(alloc: Global, text: &str) -> Result<Name, AllocError> {
-    Name::new(alloc, text.as_bytes()).map_err(|_| AllocError)
-}
 
 /// A letter of a workflow of alpha and a task, of these bytes.
 fn letter(alloc: Global, workflow: &str, task: u64, bytes: &[u8]) -> Result<Letter, AllocError> {

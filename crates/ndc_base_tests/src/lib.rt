@@ -10,6 +10,8 @@ mod domain;
 #[cfg(test)]
 mod event;
 #[cfg(test)]
+mod given;
+#[cfg(test)]
 mod graceful;
 #[cfg(test)]
 mod history;

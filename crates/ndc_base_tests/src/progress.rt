@@ -2,14 +2,11 @@ ghost use Rattle.std.specs.Prelude.{◌≤◌, ◌<◌, ◌^◌, IfSome};
 ghost use Rattle.std.specs.Bool.{OnTrue};
 ghost use Rattle.ndc_progress.specs.Reports.{held};
 
+use crate::given::name;
 use ndc_event::{Name, RunId};
 use ndc_progress::{ActivityRef, Progress};
 use std::alloc::{AllocError, Global};
 use std::test::Fail;
-
-fn name(alloc: Global, text: &str) -> Result<Name, AllocError> {
-    Name::new(alloc, text.as_bytes()).map_err(|_| AllocError)
-}
 
 /// The activity that the fifth event of a run has scheduled.
 fn activity(alloc: Global) -> Result<ActivityRef, AllocError> {

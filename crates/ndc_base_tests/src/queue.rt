@@ -1,12 +1,9 @@
+use crate::given::name;
 use ndc_event::{Batch, BatchKey, Events, Name, RunId};
 use ndc_history::VersionHistory;
 use ndc_queue::{Flight, FlightError, Levels, Message, NoSuchPlace, Queue};
 use std::alloc::{AllocError, Global};
 use std::test::Fail;
-
-fn name(alloc: Global, text: &str) -> Result<Name, AllocError> {
-    Name::new(alloc, text.as_bytes()).map_err(|_| AllocError)
-}
 
 /// The message of a batch with this task.
 fn message(alloc: Global, task: u64) -> Result<Message, AllocError> {

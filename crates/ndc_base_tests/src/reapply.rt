@@ -1,5 +1,4 @@
-ghost use Rattle.std.specs.Prelude.{◌≤◌, ◌^◌, IfOk, All};
-
+use crate::given::name;
 use ndc_event::{Event, EventKind, Name, Origin, RunId};
 use ndc_reapply::{Stray, reapply_events, strays};
 use ndc_state::{State, StateError, Steps};
@@ -12,10 +11,6 @@ struct Test;
 const RUN: RunId = RunId {
     value: 18446744073709551617,
 };
-
-fn name(alloc: Global, text: &str) -> Result<Name, AllocError> {
-    Name::new(alloc, text.as_bytes()).map_err(|_| AllocError)
-}
 
 fn origin(place: (u64, u64, u128)) -> Origin {
     Origin {

@@ -1,6 +1,7 @@
 ghost use Rattle.std.specs.Prelude.{◌≡◌, ◌≤◌, ◌^◌, All, IfOk};
 ghost use Rattle.ndc_rebuild.specs.Rebuilt.{HaveSmallIds};
 
+use crate::given::name;
 use ndc_event::{Batch, BatchKey, Event, EventKind, Events, Name, RunId};
 use ndc_rebuild::{Checkpoints, rebuild};
 use ndc_state::{State, StateError, Steps};
@@ -13,10 +14,6 @@ struct Test;
 const RUN: RunId = RunId {
     value: 18446744073709551617,
 };
-
-fn name(alloc: Global, text: &str) -> Result<Name, AllocError> {
-    Name::new(alloc, text.as_bytes()).map_err(|_| AllocError)
-}
 
 // An event of version 1: the start with id 1, a signal with any other.
 fn event(alloc: Global, id: u16) -> Result<Event, AllocError>

@@ -1,12 +1,9 @@
+use crate::given::item;
 use ndc_event::{Batch, BatchKey, Event, EventKind, Events, Name, RunId};
 use ndc_history::{AddError, Item, VersionHistory};
 use ndc_resend::{Gap, serve};
 use std::alloc::{AllocError, Global};
 use std::test::Fail;
-
-fn item(id: u64, version: u64) -> Item {
-    Item { id, version }
-}
 
 /// The history of these items, as id and version.
 fn history(alloc: Global, items: &[(u64, u64)]) -> Result<VersionHistory, AddError> {

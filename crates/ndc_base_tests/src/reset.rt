@@ -1,3 +1,4 @@
+use crate::given::name;
 use ndc_event::{Event, EventKind, Name, Origin, RunId};
 use ndc_reset::{ResetError, plan_reset};
 use std::alloc::{AllocError, Global};
@@ -6,10 +7,6 @@ use std::test::Fail;
 const RUN: RunId = RunId {
     value: 18446744073709551617,
 };
-
-fn name(alloc: Global, text: &str) -> Result<Name, AllocError> {
-    Name::new(alloc, text.as_bytes()).map_err(|_| AllocError)
-}
 
 // The kind of an event of this word: `copy` is a signal that comes from an event 9 of version 2.
 fn kind(alloc: Global, word: &str) -> Result<EventKind, AllocError> {

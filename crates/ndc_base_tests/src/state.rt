@@ -1,5 +1,6 @@
 ghost use Rattle.std.specs.Prelude.{◌≤◌, ◌^◌, All, IfOk};
 
+use crate::given::name;
 use ndc_event::{Event, EventKind, Name, Origin, RunId};
 use ndc_state::{Pending, State, Steps};
 use std::alloc::{AllocError, Global};
@@ -11,10 +12,6 @@ struct Test;
 const RUN: RunId = RunId {
     value: 18446744073709551617,
 };
-
-fn name(alloc: Global, text: &str) -> Result<Name, AllocError> {
-    Name::new(alloc, text.as_bytes()).map_err(|_| AllocError)
-}
 
 // The signal of this word: `signal`, or `copy` with the event id of its origin.
 fn signal(alloc: Global, word: &str) -> Result<EventKind, AllocError> {

@@ -1,3 +1,4 @@
+use crate::given::name;
 use ndc_event::{Batch, BatchKey, Event, EventKind, Events, Name, Origin, RunId};
 use ndc_text::{print_batch, read_batch, read_batch_1};
 use std::alloc::{AllocError, Global};
@@ -10,10 +11,6 @@ const COPY: &str =
 const RUN: RunId = RunId {
     value: 18446744073709551617,
 };
-
-fn name(alloc: Global, text: &str) -> Result<Name, AllocError> {
-    Name::new(alloc, text.as_bytes()).map_err(|_| AllocError)
-}
 
 // The batch whose text is COPY.
 fn copy(alloc: Global) -> Result<Batch, AllocError> {

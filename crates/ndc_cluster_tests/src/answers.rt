@@ -1,3 +1,4 @@
+use crate::given::name;
 use ndc_answers::{
     Gap, Tally, arrived, behind_number, brought, counted, domain, gaps, refusal, settled, worked,
 };
@@ -6,10 +7,6 @@ use ndc_event::{BatchKey, Name};
 use ndc_history::Item;
 use std::alloc::{AllocError, Global};
 use std::test::Fail;
-
-fn name(alloc: Global, text: &str) -> Result<Name, AllocError> {
-    Name::new(alloc, text.as_bytes()).map_err(|_| AllocError)
-}
 
 fn is(text: &Vec<u8>, wanted: &str) -> bool {
     text.as_slice() == wanted.as_bytes()

@@ -1,3 +1,4 @@
+use crate::given::name;
 use ndc_dump::{DumpError, KeyCause, LineCause, dump_text, read_dump};
 use ndc_event::{Batch, BatchFault, BatchKey, Name, RunId};
 use ndc_history::{Item, VersionHistory};
@@ -22,10 +23,6 @@ const DUMP: &str =
 const RUN: RunId = RunId {
     value: 18446744073709551617,
 };
-
-fn name(alloc: Global, text: &str) -> Result<Name, AllocError> {
-    Name::new(alloc, text.as_bytes()).map_err(|_| AllocError)
-}
 
 fn batch(alloc: Global, text: &str) -> Result<Batch, AllocError> {
     read_batch(alloc, text.as_bytes()).map_err(|_| AllocError)

@@ -8,6 +8,8 @@ mod answers;
 #[cfg(test)]
 mod dump;
 #[cfg(test)]
+mod given;
+#[cfg(test)]
 mod links;
 #[cfg(test)]
 mod network;

@@ -1,6 +1,4 @@
-ghost use Rattle.std.specs.Prelude.{◌≡◌, ◌≤◌, IfOk, length};
-ghost use Rattle.ndc_queue.specs.Queues.{queue_len};
-
+use crate::given::name;
 use ndc_cells::{Job, JobReply, Message};
 use ndc_domain::{ClusterNo, Clusters, DomainTable, Members};
 use ndc_event::{Batch, BatchKey, Events, Name, RunId};
@@ -47,10 +45,6 @@ impl Writes for OneCell {
 
 fn cluster(number: u32) -> ClusterNo {
     ClusterNo { number }
-}
-
-fn name(alloc: Global, text: &str) -> Result<Name, AllocError> {
-    Name::new(alloc, text.as_bytes()).map_err(|_| AllocError)
 }
 
 /// The message of a batch of a domain with this task.

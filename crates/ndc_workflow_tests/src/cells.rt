@@ -1,12 +1,9 @@
+use crate::worked::name;
 use ndc_cells::{Message, Place};
 use ndc_event::{Batch, BatchKey, Event, EventKind, Events, Name, RunId};
 use ndc_history::{Item, VersionHistory};
 use std::alloc::{AllocError, Global};
 use std::test::Fail;
-
-fn name(alloc: Global, text: &str) -> Result<Name, AllocError> {
-    Name::new(alloc, text.as_bytes()).map_err(|_| AllocError)
-}
 
 // A batch of one scheduled decision, with this key.
 fn batch(alloc: Global, key: BatchKey, carrier: Option<BatchKey>) -> Result<Batch, AllocError> {

@@ -18,6 +18,8 @@ mod tree;
 #[cfg(test)]
 mod waiting;
 #[cfg(test)]
+mod worked;
+#[cfg(test)]
 mod workflow;
 #[cfg(test)]
 mod workflows;

@@ -1,5 +1,6 @@
 ghost use Rattle.std.specs.Prelude.{◌≡◌, ◌≤◌, ◌^◌, All, IfOk};
 
+use crate::worked::{key_of as key, name};
 use ndc_event::{Batch, BatchKey, Event, EventKind, Events, Name, RunId};
 use ndc_run::{Learned, Run, RunError};
 use ndc_state::{Rule, Steps};
@@ -8,14 +9,6 @@ use std::test::Fail;
 
 // Marks the counters of these tests.
 struct Test;
-
-fn name(alloc: Global, text: &str) -> Result<Name, AllocError> {
-    Name::new(alloc, text.as_bytes()).map_err(|_| AllocError)
-}
-
-fn key(version: u64, task: u64) -> BatchKey {
-    BatchKey { version, task }
-}
 
 // An event: the start with id 1, and where it is wanted again; a signal with any other id.
 fn event(alloc: Global, id: u16, version: u64, starts: bool) -> Result<Event, AllocError>

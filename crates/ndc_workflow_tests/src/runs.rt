@@ -1,6 +1,7 @@
-ghost use Rattle.std.specs.Prelude.{◌≡◌, ◌≤◌, ◌^◌, All, IfOk, None};
+ghost use Rattle.std.specs.Prelude.{◌≡◌, IfOk, None};
 ghost use Rattle.ndc_sets.specs.Worked.{begun_again};
 
+use crate::worked::name;
 use ndc_event::{Batch, BatchKey, Event, EventKind, Events, Name, RunId};
 use ndc_runs::Runs;
 use ndc_sets::RunStatus;
@@ -10,12 +11,6 @@ use std::test::Fail;
 
 // Marks the counters of these tests.
 struct Test;
-
-fn name(alloc: Global, text: &str) -> Result<Name, AllocError>
-    ensures { IfOk result (λ name. name ≡ text.now) }
-{
-    Name::new(alloc, text.as_bytes()).map_err(|_| AllocError)
-}
 
 // The first batch of a run: the one of version 1 with this task.
 fn begun(alloc: Global, task: u64) -> Result<Batch, AllocError>

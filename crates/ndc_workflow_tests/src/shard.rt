@@ -5,6 +5,7 @@ ghost use Rattle.ndc_cells.specs.declared.job.Job.TheVariants.{Arrive};
 ghost use Rattle.ndc_sets.specs.Worked.{begun_again};
 ghost use Rattle.ndc_shard.specs.Worked.{alpha, begun, home_with, one_cluster, start};
 
+use crate::worked::name;
 use ndc_cells::{Arrived, Job, JobReply, Message, Outcome};
 use ndc_command::{Command, Refusal};
 use ndc_domain::{ClusterNo, Clusters, DomainTable, Members};
@@ -22,12 +23,6 @@ const KEY: BatchKey = BatchKey {
     version: 1,
     task: 1,
 };
-
-fn name(alloc: Global, text: &str) -> Result<Name, AllocError>
-    ensures { IfOk result (λ name. name ≡ text.now) }
-{
-    Name::new(alloc, text.as_bytes()).map_err(|_| AllocError)
-}
 
 // The cluster that writes with version 1.
 fn clusters(alloc: Global) -> Result<Clusters, Fail>

@@ -1,16 +1,9 @@
+use crate::worked::{key_of as key, name};
 use ndc_event::{Batch, BatchKey, Event, EventKind, Events, Name, RunId};
 use ndc_history::Item;
 use ndc_tree::{Inserted, Tree, TreeError};
 use std::alloc::{AllocError, Global};
 use std::test::Fail;
-
-fn name(alloc: Global, text: &str) -> Result<Name, AllocError> {
-    Name::new(alloc, text.as_bytes()).map_err(|_| AllocError)
-}
-
-fn key(version: u64, task: u64) -> BatchKey {
-    BatchKey { version, task }
-}
 
 // A batch of one cancel request with this id, in the run that begins with task 1 of version 1.
 fn batch(

@@ -2,20 +2,13 @@ ghost use Rattle.std.specs.Prelude.{◌≡◌, true};
 ghost use Rattle.ndc_sets.specs.Sets.{earlier};
 ghost use Rattle.ndc_waiting.specs.Waiting.{batches_of, CanWait, IsCarriedBy, IsNewTo};
 
+use crate::worked::{key_of as key, name};
 use ndc_cells::Message;
 use ndc_event::{Batch, BatchKey, Event, EventKind, Events, Name, RunId};
 use ndc_history::VersionHistory;
 use ndc_waiting::{PutOff, Waiting};
 use std::alloc::{AllocError, Global};
 use std::test::Fail;
-
-fn name(alloc: Global, text: &str) -> Result<Name, AllocError> {
-    Name::new(alloc, text.as_bytes()).map_err(|_| AllocError)
-}
-
-fn key(version: u64, task: u64) -> BatchKey {
-    BatchKey { version, task }
-}
 
 // A batch of one scheduled decision, with these keys.
 fn batch(

@@ -1,5 +1,5 @@
 use Rattle.ndc_workflow.proofs.ExampleLemmas.{first-written}
-use Rattle.ndc_workflow_tests.proofs.messages.first_written.Goals as goal
+use Rattle.ndc_workflow_tests.proofs.worked.first_written.Goals as goal
 
 pub write-requires-clause-message : goal.write-requires-clause-message
 write-requires-clause-message c = (first-written c.in_ok-batch.batch c.new-workflow.result c.in_ok-batch.ensures c.new-workflow.ensures).message
