@@ -3,9 +3,8 @@ use ndc_answers::{
     Gap, Tally, arrived, behind_number, brought, counted, domain, gaps, refusal, settled, worked,
 };
 use ndc_command::Refusal;
-use ndc_event::{BatchKey, Name};
+use ndc_event::BatchKey;
 use ndc_history::Item;
-use std::alloc::{AllocError, Global};
 use std::test::Fail;
 
 fn is(text: &Vec<u8>, wanted: &str) -> bool {

@@ -1,6 +1,6 @@
 use crate::given::name;
 use ndc_dump::{DumpError, KeyCause, LineCause, dump_text, read_dump};
-use ndc_event::{Batch, BatchFault, BatchKey, Name, RunId};
+use ndc_event::{Batch, BatchFault, BatchKey, RunId};
 use ndc_history::{Item, VersionHistory};
 use ndc_sets::{Batches, BranchView, BranchViews, RunStatus, RunView, RunViews, View};
 use ndc_state::{State, Steps};

@@ -5,8 +5,9 @@ ghost use Rattle.ndc_model.specs.Facts.{IsReached};
 ghost use Rattle.ndc_network.specs.Networks.{opening_site};
 ghost use Rattle.ndc_network.specs.Orderly.{IsOrderly};
 
+use crate::given::ListCell;
 use ndc_act::Header;
-use ndc_cells::{Job, JobReply, Message, Place};
+use ndc_cells::{Message, Place};
 use ndc_domain::{ClusterNo, Clusters, DomainTable, Members};
 use ndc_event::{BatchKey, Name};
 use ndc_graceful::{Handover, Places};
@@ -14,46 +15,11 @@ use ndc_links::{Lacking, Learns, Reads, Serves, Writes};
 use ndc_network::Network;
 use ndc_port::OpenGate;
 use ndc_queue::{FlightError, NoSuchPlace};
-use ndc_rounds::{Desk, Works};
+use ndc_rounds::Works;
 use ndc_runs::Runs;
 use ndc_sites::Site;
 use std::alloc::{AllocError, Global};
 use std::test::Fail;
-
-/// A cell that has written some messages and learned nothing, and finds no memory for any job.
-#[derive(Drop)]
-struct ListCell {
-    written: Vec<Message>,
-}
-
-impl Works for ListCell {
-    ghost use Rattle.std.specs.Prelude.{[]};
-
-    ghost cell = { λ list. record { arrived = []; written = list.written.items; waiting = [] } };
-
-    ghost allows = { λ _ _ _. Unit {0} };
-
-    fn do_job(&mut self, _desk: &Desk, _job: &Job) -> Result<JobReply, AllocError> {
-        Err(AllocError)
-    }
-}
-
-impl Learns for ListCell {
-    fn has_learned(&self, _domain: &Name, _workflow: &Name, _key: BatchKey) -> bool {
-        false
-    }
-}
-
-impl Writes for ListCell {
-    fn written_len(&self) -> u64 {
-        self.written.len() as u64
-    }
-
-    fn written_at(&self, place: u64) -> Result<Message, AllocError> {
-        let message = &self.written[place as usize];
-        message.try_copy()
-    }
-}
 
 impl Serves for ListCell {
     fn learned_of(&self, alloc: Global, _domains: &[Name]) -> Result<Vec<Message>, AllocError> {

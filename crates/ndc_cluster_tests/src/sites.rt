@@ -1,47 +1,12 @@
-use ndc_cells::{Job, JobReply, Message, ShardJob};
+use crate::given::ListCell;
+use ndc_cells::ShardJob;
 use ndc_domain::{ClusterNo, Clusters, DomainTable};
-use ndc_event::{BatchKey, Name};
+use ndc_event::Name;
 use ndc_links::{Learns, Writes};
 use ndc_port::OpenGate;
-use ndc_rounds::{Desk, Works};
+use ndc_rounds::Works;
 use ndc_sites::Site;
-use std::alloc::{AllocError, Global};
 use std::test::Fail;
-
-/// A cell that has written some messages and learned nothing, and finds no memory for any job.
-#[derive(Drop)]
-struct ListCell {
-    written: Vec<Message>,
-}
-
-impl Works for ListCell {
-    ghost use Rattle.std.specs.Prelude.{[]};
-
-    ghost cell = { λ list. record { arrived = []; written = list.written.items; waiting = [] } };
-
-    ghost allows = { λ _ _ _. Unit {0} };
-
-    fn do_job(&mut self, _desk: &Desk, _job: &Job) -> Result<JobReply, AllocError> {
-        Err(AllocError)
-    }
-}
-
-impl Learns for ListCell {
-    fn has_learned(&self, _domain: &Name, _workflow: &Name, _key: BatchKey) -> bool {
-        false
-    }
-}
-
-impl Writes for ListCell {
-    fn written_len(&self) -> u64 {
-        self.written.len() as u64
-    }
-
-    fn written_at(&self, place: u64) -> Result<Message, AllocError> {
-        let message = &self.written[place as usize];
-        message.try_copy()
-    }
-}
 
 #[test]
 fn a_cluster_with_its_queues(rt: HostRuntime) -> Result<(), Fail> {
