@@ -7,7 +7,7 @@ ghost use Rattle.ndc_model.specs.Texts.{ok};
 use crate::domains::counted;
 use crate::word::{Word, ok};
 use ndc_act::Header;
-use ndc_dump::line::{push_key, push_number};
+use ndc_show::line::{push_key, push_number};
 use ndc_letters::Letter;
 use std::alloc::{AllocError, Global};
 

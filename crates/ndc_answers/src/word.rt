@@ -2,7 +2,7 @@ ghost use Rattle.std.specs.Prelude.{◌≡◌, ◌++◌, codes, decimal, map, If
 ghost use Rattle.ndc_model.specs.Texts.{ok, refused, spaced};
 ghost use Rattle.ndc_answers.specs.Words.{word_text};
 
-use ndc_dump::line::{push_key, push_number};
+use ndc_show::line::{push_key, push_number};
 use ndc_event::BatchKey;
 use std::alloc::{AllocError, Global};
 

@@ -15,11 +15,11 @@ use Rattle.ndc_sets.proofs.KeyLemmas.{before-irrefl, before-trans, same-keys}
 use Rattle.ndc_sets.proofs.Lists.{Among, all-among, all-from}
 use Rattle.ndc_sets.proofs.SetLemmas.{after-trans, at-append, none-there}
 use Rattle.ndc_sets.proofs.SoundLemmas.{part_is_sound}
-use Rattle.ndc_dump.proofs.Finding.{after-parts, rise-parts}
+use Rattle.ndc_causes.proofs.Finding.{after-parts, rise-parts}
 use Rattle.ndc_text.specs.Ranges.{InRange}
-use Rattle.ndc_dump.specs.Given.{HasSmallIds}
-use Rattle.ndc_dump.proofs.OnPaths.{left-one}
-use Rattle.ndc_dump.proofs.Walking.{all-small}
+use Rattle.ndc_causes.specs.Given.{HasSmallIds}
+use Rattle.ndc_causes.proofs.OnPaths.{left-one}
+use Rattle.ndc_causes.proofs.Walking.{all-small}
 
 -- of two keys the later one neither comes before the other nor is it
 pub later-key : (before key : BatchKey) → key_lt before key ≡ true → (key_lt key before ≡ false) × (key_eq key before ≡ false)

@@ -22,12 +22,12 @@ use Rattle.ndc_sets.proofs.SetLemmas.{found-has, found-key}
 use Rattle.ndc_state.specs.Laws.{AreApart}
 use Rattle.ndc_state.specs.Replay.{replay_of}
 use Rattle.ndc_text.specs.Ranges.{InRange, KeyFits}
-use Rattle.ndc_dump.specs.Causes.{closes_for}
-use Rattle.ndc_dump.specs.Given.{AreRead}
+use Rattle.ndc_causes.specs.Causes.{closes_for}
+use Rattle.ndc_causes.specs.Given.{AreRead}
 use Rattle.ndc_dump.specs.Migrated.{is_carried, key_before, migrated, with_carrier_in}
 use Rattle.ndc_dump.proofs.Carriers.{Keeps, carrier-keeps, events-of, find-map-of, walk-of}
 use Rattle.ndc_dump.proofs.ReadLemmas.{points-back}
-use Rattle.ndc_dump.proofs.Soundness.{ends-for}
+use Rattle.ndc_causes.proofs.Soundness.{ends-for}
 
 -- a batch that passes all tests has no fault
 no-fault : (b : Batch) → Passes b → fault_of b ≡ None

@@ -18,14 +18,14 @@ use Rattle.ndc_text.specs.Ranges.{InRange}
 use Rattle.ndc_text.specs.Read.{read_of}
 use Rattle.ndc_text.specs.declared.error.TextError.{TextError}
 use Rattle.ndc_text.proofs.Exact.{found}
-use Rattle.ndc_dump.specs.declared.error.DumpError.{DumpError}
-use Rattle.ndc_dump.specs.declared.error.DumpError.TheVariants.{Memory}
-use Rattle.ndc_dump.specs.declared.error.LineCause.{LineCause}
-use Rattle.ndc_dump.specs.declared.error.LineCause.TheVariants as cause
+use Rattle.ndc_causes.specs.declared.error.DumpError.{DumpError}
+use Rattle.ndc_causes.specs.declared.error.DumpError.TheVariants.{Memory}
+use Rattle.ndc_causes.specs.declared.error.LineCause.{LineCause}
+use Rattle.ndc_causes.specs.declared.error.LineCause.TheVariants as cause
 use Rattle.ndc_dump.specs.declared.frame.Heading.{Heading}
 use Rattle.ndc_dump.specs.Batches.{batch_on, batches_on, behind, is_behind, is_own, is_same_as, on_line, out_of_order, placed_or}
 use Rattle.ndc_dump.specs.Frame.{begins_batch}
-use Rattle.ndc_dump.specs.Given.{AreRead}
+use Rattle.ndc_causes.specs.Given.{AreRead}
 use Rattle.ndc_dump.specs.Lines.{without_end}
 
 -- a batch without a fault points back

@@ -17,7 +17,8 @@ use Rattle.ndc_sets.proofs.KeyLemmas.{same-keys, key_eq-self}
 use Rattle.ndc_sets.proofs.Lists.{Among, find-among}
 use Rattle.ndc_sets.proofs.PathLemmas.{none-wanted}
 use Rattle.ndc_text.specs.Views.{batch_line, batch_lines, branch_line, is_on_tip, run_line, tree_text}
-use Rattle.ndc_dump.specs.Marks.{current_key, is_listed, marked_line, marked_lines, path_lines, run_tree}
+use Rattle.ndc_dump.specs.Marks.{current_key, marked_line, marked_lines, path_lines, run_tree}
+use Rattle.ndc_causes.specs.Keys.{is_listed}
 
 -- ---- marks
 

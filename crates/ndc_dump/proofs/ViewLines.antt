@@ -9,8 +9,8 @@ use Rattle.ndc_sets.specs.declared.view.View.{View}
 use Rattle.ndc_text.specs.Views.{run_state_lines}
 use Rattle.ndc_text.specs.declared.form.TextForm.{TextForm}
 use Rattle.ndc_text.specs.declared.form.TextForm.TheVariants.{One}
-use Rattle.ndc_dump.specs.declared.error.DumpError.TheVariants.{Line}
-use Rattle.ndc_dump.specs.declared.error.LineCause.TheVariants.{BadView}
+use Rattle.ndc_causes.specs.declared.error.DumpError.TheVariants.{Line}
+use Rattle.ndc_causes.specs.declared.error.LineCause.TheVariants.{BadView}
 use Rattle.ndc_dump.specs.Batches.{batch_count, view_lines}
 use Rattle.ndc_dump.specs.Frame.{begins_batch}
 use Rattle.ndc_dump.specs.Lines.{differ_at, lines_of}

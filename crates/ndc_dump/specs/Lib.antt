@@ -1,12 +1,7 @@
 pub mod Lines
 pub mod Frame
 pub mod Batches
-pub mod Given
-pub mod Causes
-pub mod Originals
 pub mod Migrated
-pub mod Replaying
-pub mod Chains
 pub mod Read
 pub mod Marks
 pub mod Printed

@@ -11,15 +11,8 @@ use Rattle.ndc_sets.specs.Learned.{has_key}
 use Rattle.ndc_sets.specs.Paths.{first_id, last_id, path_from}
 use Rattle.ndc_sets.specs.declared.view.BranchView.{BranchView}
 use Rattle.ndc_sets.specs.declared.view.RunView.{RunView}
+use Rattle.ndc_causes.specs.Keys.{is_listed}
 use Rattle.ndc_text.specs.Views.{branch_line, current_mark, key_text, parent_text, run_line}
-
--- whether the key is listed
-abbrev pub is_listed : BatchKey → List BatchKey → Bool
-is_listed key keys = list_any (key_eq key) keys
-
--- the key goes last, where it is not listed
-abbrev pub with_key : BatchKey → List BatchKey → List BatchKey
-with_key key keys = if is_listed key keys then keys else keys ++ key ∷ []
 
 -- `batch KEY after PARENT`
 abbrev pub batch_head : Batch → List ℕ

@@ -5,7 +5,7 @@ use Rattle.ndc_event.specs.declared.key.BatchKey.{BatchKey}
 use Rattle.ndc_sets.specs.Sets.{batch_at}
 use Rattle.ndc_text.specs.declared.form.TextForm.{TextForm}
 use Rattle.ndc_text.specs.declared.form.TextForm.TheVariants.{One, Two}
-use Rattle.ndc_dump.specs.Causes.{closes_for}
+use Rattle.ndc_causes.specs.Causes.{closes_for}
 
 -- the key just before, of the same version
 abbrev pub key_before : BatchKey → BatchKey

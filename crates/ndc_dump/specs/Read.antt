@@ -6,11 +6,11 @@ use Rattle.ndc_sets.specs.View.{view_of}
 use Rattle.ndc_sets.specs.declared.view.View.{View}
 use Rattle.ndc_text.specs.Views.{run_state_lines}
 use Rattle.ndc_dump.specs.declared.dump.Dump.{Dump}
-use Rattle.ndc_dump.specs.declared.error.DumpError.{DumpError}
-use Rattle.ndc_dump.specs.declared.error.DumpError.TheVariants.{Line}
-use Rattle.ndc_dump.specs.declared.error.LineCause.TheVariants.{BadView}
+use Rattle.ndc_causes.specs.declared.error.DumpError.{DumpError}
+use Rattle.ndc_causes.specs.declared.error.DumpError.TheVariants.{Line}
+use Rattle.ndc_causes.specs.declared.error.LineCause.TheVariants.{BadView}
 use Rattle.ndc_dump.specs.Batches.{batches_on, view_lines}
-use Rattle.ndc_dump.specs.Causes.{sound_or}
+use Rattle.ndc_causes.specs.Causes.{sound_or}
 use Rattle.ndc_dump.specs.declared.frame.Heading.{Heading}
 use Rattle.ndc_dump.specs.Frame.{heading_of, body_of}
 use Rattle.ndc_dump.specs.Lines.{differ_at, lines_of}

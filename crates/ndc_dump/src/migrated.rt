@@ -3,8 +3,8 @@ ghost use Rattle.std.specs.Prelude.{◌≡◌, IfOk};
 ghost use Rattle.ndc_sets.specs.Sets.{Rise};
 ghost use Rattle.ndc_dump.specs.Migrated.{is_carried, key_before, migrated, with_carrier_in};
 
-use crate::causes::closes_for;
-use crate::found::batch_at;
+use ndc_causes::causes::closes_for;
+use ndc_causes::found::batch_at;
 use ndc_event::{Batch, BatchKey};
 use std::alloc::{AllocError, Global};
 

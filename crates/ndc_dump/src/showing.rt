@@ -2,8 +2,8 @@
 ghost use Rattle.std.specs.Prelude.{◌≡◌, Ok, IfOk};
 ghost use Rattle.ndc_sets.specs.Sound.{IsSound};
 ghost use Rattle.ndc_sets.specs.View.{view_of};
-ghost use Rattle.ndc_dump.specs.Causes.{sound_or};
-ghost use Rattle.ndc_dump.specs.Given.{AreRead};
+ghost use Rattle.ndc_causes.specs.Causes.{sound_or};
+ghost use Rattle.ndc_causes.specs.Given.{AreRead};
 
 use ndc_event::Batch;
 use ndc_runs::Runs;

@@ -5,32 +5,13 @@ ghost use Rattle.ndc_sets.specs.View.{view_of};
 ghost use Rattle.ndc_text.specs.Views.{branch_line, current_mark, parent_text, tree_text};
 ghost use Rattle.ndc_dump.specs.Marks.{batch_head, current_key, marked_line, marked_lines, run_tree};
 
-use crate::line::{push_branch_line, push_key, push_mark, push_number, push_run_line};
-use crate::path::{KeySet, path_keys};
-use crate::print::push_heading;
+use ndc_causes::ids::{first_id, last_id};
+use ndc_show::line::{push_branch_line, push_key, push_mark, push_number, push_run_line};
+use ndc_causes::path::{KeySet, path_keys};
+use ndc_show::print::push_heading;
 use ndc_event::{Batch, BatchKey, Event, Name, RunId};
 use ndc_sets::{BranchView, RunView, View};
 use std::alloc::{AllocError, Global};
-
-/// The id of the first event, 0 where there is none.
-pub(crate) fn first_id(events: &[Event]) -> u64
-    ensures { result ≡ first_id events.now }
-{
-    match events.first() {
-        Some(event) => event.id,
-        None => 0,
-    }
-}
-
-/// The id of the last event, 0 where there is none.
-pub(crate) fn last_id(events: &[Event]) -> u64
-    ensures { result ≡ last_id events.now }
-{
-    match events.last() {
-        Some(event) => event.id,
-        None => 0,
-    }
-}
 
 /// Appends a parent's key, or a dash.
 fn push_parent(text: &mut Vec<u8>, parent: Option<BatchKey>) -> Result<(), AllocError>

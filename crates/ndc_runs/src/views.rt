@@ -16,6 +16,7 @@ impl Runs {
     ghost use Rattle.ndc_runs.specs.View.{run_from, view_at};
     ghost use Rattle.ndc_sets.specs.Sets.{Has};
     ghost use Rattle.ndc_sets.specs.Sound.{IsSound};
+    ghost use Rattle.ndc_sets.specs.View.{view_of};
 
     /// What is shown of the workflow; none exactly where nothing is learned. In time of all learned events; branches that
     /// are not current are restored from what is kept of their runs, which takes steps.
@@ -32,6 +33,20 @@ impl Runs {
             batches: Batches::new(copies),
             runs: RunViews::new(runs),
         }))
+    }
+
+    /// The runs of what is shown of the workflow, ascending; no batch is copied. It takes what [`Runs::view`] takes beside
+    /// that.
+    pub fn runs_shown<L>(
+        &self,
+        alloc: Global,
+        steps: &mut Steps<L>,
+    ) -> Result<Vec<RunView>, AllocError>
+        ensures { IfOk result (λ list. list.items ≡ (view_of self.now).runs) }
+    {
+        let batches = self.batches(alloc)?;
+        let runs = self.run_views(alloc, batches.as_slice(), steps)?;
+        Ok(runs)
     }
 
     /// The runs of these batches, which are all that is learned.

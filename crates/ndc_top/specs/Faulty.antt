@@ -4,10 +4,10 @@ use Rattle.std.specs.List.{concat}
 use Rattle.ndc_event.specs.declared.batch.BatchFault.{BatchFault}
 use Rattle.ndc_event.specs.declared.batch.BatchFault.TheVariants as fault
 use Rattle.ndc_event.specs.declared.key.BatchKey.{BatchKey}
-use Rattle.ndc_dump.specs.declared.error.LineCause.{LineCause}
-use Rattle.ndc_dump.specs.declared.error.LineCause.TheVariants as cause
-use Rattle.ndc_dump.specs.declared.error.KeyCause.{KeyCause}
-use Rattle.ndc_dump.specs.declared.error.KeyCause.TheVariants as unfit
+use Rattle.ndc_causes.specs.declared.error.LineCause.{LineCause}
+use Rattle.ndc_causes.specs.declared.error.LineCause.TheVariants as cause
+use Rattle.ndc_causes.specs.declared.error.KeyCause.{KeyCause}
+use Rattle.ndc_causes.specs.declared.error.KeyCause.TheVariants as unfit
 
 -- how a fault of a batch by itself is printed
 abbrev pub batch_fault_name : BatchFault → List ℕ

@@ -5,8 +5,8 @@ use Rattle.ndc_port.specs.Fault.{Rose}
 use Rattle.ndc_text.specs.Views.{dump_text, tree_text}
 use Rattle.ndc_dump.specs.Read.{dump_of}
 use Rattle.ndc_dump.specs.declared.dump.Dump.{Dump}
-use Rattle.ndc_dump.specs.declared.error.DumpError.{DumpError}
-use Rattle.ndc_dump.specs.declared.error.DumpError.TheVariants as error
+use Rattle.ndc_causes.specs.declared.error.DumpError.{DumpError}
+use Rattle.ndc_causes.specs.declared.error.DumpError.TheVariants as error
 use Rattle.ndc_top.specs.Faulty.{dump_line, dump_batch_line}
 use Rattle.ndc_top.specs.Top.{Streams, Tells, most_bytes}
 use Rattle.ndc_top.specs.declared.fault.Fault.{Fault}

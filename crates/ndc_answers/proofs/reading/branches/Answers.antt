@@ -1,5 +1,5 @@
 use Rattle.std.proofs.Common.{rules}
-use Rattle.ndc_dump.proofs.Joining.{printed_more}
+use Rattle.ndc_show.proofs.Joining.{printed_more}
 use Rattle.ndc_text.specs.Views.{run_lines}
 use Rattle.ndc_answers.proofs.reading.branches.Goals as goal
 

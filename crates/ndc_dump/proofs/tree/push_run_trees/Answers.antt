@@ -1,6 +1,6 @@
 use Rattle.std.proofs.Common.{rules}
 use Rattle.ndc_dump.specs.Marks.{run_tree}
-use Rattle.ndc_dump.proofs.Joining.{printed_more}
+use Rattle.ndc_show.proofs.Joining.{printed_more}
 use Rattle.ndc_dump.proofs.tree.push_run_trees.Goals as goal
 
 pub loop-run-preserved : goal.loop-run-preserved

@@ -1,0 +1,12 @@
+pub mod Finding
+pub mod Walking
+pub mod Events
+pub mod OnPaths
+pub mod KnownLemmas
+pub mod Firsts
+pub mod NoCause
+pub mod Replayed
+pub mod Chained
+pub mod Soundness
+pub mod Causeless
+pub mod PathKeys

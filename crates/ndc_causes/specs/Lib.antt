@@ -1,0 +1,6 @@
+pub mod Given
+pub mod Causes
+pub mod Originals
+pub mod Replaying
+pub mod Chains
+pub mod Keys
