@@ -5,8 +5,9 @@ pub mod OnPaths
 pub mod KnownLemmas
 pub mod Firsts
 pub mod NoCause
-pub mod Replayed
+pub mod ComesAgain
+pub mod TrailLemmas
+pub mod ReplayLemmas
 pub mod Chained
 pub mod Soundness
 pub mod Causeless
-pub mod PathKeys

@@ -1,5 +1,5 @@
 -- Whether the batches of each run and version hang below one another, by the last one of each run so far.
-use Rattle.std.specs.Prelude.{◌==◌, Bool, false, not, ◌&&◌, ◌||◌, List, [], ◌∷◌, Option, Some, None, if◌then◌else◌}
+use Rattle.std.specs.Prelude.{◌==◌, Bool, false, not, ◌&&◌, List, [], ◌∷◌, Option, Some, None, if◌then◌else◌}
 use Rattle.ndc_event.specs.declared.batch.Batch.{Batch}
 use Rattle.ndc_event.specs.declared.key.BatchKey.{BatchKey}
 use Rattle.ndc_event.specs.declared.key.RunId.{RunId}
@@ -15,7 +15,7 @@ is_loose (Some key) b = (key.version == b.key.version) && not (is_key key b.pare
 abbrev pub with_last : Batch → (RunId → Option BatchKey) → RunId → Option BatchKey
 with_last b last run = if same_run run b.run then Some b.key else last run
 
--- whether one of these batches, in key order, comes behind one of its run and version that is not its parent
-abbrev pub breaks_chain : (RunId → Option BatchKey) → List Batch → Bool
-breaks_chain last [] = false
-breaks_chain last (b ∷ batches) = is_loose (last b.run) b || breaks_chain (with_last b last) batches
+-- the first of these batches, in key order, that comes behind one of its run and version that is not its parent
+abbrev pub first_loose : (RunId → Option BatchKey) → List Batch → Option BatchKey
+first_loose last [] = None
+first_loose last (b ∷ batches) = if is_loose (last b.run) b then Some b.key else first_loose (with_last b last) batches

@@ -4,3 +4,4 @@ pub mod Originals
 pub mod Replaying
 pub mod Chains
 pub mod Keys
+pub mod Trails

@@ -1,16 +1,13 @@
 // What may be wrong with a batch beside the others of its set.
-ghost use Rattle.std.specs.Prelude.{◌≡◌, ◌&&◌, not, IfOk};
+ghost use Rattle.std.specs.Prelude.{◌≡◌};
 ghost use Rattle.std.specs.Option.{option_copied};
 ghost use Rattle.ndc_sets.specs.Paths.{last_event};
 ghost use Rattle.ndc_sets.specs.Sets.{Rise};
-ghost use Rattle.ndc_causes.specs.Keys.{is_listed};
-ghost use Rattle.ndc_causes.specs.Causes.{closes_for, comes_before, continues, is_continued_by, is_ill_formed, is_split, is_unfit_carried, is_unfit_parent, lacks_parent};
+ghost use Rattle.ndc_causes.specs.Causes.{closes_for, continues, is_continued_by, is_ill_formed, is_unfit_carried, is_unfit_parent, lacks_parent};
 
 use crate::found::{batch_at, named};
-use crate::path::{KeySet, path_keys};
 use crate::ids::{first_id, last_id};
 use ndc_event::{Batch, Event, EventKind, RunId};
-use std::alloc::{AllocError, Global};
 
 /// Whether the parent of a batch is not in the set.
 pub(crate) fn lacks_parent(batches: &[Batch], batch: &Batch) -> bool
@@ -87,33 +84,4 @@ pub(crate) fn is_unfit_carried(batches: &[Batch], batch: &Batch) -> bool
         None => false,
         Some(key) => !closes_for(batch.run, batch_at(batches, key)),
     }
-}
-
-/// Whether a batch is of the run and version of another one, and has a smaller task.
-fn comes_before(other: &Batch, batch: &Batch) -> bool
-    ensures { result ≡ comes_before other.now batch.now }
-{
-    other.run == batch.run
-        && other.key.version == batch.key.version
-        && other.key.task < batch.key.task
-}
-
-/// Whether an earlier batch of its run and version is not on the path to a batch.
-fn is_missed(path: &KeySet, other: &Batch, batch: &Batch) -> bool
-    ensures { result ≡ (comes_before other.now batch.now && not (is_listed other.now.key path.now)) }
-{
-    comes_before(other, batch) && !path.contains(other.key)
-}
-
-/// Whether an earlier batch of its run and version is no ancestor of a batch.
-pub(crate) fn is_split(alloc: Global, batches: &[Batch], batch: &Batch) -> Result<bool, AllocError>
-    ensures { IfOk result (λ test. test ≡ is_split batches.now batch.now) }
-{
-    let path = path_keys(alloc, batches, Some(batch.key))?;
-    for other in batches {
-        if is_missed(&path, other, batch) {
-            return Ok(true);
-        }
-    }
-    Ok(false)
 }

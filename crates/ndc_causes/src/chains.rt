@@ -1,6 +1,6 @@
 // Chains of batches of one run and version.
 ghost use Rattle.std.specs.Prelude.{◌≡◌, None, IfOk};
-ghost use Rattle.ndc_causes.specs.Chains.{breaks_chain, is_loose};
+ghost use Rattle.ndc_causes.specs.Chains.{first_loose, is_loose};
 
 use indexmap::IndexMap;
 use ndc_event::{Batch, BatchKey, RunId};
@@ -64,17 +64,20 @@ impl LastKeys {
     }
 }
 
-/// Whether one of the batches, in key order, comes behind one of its run and version that is not its parent: they are
-/// gone over once.
-pub(crate) fn breaks_chain(alloc: Global, batches: &[Batch]) -> Result<bool, AllocError>
-    ensures { IfOk result (λ test. test ≡ breaks_chain (λ run. None) batches.now) }
+/// The key of the first of the batches, in key order, that comes behind one of its run and version that is not its
+/// parent: they are gone over once.
+pub(crate) fn first_loose(
+    alloc: Global,
+    batches: &[Batch],
+) -> Result<Option<BatchKey>, AllocError>
+    ensures { IfOk result (λ key. key ≡ first_loose (λ run. None) batches.now) }
 {
     let mut last = LastKeys::new(alloc);
     for batch in batches {
         if is_loose(last.get(batch.run), batch) {
-            return Ok(true);
+            return Ok(Some(batch.key));
         }
         last.put(batch.run, batch.key)?;
     }
-    Ok(false)
+    Ok(None)
 }

@@ -7,10 +7,12 @@ mod chains;
 mod error;
 pub mod found;
 pub mod ids;
+pub mod keys;
+mod order;
 mod originals;
-pub mod path;
 mod replaying;
 mod sound;
+mod trail;
 
 pub use error::{DumpError, KeyCause, LineCause};
 pub use sound::sound_or;

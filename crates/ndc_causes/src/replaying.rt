@@ -1,16 +1,22 @@
 // Paths replayed, and the origins of their signals.
-ghost use Rattle.std.specs.Prelude.{◌≡◌, ◌++◌, ◌∷◌, [], is_ok, map, IfOk, OnOk};
+ghost use Rattle.std.specs.Prelude.{◌≡◌, ◌++◌, ◌∷◌, [], true, is_ok, map, Ok, IfOk, OnOk, IfSome};
 ghost use Rattle.std.specs.List.{AllByRecursion};
 ghost use Rattle.ndc_event.specs.Outcome.{Gives};
-ghost use Rattle.ndc_state.specs.Origins.{origin_of};
 ghost use Rattle.ndc_state.specs.Replay.{history_of, replay_of};
 ghost use Rattle.ndc_state.specs.declared.rule.StateError.TheVariants.{Memory};
 ghost use Rattle.ndc_sets.specs.Origins.{origins_in};
 ghost use Rattle.ndc_sets.specs.Paths.{path_from};
-ghost use Rattle.ndc_causes.specs.Causes.{has_origin_twice, has_twice, is_forbidden};
+ghost use Rattle.ndc_sets.specs.Sets.{Has};
+ghost use Rattle.ndc_causes.specs.Causes.{has_origin_twice, has_twice, holds_of_none, is_forbidden, is_ill_formed};
 ghost use Rattle.ndc_causes.specs.Given.{AreRead, HasSmallIds};
+ghost use Rattle.ndc_causes.specs.Replaying.{AreKept, IsStateAt, IsStateOf, replays_to};
+ghost use Rattle.ndc_causes.specs.Trails.{AreKnown};
+ghost use Rattle.ndc_causes.specs.declared.error.KeyCause.TheVariants.{NotWellFormed, OriginTwice};
 
 use crate::ancestors::path_from;
+use crate::keys::KeySet;
+use crate::order::Step;
+use crate::trail::origin_of;
 use indexmap::IndexSet;
 use ndc_event::{Batch, BatchKey, Event, EventKind, Origin, RunId};
 use ndc_state::{State, StateError, Steps};
@@ -66,20 +72,6 @@ pub(crate) fn is_forbidden(
         return Ok(false);
     }
     replays(alloc, batches, batch.run, batch.parent)
-}
-
-/// The origin of a signal event of the run.
-fn origin_of(run: RunId, event: &Event, origin: Option<Origin>) -> Origin
-    ensures { result ≡ origin_of run event.now.id event.now.version origin }
-{
-    match origin {
-        None => Origin {
-            run,
-            event: event.id,
-            version: event.version,
-        },
-        Some(origin) => origin,
-    }
 }
 
 /// Lists the origin of the event, where it is a signal.
@@ -142,4 +134,142 @@ pub(crate) fn has_origin_twice(
     let path = path_from(alloc, batches, Some(batch.key))?;
     let origins = origins_of(alloc, batch.run, path.as_slice())?;
     has_twice(alloc, origins.as_slice())
+}
+
+/// A batch whose path was replayed and below which more are to come, and the state behind it but for its origins.
+#[derive(Drop)]
+pub(crate) struct Kept {
+    key: BatchKey,
+    state: State,
+}
+
+/// The state that is kept for this key, where one is; what is kept for later keys is dropped. It is given away where it
+/// is the last time, else copied without its origins.
+fn kept_at(
+    kept: &mut Vec<Kept>,
+    batches: &[Batch],
+    key: BatchKey,
+    is_last: bool,
+) -> Result<Option<State>, AllocError>
+    requires { AreKept batches.now kept.old.items }
+    ensures kept { OnOk result (AreKept batches.now kept.new.items) }
+    ensures state { IfOk result (λ state. IfSome state (λ s. IsStateAt batches.now key s)) }
+{
+    let place = kept.as_slice().partition_point(|one| one.key.is_before(key));
+    kept.truncate(place.saturating_add(1));
+    let Some(one) = kept.pop() else {
+        return Ok(None);
+    };
+    if one.key != key {
+        kept.push(one)?;
+        return Ok(None);
+    }
+    if is_last {
+        return Ok(Some(one.state));
+    }
+    let state = one.state.try_copy_without_origins()?;
+    kept.push(one)?;
+    Ok(Some(state))
+}
+
+/// The state behind the parent of a batch, where it is kept, or of no event where the batch has no parent.
+fn state_before(
+    alloc: Global,
+    kept: &mut Vec<Kept>,
+    batches: &[Batch],
+    batch: &Batch,
+    is_last: bool,
+) -> Result<Option<State>, AllocError>
+    requires has { Has batches.now batch.now }
+    requires formed { holds_of_none NotWellFormed (is_ill_formed batches.now) batches.now ≡ Ok tt }
+    requires kept { AreKept batches.now kept.old.items }
+    ensures kept { OnOk result (AreKept batches.now kept.new.items) }
+    ensures state { IfOk result (λ state. IfSome state (λ s. IsStateOf s batch.now.run (history_of (path_from batch.now.parent batches.now)))) }
+{
+    match batch.parent {
+        None => Ok(Some(State::new(alloc, batch.run))),
+        Some(key) => kept_at(kept, batches, key, is_last),
+    }
+}
+
+/// Replays a batch behind its parent, where the state there is kept; answers whether it replays, and then keeps the state
+/// where more is to come below it.
+fn replay_one(
+    alloc: Global,
+    kept: &mut Vec<Kept>,
+    batches: &[Batch],
+    batch: &Batch,
+    step: &Step,
+) -> Result<bool, AllocError>
+    requires read { AreRead batches.now }
+    requires formed { holds_of_none NotWellFormed (is_ill_formed batches.now) batches.now ≡ Ok tt }
+    requires once { holds_of_none OriginTwice (has_origin_twice batches.now) batches.now ≡ Ok tt }
+    requires has { Has batches.now batch.now }
+    requires kept { AreKept batches.now kept.old.items }
+    ensures kept { OnOk result (AreKept batches.now kept.new.items) }
+    ensures replays { IfOk result (λ test. test ≡ true → replays_to batches.now batch.now ≡ true) }
+{
+    let Some(mut state) = state_before(alloc, kept, batches, batch, step.is_last)? else {
+        return Ok(false);
+    };
+    let mut steps: Steps<Reading> = Steps::new();
+    match state.apply_all(batch.events.as_slice(), &mut steps) {
+        Ok(()) => {}
+        Err(StateError::Memory) => return Err(AllocError),
+        Err(StateError::Invalid { .. }) => return Ok(false),
+    }
+    if step.has_child {
+        kept.push(Kept {
+            key: batch.key,
+            state,
+        })?;
+    }
+    Ok(true)
+}
+
+/// Replays the batch of a step, and lists its key where its path replays.
+fn replay_step(
+    alloc: Global,
+    kept: &mut Vec<Kept>,
+    keys: &mut KeySet,
+    batches: &[Batch],
+    step: &Step,
+) -> Result<(), AllocError>
+    requires read { AreRead batches.now }
+    requires formed { holds_of_none NotWellFormed (is_ill_formed batches.now) batches.now ≡ Ok tt }
+    requires once { holds_of_none OriginTwice (has_origin_twice batches.now) batches.now ≡ Ok tt }
+    requires kept { AreKept batches.now kept.old.items }
+    requires known { AreKnown (λ b. replays_to batches.now b ≡ true) batches.now keys.old }
+    ensures kept { OnOk result (AreKept batches.now kept.new.items) }
+    ensures known { OnOk result (AreKnown (λ b. replays_to batches.now b ≡ true) batches.now keys.new) }
+{
+    if batches.len() <= step.place {
+        return Ok(());
+    }
+    let batch = &batches[step.place];
+    if !replay_one(alloc, kept, batches, batch, step)? {
+        return Ok(());
+    }
+    keys.insert(batch.key)?;
+    Ok(())
+}
+
+/// Keys of batches whose paths replay: of all those of which this is true, where the steps come from
+/// [`crate::order::steps_of`]. Each batch is replayed once, and a state is copied, without its origins, where paths part.
+pub(crate) fn keys_that_replay(
+    alloc: Global,
+    batches: &[Batch],
+    steps: &[Step],
+) -> Result<KeySet, AllocError>
+    requires read { AreRead batches.now }
+    requires formed { holds_of_none NotWellFormed (is_ill_formed batches.now) batches.now ≡ Ok tt }
+    requires once { holds_of_none OriginTwice (has_origin_twice batches.now) batches.now ≡ Ok tt }
+    ensures { IfOk result (λ keys. AreKnown (λ b. replays_to batches.now b ≡ true) batches.now keys) }
+{
+    let mut kept = Vec::new(alloc);
+    let mut keys = KeySet::new(alloc);
+    for step in steps {
+        replay_step(alloc, &mut kept, &mut keys, batches, step)?;
+    }
+    Ok(keys)
 }
