@@ -10,12 +10,12 @@ use Rattle.ndc_event.specs.declared.key.RunId.{RunId}
 use Rattle.ndc_event.specs.declared.kind.EventKind.{EventKind}
 use Rattle.ndc_event.specs.declared.kind.EventKind.TheVariants.{WorkflowExecutionSignaled}
 use Rattle.ndc_sets.specs.Origins.{origins_in, signals_in}
-use Rattle.ndc_sets.specs.Paths.{events_to, path_from, path_to}
-use Rattle.ndc_sets.specs.Sets.{batch_at, Has}
+use Rattle.ndc_sets.specs.Paths.{events_to, path_from}
+use Rattle.ndc_sets.specs.Sets.{Has}
 use Rattle.ndc_sets.specs.Sound.{ParentsFit}
 use Rattle.ndc_sets.proofs.PathIds.{history-push}
 use Rattle.ndc_sets.proofs.PathLemmas.{none-wanted, path-parent}
-use Rattle.ndc_state.specs.Origins.{is_among, origin_of}
+use Rattle.ndc_state.specs.Origins.{is_among}
 use Rattle.ndc_state.specs.Replay.{collected_by, history_of, replay, replay_of}
 use Rattle.ndc_state.specs.Table.{after, applied_under, is_start, is_start_fit, needs, row, row_at, rule_of}
 use Rattle.ndc_state.specs.Value.{StateValue, new_state}
@@ -26,11 +26,10 @@ use Rattle.ndc_state.proofs.LawProofs.{origins_collected}
 use Rattle.ndc_state.proofs.ReplayLemmas.{replay-cons, run-replay}
 use Rattle.ndc_state.proofs.RowLemmas.{IsAllowed-rule_of, origins-row, run-row}
 use Rattle.ndc_rebuild.proofs.PathLemmas.{replay-applied}
-use Rattle.ndc_causes.specs.Causes.{comes_again, has_origin_twice, has_twice, is_forbidden}
+use Rattle.ndc_causes.specs.Causes.{comes_again, has_origin_twice, is_forbidden}
 use Rattle.ndc_causes.specs.Given.{AreRead}
-use Rattle.ndc_causes.specs.Replaying.{AreKept, IsStateAt, IsStateOf, replays_to}
+use Rattle.ndc_causes.specs.Replaying.{IsStateAt, IsStateOf, replays_to}
 use Rattle.ndc_causes.specs.Trails.{kind_again}
-use Rattle.ndc_causes.specs.declared.replaying.Kept.{Kept}
 use Rattle.ndc_causes.proofs.ComesAgain.{AreAmong, again-append, again-front, again-kind, again-less, listed-own, or-parts}
 use Rattle.ndc_causes.proofs.OnPaths.{origins-append}
 
@@ -85,12 +84,12 @@ bare-replay [] s os u once h = (s, os, refl, ok-same u (record s { origins = os 
 bare-replay (e ∷ es) s os u once h =
     let p = replay-cons (record s { origins = os }) u e es h in
     let parts = or-parts (kind_again s.run e.id e.version e.kind s.origins) (comes_again (collected_by s.run e.id e.version e.kind s.origins) (origins_in s.run es))
-        (sym (again-kind s.run e.id e.version e.kind s.origins (signals_in s.run es)) ∙ once) in
+    (sym (again-kind s.run e.id e.version e.kind s.origins (signals_in s.run es)) ∙ once) in
     let ok : rule_of s e ≡ None = free s os e parts.0 p.0 in
     let r = bare-replay es (after s e) (after (record s { origins = os }) e).origins u
-        (ap (λ l. comes_again l (origins_in (after s e).run es)) (origins-row s e.id e.version e.kind (IsAllowed-rule_of s e ok).own)
-        ∙ ap (λ run. comes_again (collected_by s.run e.id e.version e.kind s.origins) (origins_in run es)) (run-row s e.id e.version e.kind) ∙ parts.1)
-        (subst (λ n. replay n es ≡ Ok u) (after-bare s os e) p.1) in
+    (ap (λ l. comes_again l (origins_in (after s e).run es)) (origins-row s e.id e.version e.kind (IsAllowed-rule_of s e ok).own)
+    ∙ ap (λ run. comes_again (collected_by s.run e.id e.version e.kind s.origins) (origins_in run es)) (run-row s e.id e.version e.kind) ∙ parts.1)
+    (subst (λ n. replay n es ≡ Ok u) (after-bare s os e) p.1) in
     (r.0, r.1, ap (λ rule. applied_under rule s e >>= (λ next. replay next es)) ok ∙ r.2, r.3)
 
 -- ---- one batch

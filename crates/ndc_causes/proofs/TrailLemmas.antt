@@ -1,7 +1,6 @@
 -- What is known of a path that is gone over for origins.
-use Rattle.std.proofs.Common.{◌≡◌, ℕ, zero, suc, ◌+◌, ◌≤◌, ◌<◌, Bool, true, false, ◌||◌, min, List, [], ◌∷◌, ◌++◌, length, take, drop, get_or, ◌⊎◌, inl, inr, Option, Some, None, Ok, if◌then◌else◌, refl, sym, ap, ◌∙◌, subst, arith}
-use Rattle.std.specs.List.{list_any}
-use Rattle.std.proofs.lemmas.List.{append-nil, append_assoc, length-append, length-take-le, take_all, take-append-le}
+use Rattle.std.proofs.Common.{◌≡◌, ℕ, zero, suc, ◌+◌, ◌≤◌, ◌<◌, Bool, true, false, ◌||◌, List, [], ◌∷◌, ◌++◌, length, take, drop, get_or, ◌⊎◌, inl, inr, Option, Some, None, Ok, if◌then◌else◌, refl, sym, ap, ◌∙◌, subst, arith}
+use Rattle.std.proofs.lemmas.List.{append-nil, length-append, length-take-le, take_all, take-append-le}
 use Rattle.std.proofs.lemmas.List.Folds.{list_any-append}
 use Rattle.ndc_event.specs.Key.{key_eq}
 use Rattle.ndc_event.specs.declared.batch.Batch.{Batch}
@@ -10,8 +9,8 @@ use Rattle.ndc_event.specs.declared.key.BatchKey.{BatchKey}
 use Rattle.ndc_event.specs.declared.key.Origin.{Origin}
 use Rattle.ndc_event.specs.declared.key.RunId.{RunId}
 use Rattle.ndc_sets.specs.Origins.{origins_in, signals_in}
-use Rattle.ndc_sets.specs.Paths.{events_to, path_from, path_to}
-use Rattle.ndc_sets.specs.Sets.{Rise, batch_at, Has}
+use Rattle.ndc_sets.specs.Paths.{events_to, path_to}
+use Rattle.ndc_sets.specs.Sets.{Rise, Has}
 use Rattle.ndc_sets.specs.Sound.{ParentsFit}
 use Rattle.ndc_sets.proofs.BranchLemmas.{same-batch, among-has}
 use Rattle.ndc_sets.proofs.KeyLemmas.{same-keys}
@@ -27,7 +26,7 @@ use Rattle.ndc_causes.specs.Keys.{is_listed, with_key}
 use Rattle.ndc_causes.specs.Trails.{AreKnown, AreOpen, IsAt, IsListed, IsTrail, TrailValue, path_origins, signal_again, signal_listed}
 use Rattle.ndc_causes.specs.declared.error.KeyCause.TheVariants.{NotWellFormed}
 use Rattle.ndc_causes.specs.declared.trail.Opened.{Opened}
-use Rattle.ndc_causes.proofs.ComesAgain.{AreAmong, again-append, again-kind, again-less, among-either, among-front, among-rest, listed-front, listed-grows, own-listed}
+use Rattle.ndc_causes.proofs.ComesAgain.{AreAmong, again-append, again-kind, again-less, among-either, among-front, listed-front, listed-grows, own-listed}
 use Rattle.ndc_causes.proofs.NoCause.{fit-from, holds-not}
 use Rattle.ndc_causes.proofs.OnPaths.{left-one, origins-append}
 
@@ -56,14 +55,20 @@ take-twice (suc n) (suc m) (x ∷ xs) a b = ap (λ l. x ∷ l) (take-twice n m x
 
 -- where the origins behind those of the last open one are dropped, all stay open
 pub open-back : (batches : List Batch) (listed : List Origin) (low : ℕ) (os : List Opened) (x : Opened) → AreOpen batches listed low (os ++ x ∷ []) → AreOpen batches (take x.count listed) low (os ++ x ∷ [])
-open-back batches listed low [] x h =
-    (h.0, subst (λ n. x.count ≤ n) (sym (length-take-le x.count listed h.1)) (omega arith),
-    subst (λ l. IsListed batches l x.key) (sym (take-twice x.count x.count listed (omega arith) h.1)) h.2, tt)
+open-back batches listed low [] x h = (
+  h.0,
+  subst (λ n. x.count ≤ n) (sym (length-take-le x.count listed h.1)) (omega arith),
+  subst (λ l. IsListed batches l x.key) (sym (take-twice x.count x.count listed (omega arith) h.1)) h.2,
+  tt,
+)
 open-back batches listed low (o ∷ os) x h =
     let most : o.count ≤ x.count = last-count batches listed o.count os x h.3 in
-    let top : x.count ≤ length listed = top-count o.count os h.3 in
-    (h.0, subst (λ n. o.count ≤ n) (sym (length-take-le x.count listed top)) most,
-    subst (λ l. IsListed batches l o.key) (sym (take-twice o.count x.count listed most top)) h.2, open-back batches listed o.count os x h.3)
+    let top : x.count ≤ length listed = top-count o.count os h.3 in (
+      h.0,
+      subst (λ n. o.count ≤ n) (sym (length-take-le x.count listed top)) most,
+      subst (λ l. IsListed batches l o.key) (sym (take-twice o.count x.count listed most top)) h.2,
+      open-back batches listed o.count os x h.3,
+    )
   where
     top-count : (low : ℕ) (os : List Opened) → AreOpen batches listed low (os ++ x ∷ []) → x.count ≤ length listed
     top-count low [] h = h.1
@@ -108,7 +113,8 @@ module _ (batches : List Batch) (read : AreRead batches) (formed : holds_of_none
       by None e at =
           let path : path_origins batches b ≡ own = ap (origins_in b.run) (ap history_of (path-first batches b read.set has e) ∙ append-nil b.events) in
           record {
-            batch = b; at = has;
+            batch = b;
+            at = has;
             once = ap has_twice path ∙ again-less [] listed own (nothing-among listed) once;
             among = λ o k. own-listed b.run b.events listed o (sym (ap (is_among o) path) ∙ k);
           }
@@ -119,7 +125,8 @@ module _ (batches : List Batch) (read : AreRead batches) (formed : holds_of_none
           ∙ origins-append b.run (events_to key batches) b.events
           ∙ ap (λ l. l ++ own) (ap (λ r. origins_in r (events_to key batches)) (sym run) ∙ ap (λ k. origins_in at.batch.run (events_to k batches)) (sym (found-key batches key at.batch at.at))) in
           record {
-            batch = b; at = has;
+            batch = b;
+            at = has;
             once = ap has_twice path ∙ again-append [] (path_origins batches at.batch) own at.once ∙ again-less (path_origins batches at.batch) listed own at.among once;
             among = λ o k. from at o (among-either o (path_origins batches at.batch) own (sym (ap (is_among o) path) ∙ k));
           }

@@ -12,7 +12,6 @@ use Rattle.ndc_sets.specs.Paths.{events_to}
 use Rattle.ndc_sets.specs.Sets.{Has, batch_at}
 use Rattle.ndc_state.specs.Origins.{is_among, origin_of}
 use Rattle.ndc_state.specs.Replay.{collected_by}
-use Rattle.ndc_tree.specs.Reading.{named}
 use Rattle.ndc_causes.specs.Causes.{has_twice}
 use Rattle.ndc_causes.specs.Keys.{is_listed}
 use Rattle.ndc_causes.specs.declared.trail.Opened.{Opened}

@@ -66,10 +66,7 @@ impl LastKeys {
 
 /// The key of the first of the batches, in key order, that comes behind one of its run and version that is not its
 /// parent: they are gone over once.
-pub(crate) fn first_loose(
-    alloc: Global,
-    batches: &[Batch],
-) -> Result<Option<BatchKey>, AllocError>
+pub(crate) fn first_loose(alloc: Global, batches: &[Batch]) -> Result<Option<BatchKey>, AllocError>
     ensures { IfOk result (λ key. key ≡ first_loose (λ run. None) batches.now) }
 {
     let mut last = LastKeys::new(alloc);

@@ -155,7 +155,9 @@ fn kept_at(
     ensures kept { OnOk result (AreKept batches.now kept.new.items) }
     ensures state { IfOk result (λ state. IfSome state (λ s. IsStateAt batches.now key s)) }
 {
-    let place = kept.as_slice().partition_point(|one| one.key.is_before(key));
+    let place = kept
+        .as_slice()
+        .partition_point(|one| one.key.is_before(key));
     kept.truncate(place.saturating_add(1));
     let Some(one) = kept.pop() else {
         return Ok(None);

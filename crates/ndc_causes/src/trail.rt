@@ -95,11 +95,7 @@ impl Trail {
     }
 
     /// Goes back to what this parent names, where it is open, or to the beginning; answers whether it could.
-    fn go_back(
-        &mut self,
-        batches: &[Batch],
-        parent: Option<BatchKey>,
-    ) -> Result<bool, AllocError>
+    fn go_back(&mut self, batches: &[Batch], parent: Option<BatchKey>) -> Result<bool, AllocError>
         requires { IsTrail batches.now self.old }
         ensures trail { OnOk result (IsTrail batches.now self.new) }
         ensures at { IfOk result (λ is_open. is_open ≡ true → IsAt batches.now self.new.listed parent) }

@@ -1,5 +1,4 @@
 use Rattle.std.proofs.Common.{sym, ◌∙◌, subst}
-use Rattle.std.specs.List.{AllByRecursion}
 use Rattle.ndc_event.specs.Key.{key_eq}
 use Rattle.ndc_sets.proofs.KeyLemmas.{same-keys}
 use Rattle.ndc_tree.proofs.NotedLemmas.{sure}

@@ -1,10 +1,9 @@
-use Rattle.std.proofs.Common.{◌≡◌, List, ◌∷◌, ◌++◌, [], All, Ok, ◌≤◌, ◌^◌, IfSome, sym, ◌∙◌, subst, ap}
+use Rattle.std.proofs.Common.{◌≡◌, List, Ok, IfSome, sym, subst}
 use Rattle.ndc_event.specs.declared.batch.Event.{Event}
-use Rattle.ndc_sets.specs.Paths.{events_to, path_from}
+use Rattle.ndc_sets.specs.Paths.{path_from}
 use Rattle.ndc_sets.proofs.BranchLemmas.{has-among}
 use Rattle.ndc_sets.proofs.Lists.{all-among}
 use Rattle.ndc_state.specs.Replay.{history_of, replay}
-use Rattle.ndc_state.specs.Value.{StateValue}
 use Rattle.ndc_causes.specs.Causes.{has_origin_twice}
 use Rattle.ndc_causes.specs.Given.{HasSmallIds}
 use Rattle.ndc_causes.specs.Replaying.{AreKept, IsStateAt, IsStateOf}
@@ -23,11 +22,14 @@ pub returns-in_ok-push-clause-kept : goal.returns-in_ok-push-clause-kept
 returns-in_ok-push-clause-kept c =
     subst (AreKept c.args.batches.now) (sym c.in_ok-push.ensures.items)
     (all-push (λ (one : Kept). IsStateAt c.args.batches.now one.key one.state) c.state_before.new.kept.items _ c.in_ok-state.ensures.kept
-    (record { batch = c.args.batch.now; at = c.requires.has;
+    (record {
+      batch = c.args.batch.now;
+      at = c.requires.has;
       state = state-next c.args.batches.now c.args.batch.now c.in-Some.state c.apply_all.new.self c.requires.read c.requires.has
           (holds-not OriginTwice (has_origin_twice c.args.batches.now) c.args.batches.now tt c.requires.once c.args.batch.now c.requires.has)
           (subst (λ o. IfSome o (λ s. IsStateOf s c.args.batch.now.run (history_of (path_from c.args.batch.now.parent c.args.batches.now)))) c.in-Some.is c.in_ok-state.ensures.state)
-          (subst (λ (es : List Event). replay c.in-Some.state es ≡ Ok c.apply_all.new.self) c.as_slice.ensures c.in-Ok.ensures.answer) }))
+          (subst (λ (es : List Event). replay c.in-Some.state es ≡ Ok c.apply_all.new.self) c.as_slice.ensures c.in-Ok.ensures.answer);
+    }))
 
 pub returns-in_ok-push-clause-replays : goal.returns-in_ok-push-clause-replays
 returns-in_ok-push-clause-replays c = λ _.

@@ -1,8 +1,6 @@
-use Rattle.std.proofs.Common.{◌≡◌, true, false, refl, arith, ap, sym, ◌∙◌, subst, List}
+use Rattle.std.proofs.Common.{◌≡◌, true, refl, arith, sym, subst}
 use Rattle.ndc_event.specs.declared.batch.Batch.{Batch}
-use Rattle.ndc_event.specs.declared.key.BatchKey.{BatchKey}
 use Rattle.ndc_causes.specs.Replaying.{replays_to}
-use Rattle.ndc_causes.specs.Keys.{is_listed}
 use Rattle.ndc_causes.specs.Trails.{AreKnown}
 use Rattle.ndc_causes.proofs.TrailLemmas.{known-more, place-has}
 use Rattle.ndc_causes.proofs.replaying.replay_step.Goals as goal

@@ -1,4 +1,4 @@
-use Rattle.std.proofs.Common.{sym, ◌∙◌, subst}
+use Rattle.std.proofs.Common.{sym, subst}
 use Rattle.ndc_sets.specs.Paths.{path_from}
 use Rattle.ndc_state.specs.Replay.{history_of}
 use Rattle.ndc_state.specs.Value.{new_state}

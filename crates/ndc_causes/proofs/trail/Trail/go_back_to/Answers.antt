@@ -1,9 +1,8 @@
-use Rattle.std.proofs.Common.{List, ◌∷◌, ◌++◌, [], take, sym, ◌∙◌, subst}
+use Rattle.std.proofs.Common.{take, sym, ◌∙◌, subst}
 use Rattle.ndc_event.specs.Key.{key_eq}
 use Rattle.ndc_sets.proofs.KeyLemmas.{same-keys}
 use Rattle.ndc_tree.proofs.NotedLemmas.{sure}
 use Rattle.ndc_causes.specs.Trails.{AreOpen, IsListed, IsTrail}
-use Rattle.ndc_causes.specs.declared.trail.Opened.{Opened}
 use Rattle.ndc_causes.proofs.TrailLemmas.{open-back, open-last, open-take}
 use Rattle.ndc_causes.proofs.trail.Trail.go_back_to.Goals as goal
 

@@ -19,8 +19,8 @@ returns-then-branch-clause-trail c =
 pub returns-clause-trail : goal.returns-clause-trail
 returns-clause-trail c =
     let listed = listed-next c.args.batches.now c.requires.read c.requires.formed c.args.batch.now c.go_back.new.self.listed c.requires.has
-        (c.in_ok-go_back.ensures.at c.if-not-branch.false)
-        (subst (λ (es : List Event). comes_again c.go_back.new.self.listed (origins_in c.args.batch.now.run es) ≡ false) c.as_slice.ensures (sym c.in_ok-list_all.ensures.again ∙ c.if-branch.false)) in
+    (c.in_ok-go_back.ensures.at c.if-not-branch.false)
+    (subst (λ (es : List Event). comes_again c.go_back.new.self.listed (origins_in c.args.batch.now.run es) ≡ false) c.as_slice.ensures (sym c.in_ok-list_all.ensures.again ∙ c.if-branch.false)) in
     trail-more c.args.batches.now c.go_back.new.self c.self-2.inside.opened.items c.push.new.self.items c.self-2.inside.origins.keys _ c.args.batch.now.run c.args.batch.now.events
     c.in_ok-go_back.ensures.trail
     (ap (λ (t : TrailValue). t.opened) c.self-2.view_is ∙ c.in_ok-list_all.ensures.opened)
