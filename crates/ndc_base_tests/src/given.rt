@@ -1,6 +1,30 @@
-use ndc_event::{BatchKey, Name};
+ghost use Rattle.std.specs.Prelude.{◌≤◌, ◌^◌, All, IfOk};
+
+use ndc_event::{Batch, BatchKey, Name};
 use ndc_history::Item;
+use ndc_text::read_batch;
 use std::alloc::{AllocError, Global};
+
+/// The text of the first batch of a run.
+pub(crate) const STARTED: &str =
+    "{\"domain\":\"alpha\",\"events\":[{\"eventId\":1,\"eventType\":\"WorkflowExecutionStarted\",\"version\":1,\"workflowType\":\"order\"},{\"eventId\":2,\"eventType\":\"DecisionTaskScheduled\",\"version\":1}],\"parent\":null,\"run\":\"00000000-0000-0001-0000-000000000001\",\"task\":1,\"version\":1,\"workflow\":\"w1\"}";
+
+/// The text of one with a signal, behind it.
+pub(crate) const SIGNALED: &str =
+    "{\"domain\":\"alpha\",\"events\":[{\"eventId\":3,\"eventType\":\"WorkflowExecutionSignaled\",\"input\":\"x\",\"signalName\":\"ping\",\"version\":1}],\"parent\":{\"task\":1,\"version\":1},\"run\":\"00000000-0000-0001-0000-000000000001\",\"task\":2,\"version\":1,\"workflow\":\"w1\"}";
+
+/// The batch of a text, where its ids are small.
+pub(crate) fn batch(alloc: Global, text: &str) -> Result<Batch, AllocError>
+    ensures { IfOk result (λ batch. All (λ event. event.id ≤ 10 ^ 12) batch.events) }
+{
+    let batch = read_batch(alloc, text.as_bytes()).map_err(|_| AllocError)?;
+    let is_small = batch
+        .events
+        .as_slice()
+        .iter()
+        .all(|event| event.id <= 1_000_000_000_000);
+    if is_small { Ok(batch) } else { Err(AllocError) }
+}
 
 /// A name.
 pub(crate) fn name(alloc: Global, text: &str) -> Result<Name, AllocError> {

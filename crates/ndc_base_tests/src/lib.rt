@@ -4,8 +4,6 @@
 #[cfg(test)]
 mod command;
 #[cfg(test)]
-mod current;
-#[cfg(test)]
 mod domain;
 #[cfg(test)]
 mod event;

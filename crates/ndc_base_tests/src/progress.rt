@@ -33,48 +33,32 @@ fn may_tell(progress: &Progress, activity: &ActivityRef, version: u64) -> bool
 }
 
 /// The beat of what is told, where it may be told.
-fn tell(
-    alloc: Global,
-    progress: &mut Progress,
-    version: u64,
-    details: &str,
-) -> Result<Option<u64>, AllocError> {
+fn tell(alloc: Global, progress: &mut Progress, details: &str) -> Result<Option<u64>, AllocError> {
     let activity = activity(alloc)?;
-    if !may_tell(progress, &activity, version) {
+    if !may_tell(progress, &activity, 1) {
         return Ok(None);
     }
-    Ok(Some(progress.tell(activity, version, name(alloc, details)?)?))
+    Ok(Some(progress.tell(activity, 1, name(alloc, details)?)?))
 }
 
-/// Version and beat of the held report, where it has these details.
-fn held(
-    alloc: Global,
-    progress: &Progress,
-    details: &str,
-) -> Result<Option<(u64, u64)>, AllocError> {
-    match progress.find(&activity(alloc)?) {
-        Some(report) if report.details.as_str() == details => {
+/// Version and beat of a copy of the held report, where there is one.
+fn held(alloc: Global, progress: &Progress) -> Result<Option<(u64, u64)>, AllocError> {
+    match progress.find(&activity(alloc)?.try_copy()?) {
+        Some(report) => {
             let copy = report.try_copy()?;
             Ok(Some((copy.version, copy.beat)))
         }
-        _ => Ok(None),
+        None => Ok(None),
     }
 }
 
 #[test]
-fn two_clusters_tell_of_an_activity(rt: HostRuntime) -> Result<(), Fail> {
+fn what_is_told_is_taken_over(rt: HostRuntime) -> Result<(), Fail> {
     let alloc = rt.alloc();
-    let (mut a, mut b) = (Progress::new(alloc), Progress::new(alloc));
-    assert_eq!(rt; tell(alloc, &mut a, 1, "p10")?, Some(1));
-    assert_eq!(rt; tell(alloc, &mut a, 1, "p20")?, Some(2));
-    assert!(rt; b.find(&activity(alloc)?).is_none());
-    assert_eq!(rt; b.merge(&a)?, 1);
-    assert_eq!(rt; held(alloc, &b, "p20")?, Some((1, 2)));
-    assert_eq!(rt; tell(alloc, &mut b, 2, "p5")?, Some(1));
-    assert_eq!(rt; tell(alloc, &mut a, 1, "p30")?, Some(3));
-    assert_eq!(rt; a.merge(&b)?, 1);
-    assert_eq!(rt; b.merge(&a)?, 0);
-    assert_eq!(rt; held(alloc, &a, "p5")?, Some((2, 1)));
-    assert_eq!(rt; tell(alloc, &mut a, 1, "p40")?, None);
+    let (mut one, mut two) = (Progress::new(alloc), Progress::new(alloc));
+    assert_eq!(rt; tell(alloc, &mut one, "p10")?, Some(1));
+    assert_eq!(rt; tell(alloc, &mut one, "p20")?, Some(2));
+    assert_eq!(rt; two.merge(&one)?, 1);
+    assert_eq!(rt; held(alloc, &two)?, Some((1, 2)));
     Ok(())
 }

@@ -1,55 +1,24 @@
-use crate::given::name;
-use ndc_event::{Event, EventKind, Name, Origin, RunId};
+use crate::given::batch;
+use ndc_event::{Event, EventKind};
 use ndc_reset::{ResetError, plan_reset};
 use std::alloc::{AllocError, Global};
 use std::test::Fail;
 
-const RUN: RunId = RunId {
-    value: 18446744073709551617,
-};
+// A run with a completed decision, a signal before it, and behind it a timer and a copied signal.
+const RUN: &str =
+    "{\"domain\":\"alpha\",\"events\":[{\"eventId\":1,\"eventType\":\"WorkflowExecutionStarted\",\"version\":1,\"workflowType\":\"order\"},{\"eventId\":2,\"eventType\":\"DecisionTaskScheduled\",\"version\":1},{\"eventId\":3,\"eventType\":\"WorkflowExecutionSignaled\",\"input\":\"x\",\"signalName\":\"p\",\"version\":1},{\"eventId\":4,\"eventType\":\"DecisionTaskStarted\",\"version\":1},{\"eventId\":5,\"eventType\":\"DecisionTaskCompleted\",\"version\":1},{\"eventId\":6,\"eventType\":\"TimerStarted\",\"timerId\":\"t\",\"version\":1},{\"eventId\":7,\"eventType\":\"WorkflowExecutionSignaled\",\"input\":\"y\",\"origin\":{\"event\":9,\"run\":\"00000000-0000-0001-0000-000000000001\",\"version\":2},\"signalName\":\"q\",\"version\":1},{\"eventId\":8,\"eventType\":\"DecisionTaskScheduled\",\"version\":1}],\"parent\":null,\"run\":\"00000000-0000-0001-0000-000000000001\",\"task\":1,\"version\":1,\"workflow\":\"w1\"}";
 
-// The kind of an event of this word: `copy` is a signal that comes from an event 9 of version 2.
-fn kind(alloc: Global, word: &str) -> Result<EventKind, AllocError> {
-    match word {
-        "start" => Ok(EventKind::WorkflowExecutionStarted {
-            workflow_type: name(alloc, "order")?,
-        }),
-        "scheduled" => Ok(EventKind::DecisionTaskScheduled),
-        "started" => Ok(EventKind::DecisionTaskStarted),
-        "completed" => Ok(EventKind::DecisionTaskCompleted),
-        "timer" => Ok(EventKind::TimerStarted {
-            timer_id: name(alloc, "t")?,
-        }),
-        "copy" => Ok(EventKind::WorkflowExecutionSignaled {
-            signal_name: name(alloc, "q")?,
-            input: name(alloc, "y")?,
-            origin: Some(Origin {
-                run: RUN,
-                event: 9,
-                version: 2,
-            }),
-        }),
-        _ => Ok(EventKind::WorkflowExecutionSignaled {
-            signal_name: name(alloc, "p")?,
-            input: name(alloc, "x")?,
-            origin: None,
-        }),
+// Appends the version and event of a signal's origin.
+fn push_origin(alloc: Global, text: &mut String, kind: &EventKind) -> Result<(), AllocError> {
+    if let EventKind::WorkflowExecutionSignaled {
+        origin: Some(origin),
+        ..
+    } = kind
+    {
+        let (version, event) = (origin.version, origin.event);
+        text.push_str(format!(in alloc; "({version}.{event})")?.as_str())?;
     }
-}
-
-// A history of events of these words, with version 1.
-fn history(alloc: Global, words: &[&str]) -> Result<Vec<Event>, AllocError> {
-    let mut history = Vec::new(alloc);
-    let mut id: u16 = 0;
-    for word in words {
-        id = id.saturating_add(1);
-        history.push(Event {
-            id: u64::from(id),
-            version: 1,
-            kind: kind(alloc, word)?,
-        })?;
-    }
-    Ok(history)
+    Ok(())
 }
 
 // How the kinds print, each signal with the version and event of its origin.
@@ -57,54 +26,20 @@ fn text(alloc: Global, kinds: &[EventKind]) -> Result<String, AllocError> {
     let mut text = String::new(alloc);
     for kind in kinds {
         text.push_str(kind.name())?;
-        if let EventKind::WorkflowExecutionSignaled {
-            origin: Some(origin),
-            ..
-        } = kind
-        {
-            write!(text, "({}.{})", origin.version, origin.event).map_err(|_| AllocError)?;
-        }
+        push_origin(alloc, &mut text, kind)?;
         text.push_str(" ")?;
     }
     Ok(text)
 }
 
 #[test]
-fn runs_are_reset(rt: HostRuntime) -> Result<(), Fail> {
+fn a_run_is_reset(rt: HostRuntime) -> Result<(), Fail> {
     let alloc = rt.alloc();
-    let words = [
-        "start",
-        "scheduled",
-        "signal",
-        "started",
-        "completed",
-        "timer",
-        "copy",
-        "scheduled",
-    ];
-    let history = history(alloc, &words)?;
-    let cases = [
-        (4, 100, Err(ResetError::NoSuchPoint)),
-        (4, 0, Err(ResetError::NoSuchPoint)),
-        (9, 100, Err(ResetError::NoSuchPoint)),
-        (5, 6, Err(ResetError::HistoryFull)),
-        (
-            5,
-            7,
-            Ok(
-                "WorkflowExecutionStarted DecisionTaskScheduled WorkflowExecutionSignaled(1.3) DecisionTaskStarted DecisionTaskFailed DecisionTaskScheduled WorkflowExecutionSignaled(2.9) ",
-            ),
-        ),
-    ];
-    for (event, limit, want) in cases {
-        match (
-            plan_reset(alloc, history.as_slice(), RUN, event, limit),
-            want,
-        ) {
-            (Ok(kinds), Ok(want)) => assert_eq!(rt; text(alloc, kinds.as_slice())?.as_str(), want),
-            (Err(error), Err(want)) => assert_eq!(rt; error, want),
-            _ => assert!(rt; false, "at {event} of {limit}"),
-        }
-    }
+    let run = batch(alloc, RUN)?;
+    let kinds = plan_reset(alloc, run.events.as_slice(), run.run, 5, 7)?;
+    assert_eq!(rt;
+        text(alloc, kinds.as_slice())?.as_str(),
+        "WorkflowExecutionStarted DecisionTaskScheduled WorkflowExecutionSignaled(1.3) DecisionTaskStarted DecisionTaskFailed DecisionTaskScheduled WorkflowExecutionSignaled(2.9) "
+    );
     Ok(())
 }

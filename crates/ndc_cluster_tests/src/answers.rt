@@ -1,19 +1,18 @@
 use crate::given::name;
 use ndc_answers::{
-    Gap, Tally, arrived, behind_number, brought, counted, domain, gaps, refusal, settled, worked,
+    Gap, Tally, arrived, behind_number, brought, counted, gaps, refusal, settled, worked,
 };
 use ndc_command::Refusal;
-use ndc_event::BatchKey;
+use ndc_event::{BatchKey, Name};
 use ndc_history::Item;
+use std::alloc::{AllocError, Global};
 use std::test::Fail;
 
-fn is(text: &Vec<u8>, wanted: &str) -> bool {
-    text.as_slice() == wanted.as_bytes()
-}
+const ANSWERS: &str =
+    "ok 17\nok learned 3 known 1 putoff 2 reapplied 4\nok arrived 5 learned 3\nok domains 2 arrived 5 learned 3\nok learned 3 reapplied 4\n4 refused NotActive 12\nok 1\ngap alpha w1 2.5 after 4@1 before 9@2 missing 1.3\n";
 
-#[test]
-fn numbers_are_answered(rt: HostRuntime) -> Result<(), Fail> {
-    let alloc = rt.alloc();
+// Appends answers on numbers.
+fn push_numbers(alloc: Global, text: &mut Vec<u8>) -> Result<(), AllocError> {
     let tally = Tally {
         learned: 3,
         known: 1,
@@ -21,57 +20,18 @@ fn numbers_are_answered(rt: HostRuntime) -> Result<(), Fail> {
         arrived: 5,
         applied: 4,
     };
-    assert!(rt; is(&counted(alloc, 17)?, "ok 17\n"));
-    assert!(rt;
-        is(
-            &worked(alloc, tally)?,
-            "ok learned 3 known 1 putoff 2 reapplied 4\n"
-        )
-    );
-    assert!(rt; is(&arrived(alloc, tally)?, "ok arrived 5 learned 3\n"));
-    assert!(rt;
-        is(
-            &brought(alloc, 2, tally)?,
-            "ok domains 2 arrived 5 learned 3\n"
-        )
-    );
-    assert!(rt; is(&settled(alloc, tally)?, "ok learned 3 reapplied 4\n"));
-    Ok(())
+    text.extend_from_slice(counted(alloc, 17)?.as_slice())?;
+    text.extend_from_slice(worked(alloc, tally)?.as_slice())?;
+    text.extend_from_slice(arrived(alloc, tally)?.as_slice())?;
+    text.extend_from_slice(brought(alloc, 2, tally)?.as_slice())?;
+    text.extend_from_slice(settled(alloc, tally)?.as_slice())
 }
 
-#[test]
-fn refusals_are_answered(rt: HostRuntime) -> Result<(), Fail> {
-    let alloc = rt.alloc();
-    assert!(rt;
-        is(
-            &refusal(alloc, Refusal::NotActive { version: 12 })?,
-            "refused NotActive 12\n"
-        )
-    );
-    assert!(rt;
-        is(
-            &refusal(alloc, Refusal::HistoryFull)?,
-            "refused HistoryFull\n"
-        )
-    );
-    assert!(rt;
-        is(
-            &behind_number(alloc, 4, b"refused NoWorkflow\n")?,
-            "4 refused NoWorkflow\n"
-        )
-    );
-    Ok(())
-}
-
-#[test]
-fn gaps_are_answered(rt: HostRuntime) -> Result<(), Fail> {
-    let alloc = rt.alloc();
-    let domain = name(alloc, "alpha")?;
-    let workflow = name(alloc, "w1")?;
-    let mut list = Vec::new(alloc);
-    list.push(Gap {
-        domain: &domain,
-        workflow: &workflow,
+// The answer on one gap.
+fn one_gap(alloc: Global, domain: &Name, workflow: &Name) -> Result<Vec<u8>, AllocError> {
+    let list = [Gap {
+        domain,
+        workflow,
         key: BatchKey {
             version: 2,
             task: 5,
@@ -82,12 +42,23 @@ fn gaps_are_answered(rt: HostRuntime) -> Result<(), Fail> {
             version: 1,
             task: 3,
         },
-    })?;
-    assert!(rt;
-        is(
-            &gaps(alloc, list.as_slice())?,
-            "ok 1\ngap alpha w1 2.5 after 4@1 before 9@2 missing 1.3\n"
-        )
-    );
+    }];
+    gaps(alloc, &list)
+}
+
+// One answer of each kind.
+fn answers(alloc: Global) -> Result<Vec<u8>, AllocError> {
+    let mut text = Vec::new(alloc);
+    push_numbers(alloc, &mut text)?;
+    let refused = refusal(alloc, Refusal::NotActive { version: 12 })?;
+    text.extend_from_slice(behind_number(alloc, 4, refused.as_slice())?.as_slice())?;
+    let gap = one_gap(alloc, &name(alloc, "alpha")?, &name(alloc, "w1")?)?;
+    text.extend_from_slice(gap.as_slice())?;
+    Ok(text)
+}
+
+#[test]
+fn lines_are_answered(rt: HostRuntime) -> Result<(), Fail> {
+    assert!(rt; answers(rt.alloc())?.as_slice() == ANSWERS.as_bytes());
     Ok(())
 }

@@ -5,16 +5,15 @@ ghost use Rattle.ndc_model.specs.Facts.{IsReached};
 ghost use Rattle.ndc_network.specs.Networks.{opening_site};
 ghost use Rattle.ndc_network.specs.Orderly.{IsOrderly};
 
-use crate::given::ListCell;
+use crate::given::{ListCell, name, table_naming};
 use ndc_act::Header;
 use ndc_cells::{Message, Place};
-use ndc_domain::{ClusterNo, Clusters, DomainTable, Members};
+use ndc_domain::{ClusterNo, Clusters};
 use ndc_event::{BatchKey, Name};
 use ndc_graceful::{Handover, Places};
 use ndc_links::{Lacking, Learns, Reads, Serves, Writes};
 use ndc_network::Network;
 use ndc_port::OpenGate;
-use ndc_queue::{FlightError, NoSuchPlace};
 use ndc_rounds::Works;
 use ndc_runs::Runs;
 use ndc_sites::Site;
@@ -88,8 +87,8 @@ fn in_the_beginning(alloc: Global) -> Result<Opened, Fail>
     ensures orderly { IfOk result (λ opened. IsOrderly opened.header opened.network) }
 {
     let mut members = Vec::new(alloc);
-    members.push((Name::new(alloc, b"A".as_slice())?, 1))?;
-    members.push((Name::new(alloc, b"B".as_slice())?, 2))?;
+    members.push((name(alloc, "A")?, 1))?;
+    members.push((name(alloc, "B")?, 2))?;
     let header = Header {
         clusters: Clusters::build(10, members)?,
         shards: 1,
@@ -103,24 +102,6 @@ fn in_the_beginning(alloc: Global) -> Result<Opened, Fail>
 }
 
 #[test]
-fn nothing_is_in_flight_in_the_beginning(rt: HostRuntime) -> Result<(), Fail> {
-    let alloc = rt.alloc();
-    let Opened {
-        header,
-        mut network,
-    } = in_the_beginning(alloc)?;
-    let reader = ClusterNo { number: 0 };
-    let source = ClusterNo { number: 1 };
-    assert!(rt; network.links().len() == 2 && network.handovers().is_empty());
-    assert!(rt; network.lose(reader, source, 0, 0) == Err(NoSuchPlace));
-    assert!(rt; network.repeat(reader, source, 0, 0) == Err(FlightError::NoSuchPlace));
-    assert!(rt; network.move_to(reader, source, 0, 0, 0) == Err(NoSuchPlace));
-    network.renew(&header, reader);
-    network.rewind(reader, source);
-    Ok(())
-}
-
-#[test]
 fn nothing_is_pulled_in_the_beginning(rt: HostRuntime) -> Result<(), Fail> {
     let alloc = rt.alloc();
     let Opened {
@@ -130,83 +111,6 @@ fn nothing_is_pulled_in_the_beginning(rt: HostRuntime) -> Result<(), Fail> {
     let reader = ClusterNo { number: 0 };
     let source = ClusterNo { number: 1 };
     assert!(rt; network.pull(alloc, &header, reader, source)? == 0);
-    Ok(())
-}
-
-#[test]
-fn nothing_is_pulled_for_a_shard_in_the_beginning(rt: HostRuntime) -> Result<(), Fail> {
-    let alloc = rt.alloc();
-    let Opened {
-        header,
-        mut network,
-    } = in_the_beginning(alloc)?;
-    let reader = ClusterNo { number: 0 };
-    let source = ClusterNo { number: 1 };
-    assert!(rt; network.pull_some(alloc, &header, reader, source, 0, 5)? == 0);
-    Ok(())
-}
-
-#[test]
-fn nothing_is_trimmed_in_the_beginning(rt: HostRuntime) -> Result<(), Fail> {
-    let alloc = rt.alloc();
-    let Opened {
-        header,
-        mut network,
-    } = in_the_beginning(alloc)?;
-    let source = ClusterNo { number: 1 };
-    assert!(rt; network.trim(&header, source) == 0);
-    Ok(())
-}
-
-#[test]
-fn a_handover_is_opened_and_ended(rt: HostRuntime) -> Result<(), Fail> {
-    let alloc = rt.alloc();
-    let Opened {
-        header: _header,
-        mut network,
-    } = in_the_beginning(alloc)?;
-    let handover = Handover {
-        domain: Name::new(alloc, b"alpha".as_slice())?,
-        from: ClusterNo { number: 0 },
-        to: ClusterNo { number: 1 },
-        old: 1,
-        new: 2,
-        places: Places::new(Vec::new(alloc)),
-    };
-    network.open_handover(handover)?;
-    let other = Name::new(alloc, b"beta".as_slice())?;
-    network.close_handover(&other);
-    assert!(rt; network.handovers().len() == 1);
-    let alpha = Name::new(alloc, b"alpha".as_slice())?;
-    network.close_handover(&alpha);
-    assert!(rt; network.handovers().is_empty());
-    Ok(())
-}
-
-#[test]
-fn nothing_is_late_in_the_beginning(rt: HostRuntime) -> Result<(), Fail> {
-    let alloc = rt.alloc();
-    let Opened {
-        header,
-        mut network,
-    } = in_the_beginning(alloc)?;
-    let reader = ClusterNo { number: 0 };
-    let source = ClusterNo { number: 1 };
-    let done = network.bootstrap(&rt, alloc, &OpenGate {}, 2, &header, reader, source)?;
-    assert!(rt; done.jobs.is_empty() && done.replies.is_empty());
-    Ok(())
-}
-
-#[test]
-fn nothing_is_sent_again_in_the_beginning(rt: HostRuntime) -> Result<(), Fail> {
-    let alloc = rt.alloc();
-    let Opened {
-        header,
-        mut network,
-    } = in_the_beginning(alloc)?;
-    let reader = ClusterNo { number: 0 };
-    let done = network.resend(&rt, alloc, &OpenGate {}, 2, &header, reader)?;
-    assert!(rt; done.jobs.is_empty() && done.replies.is_empty());
     Ok(())
 }
 
@@ -240,42 +144,30 @@ fn a_cluster_without_memory_reapplies_nothing(rt: HostRuntime) -> Result<(), Fai
     Ok(())
 }
 
-/// A table with a record of `alpha` that names these clusters.
-fn table_naming(
-    alloc: Global,
-    clusters: &Clusters,
-    members: &[ClusterNo],
-) -> Result<DomainTable, Fail> {
-    let mut table = DomainTable::new(alloc);
-    let primary = ClusterNo { number: 0 };
-    let alpha = Name::new(alloc, b"alpha".as_slice())?;
-    if members
-        .iter()
-        .all(|member| member.number < clusters.count())
-    {
-        table.register(clusters, primary, &alpha, primary, 7, Members::of(members))?;
-    }
-    Ok(table)
+/// A handover of alpha.
+fn handover(alloc: Global) -> Result<Handover, AllocError> {
+    Ok(Handover {
+        domain: name(alloc, "alpha")?,
+        from: ClusterNo { number: 0 },
+        to: ClusterNo { number: 1 },
+        old: 1,
+        new: 2,
+        places: Places::new(Vec::new(alloc)),
+    })
 }
 
 #[test]
-fn no_reader_is_late_where_a_domain_is_new(rt: HostRuntime) -> Result<(), Fail> {
+fn a_table_is_replaced_and_a_handover_opened(rt: HostRuntime) -> Result<(), Fail> {
     let alloc = rt.alloc();
     let Opened {
-        header,
+        header: _header,
         mut network,
     } = in_the_beginning(alloc)?;
-    let source = ClusterNo { number: 0 };
-    let reader = ClusterNo { number: 1 };
-    let table = table_naming(alloc, &header.clusters, &[source, reader])?;
+    let (source, reader) = (ClusterNo { number: 0 }, ClusterNo { number: 1 });
+    let table = table_naming(alloc, &[source, reader])?;
     let before = network.replace_table(alloc, source, table)?;
     assert!(rt; before.records().is_empty());
-    assert!(rt;
-        network
-            .sites()
-            .iter()
-            .any(|site| site.table().records().len() == 1)
-    );
-    assert!(rt; network.links().iter().all(|link| link.late().is_empty()));
+    network.open_handover(handover(alloc)?)?;
+    assert_eq!(rt; network.handovers().len(), 1);
     Ok(())
 }

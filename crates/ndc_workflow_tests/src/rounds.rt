@@ -8,6 +8,7 @@ use ndc_rounds::{Desk, Works, round};
 use std::alloc::{AllocError, Global};
 use std::sync::atomic::{AtomicBool, Ordering};
 use std::test::Fail;
+use std::thread::Threads;
 
 /// A cell that finds no memory for any job.
 #[derive(Drop)]
@@ -59,49 +60,32 @@ fn two_cells(alloc: Global) -> Result<Vec<FullCell>, AllocError>
     Ok(cells)
 }
 
-#[test]
-fn both_workers_enter_at_once(rt: HostRuntime) -> Result<(), Fail> {
-    let alloc = rt.alloc();
+/// How many cells and replies a round without jobs leaves, whose two workers enter this gate.
+fn rounded<R: Threads + Sync, G: Gate>(
+    rt: &R,
+    alloc: Global,
+    gate: &G,
+) -> Result<(usize, usize), Fail> {
     let mut members = Vec::new(alloc);
     members.push((Name::new(alloc, b"A".as_slice())?, 1))?;
     let clusters = Clusters::build(10, members)?;
     let table = DomainTable::new(alloc);
     let desk = Desk::new(&clusters, ClusterNo { number: 0 }, 100, &table);
     let jobs: Vec<ShardJob> = Vec::new(alloc);
+    let cells = two_cells(alloc)?;
+    let rounded = round(rt, alloc, gate, 2, &desk, cells, jobs.as_slice())?;
+    Ok((rounded.cells.len(), rounded.replies.len()))
+}
+
+#[test]
+fn both_workers_enter_at_once(rt: HostRuntime) -> Result<(), Fail> {
     let pair = PairGate::new();
+    assert_eq!(rt; rounded(&rt, rt.alloc(), &pair)?, (2, 0));
     let late = LateGate {
         first: AtomicBool::new(false),
         met: AtomicBool::new(false),
     };
-    let one = round(
-        &rt,
-        alloc,
-        &pair,
-        2,
-        &desk,
-        two_cells(alloc)?,
-        jobs.as_slice(),
-    )?;
-    let other = round(
-        &rt,
-        alloc,
-        &late,
-        2,
-        &desk,
-        two_cells(alloc)?,
-        jobs.as_slice(),
-    )?;
-    let alone = round(
-        &rt,
-        alloc,
-        &OpenGate {},
-        1,
-        &desk,
-        two_cells(alloc)?,
-        jobs.as_slice(),
-    )?;
-    assert!(rt; one.cells.len() == 2 && other.cells.len() == 2 && alone.cells.len() == 2);
-    assert!(rt; one.replies.is_empty() && other.replies.is_empty() && alone.replies.is_empty());
+    assert_eq!(rt; rounded(&rt, rt.alloc(), &late)?, (2, 0));
     assert!(rt; pair.met() && late.met.load(Ordering::SeqCst));
     Ok(())
 }

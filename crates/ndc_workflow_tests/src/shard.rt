@@ -1,16 +1,14 @@
-ghost use Rattle.std.specs.Prelude.{◌≡◌, [], ◌∷◌, None, IfOk};
+ghost use Rattle.std.specs.Prelude.{◌≡◌, [], ◌∷◌, IfOk};
 ghost use Rattle.ndc_cells.specs.Cells.{empty_cell};
 ghost use Rattle.ndc_cells.specs.Jobs.{reply_to};
 ghost use Rattle.ndc_cells.specs.declared.job.Job.TheVariants.{Arrive};
-ghost use Rattle.ndc_sets.specs.Worked.{begun_again};
 ghost use Rattle.ndc_shard.specs.Worked.{alpha, begun, home_with, one_cluster, start};
 
-use crate::worked::name;
-use ndc_cells::{Arrived, Job, JobReply, Message, Outcome};
-use ndc_command::{Command, Refusal};
+use crate::worked::{begun, message, name};
+use ndc_cells::{Job, JobReply, Outcome};
+use ndc_command::Command;
 use ndc_domain::{ClusterNo, Clusters, DomainTable, Members};
-use ndc_event::{Batch, BatchKey, Event, EventKind, Events, Name, RunId};
-use ndc_history::VersionHistory;
+use ndc_event::{Batch, BatchKey, Name};
 use ndc_links::{Learns, Reads, Writes};
 use ndc_rounds::{Desk, Works};
 use ndc_shard::Shard;
@@ -57,44 +55,12 @@ fn start(alloc: Global) -> Result<Job, AllocError>
     })
 }
 
-// The first batch of a workflow.
-fn begun(alloc: Global) -> Result<Batch, AllocError>
-    ensures { IfOk result (λ batch. batch ≡ begun_again 1 None) }
-{
-    let mut events = Vec::new(alloc);
-    events.push(Event {
-        id: 1,
-        version: 1,
-        kind: EventKind::WorkflowExecutionStarted {
-            workflow_type: name(alloc, "order")?,
-        },
-    })?;
-    events.push(Event {
-        id: 2,
-        version: 1,
-        kind: EventKind::DecisionTaskScheduled,
-    })?;
-    Ok(Batch {
-        domain: name(alloc, "alpha")?,
-        workflow: name(alloc, "w1")?,
-        run: RunId::of(KEY),
-        key: KEY,
-        parent: None,
-        carrier: None,
-        events: Events::new(events),
-    })
-}
-
-// The job in which its message arrives.
+// The job in which the message of the first batch arrives.
 fn arrival(alloc: Global) -> Result<Job, AllocError>
     ensures { IfOk result (λ job. job ≡ Arrive begun) }
 {
     Ok(Job::Arrive {
-        message: Message {
-            batch: begun(alloc)?,
-            history: VersionHistory::new(alloc),
-            second: None,
-        },
+        message: message(alloc, begun(alloc, 1)?),
     })
 }
 
@@ -107,13 +73,10 @@ fn done<C: Works>(cell: &mut C, desk: &Desk, job: &Job) -> Result<JobReply, Allo
 }
 
 // Whether something where the first batch of a workflow is learned, and nothing put off, is read so.
-fn is_read<C: Reads>(
-    cell: &C,
-    alloc: Global,
-    domain: &Name,
-    workflow: &Name,
-) -> Result<bool, AllocError> {
-    let domains = [domain.try_copy()?];
+fn is_read<C: Reads>(cell: &C, alloc: Global) -> Result<bool, AllocError> {
+    let domains = [name(alloc, "alpha")?];
+    let domain = &domains[0];
+    let workflow = &name(alloc, "w1")?;
     let is_learned = cell.learned_of(alloc, &domains)?.len() == 1;
     let is_sent = cell.message_at(alloc, domain, workflow, KEY)?.is_some();
     let is_here = cell.behind(alloc)?.is_empty();
@@ -132,21 +95,20 @@ fn started(shard: &mut Shard, desk: &Desk, alloc: Global) -> Result<JobReply, Al
     done(shard, desk, &job)
 }
 
-// A workflow is to be started without a record of its domain.
-fn refused(shard: &mut Shard, desk: &Desk, alloc: Global) -> Result<JobReply, AllocError>
-    requires empty { shard.old ≡ empty_cell }
-    requires home { desk.now ≡ home_with [] }
-{
-    let job = start(alloc)?;
-    done(shard, desk, &job)
-}
-
 // The first batch of a workflow arrives.
 fn arrived(shard: &mut Shard, desk: &Desk, alloc: Global) -> Result<JobReply, AllocError>
     requires { shard.old ≡ empty_cell }
 {
     let job = arrival(alloc)?;
     done(shard, desk, &job)
+}
+
+// The key of the first message that something has written, where there is one.
+fn first_key<C: Writes>(cell: &C) -> Result<Option<BatchKey>, AllocError> {
+    if cell.written_len() == 0 {
+        return Ok(None);
+    }
+    Ok(Some(cell.written_at(0)?.batch.key))
 }
 
 #[test]
@@ -157,47 +119,8 @@ fn a_start_is_written(rt: HostRuntime) -> Result<(), Fail> {
     let desk = Desk::new(&clusters, A, 100, &table);
     let mut shard = Shard::new(alloc);
     let reply = started(&mut shard, &desk, alloc)?;
-    match &reply.outcome {
-        Outcome::Written(written) => assert!(rt; written.key == KEY && written.second.is_none()),
-        _ => assert!(rt; false),
-    }
-    assert_eq!(rt; reply.learned.as_slice().len(), 1);
-    assert_eq!(rt; shard.written_len(), 1);
-    Ok(())
-}
-
-#[test]
-fn a_start_without_a_record_is_refused(rt: HostRuntime) -> Result<(), Fail> {
-    let alloc = rt.alloc();
-    let clusters = clusters(alloc)?;
-    let table = DomainTable::new(alloc);
-    let desk = Desk::new(&clusters, A, 100, &table);
-    let mut shard = Shard::new(alloc);
-    let reply = refused(&mut shard, &desk, alloc)?;
-    match &reply.outcome {
-        Outcome::Refused(refusal) => assert_eq!(rt; *refusal, Refusal::UnknownDomain),
-        _ => assert!(rt; false),
-    }
-    assert_eq!(rt; shard.written_len(), 0);
-    Ok(())
-}
-
-#[test]
-fn a_message_arrives(rt: HostRuntime) -> Result<(), Fail> {
-    let alloc = rt.alloc();
-    let clusters = clusters(alloc)?;
-    let table = DomainTable::new(alloc);
-    let desk = Desk::new(&clusters, A, 100, &table);
-    let domain = name(alloc, "alpha")?;
-    let workflow = name(alloc, "w1")?;
-    let mut shard = Shard::new(alloc);
-    let reply = arrived(&mut shard, &desk, alloc)?;
-    match &reply.outcome {
-        Outcome::Arrived(Arrived::Learned { keys }) => assert_eq!(rt; keys.as_slice().len(), 1),
-        _ => assert!(rt; false),
-    }
-    assert!(rt; shard.has_learned(&domain, &workflow, KEY));
-    assert_eq!(rt; shard.written_len(), 0);
+    assert!(rt; matches!(reply.outcome, Outcome::Written(_)));
+    assert_eq!(rt; first_key(&shard)?, Some(KEY));
     Ok(())
 }
 
@@ -207,10 +130,9 @@ fn what_has_arrived_is_read(rt: HostRuntime) -> Result<(), Fail> {
     let clusters = clusters(alloc)?;
     let table = DomainTable::new(alloc);
     let desk = Desk::new(&clusters, A, 100, &table);
-    let domain = name(alloc, "alpha")?;
-    let workflow = name(alloc, "w1")?;
     let mut shard = Shard::new(alloc);
-    arrived(&mut shard, &desk, alloc)?;
-    assert!(rt; is_read(&shard, alloc, &domain, &workflow)?);
+    let reply = arrived(&mut shard, &desk, alloc)?;
+    assert!(rt; matches!(reply.outcome, Outcome::Arrived(_)));
+    assert!(rt; is_read(&shard, alloc)?);
     Ok(())
 }

@@ -1,10 +1,8 @@
 ghost use Rattle.std.specs.Prelude.{◌≡◌, IfOk};
 ghost use Rattle.ndc_workflow.specs.Worked.{second_alone};
 
-use crate::worked::{Test, begun, first_written, key, message, started};
-use ndc_cells::{Arrived, Message};
-use ndc_event::{Batch, BatchKey, Event, EventKind, Events, Name, RunId};
-use ndc_history::VersionHistory;
+use crate::worked::{Test, begun, message, started};
+use ndc_event::Batch;
 use ndc_state::Steps;
 use ndc_workflow::{Arrival, Workflow};
 use std::alloc::{AllocError, Global};
@@ -29,7 +27,7 @@ fn first_arrives(
 ) -> Result<Arrival, AllocError>
     requires { workflow.old ≡ second_alone }
 {
-    let batch = begun(alloc)?;
+    let batch = begun(alloc, 1)?;
     let sent = message(alloc, batch);
     workflow.arrive(alloc, sent, steps)
 }
@@ -39,23 +37,10 @@ fn the_second_batch_arrives_first(rt: HostRuntime) -> Result<(), Fail> {
     let alloc = rt.alloc();
     let mut steps: Steps<Test> = Steps::new();
     let mut workflow = second_arrives(alloc, &mut steps)?;
-    assert_eq!(rt; workflow.put_off().len(), 1);
-    assert_eq!(rt; workflow.missing(key(2)), Some(key(1)));
     assert_eq!(rt; workflow.all_missing(alloc)?.len(), 1);
     let arrival = first_arrives(&mut workflow, alloc, &mut steps)?;
     assert_eq!(rt; arrival.learned.as_slice().len(), 2);
-    assert_eq!(rt; workflow.runs().len(), 2);
-    assert_eq!(rt; workflow.put_off().len(), 0);
-    Ok(())
-}
-
-#[test]
-fn a_batch_is_written(rt: HostRuntime) -> Result<(), Fail> {
-    let alloc = rt.alloc();
-    let mut steps: Steps<Test> = Steps::new();
-    let mut workflow = first_written(alloc, &mut steps)?;
     workflow.find_strays(alloc)?;
-    assert!(rt; workflow.has_arrived(key(1)));
-    assert!(rt; !workflow.has_arrived(key(2)));
+    assert!(rt; !workflow.is_due(alloc)?);
     Ok(())
 }
