@@ -1,9 +1,12 @@
 pub mod Apart
+pub mod Grouping
+pub mod PathKeys
 pub mod Trees
 pub mod Cuts
 pub mod Learning
 pub mod ReadLemmas
 pub mod Carriers
+pub mod CarrierSteps
 pub mod ViewLines
 pub mod ShownView
 pub mod Again

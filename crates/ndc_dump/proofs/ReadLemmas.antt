@@ -70,6 +70,15 @@ pub placed : (number : ℕ) (c b : Batch) (o : Option LineCause) → placed_or n
 placed number c b None e = (refl, cc)
 placed number c b (Some fault) e = absurd (cc)
 
+-- a batch with which nothing is wrong is of the heading's domain and workflow
+pub own-line : (heading : Heading) (last : Option BatchKey) (b : Batch) → out_of_order heading last b ≡ None → is_own heading b ≡ true
+own-line heading last b none = by (is_own heading b) refl none
+  where
+    by : (t : Bool) → is_own heading b ≡ t
+        → (if not t then Some cause.Foreign else if is_same_as b.key last then Some cause.SameKey else if is_behind b.key last then Some cause.BadOrder else None) ≡ None → is_own heading b ≡ true
+    by true e n = e
+    by false e n = absurd (cc)
+
 in-order : (heading : Heading) (last : Option BatchKey) (b : Batch) → out_of_order heading last b ≡ None → (key : BatchKey) → last ≡ Some key → key_lt key b.key ≡ true
 in-order heading last b none key e = by (is_own heading b) (is_same_as b.key last) (is_behind b.key last) refl refl none
   where

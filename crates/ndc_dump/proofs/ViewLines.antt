@@ -8,13 +8,12 @@ use Rattle.ndc_sets.specs.declared.view.RunView.{RunView}
 use Rattle.ndc_sets.specs.declared.view.View.{View}
 use Rattle.ndc_text.specs.Views.{run_state_lines}
 use Rattle.ndc_text.specs.declared.form.TextForm.{TextForm}
-use Rattle.ndc_text.specs.declared.form.TextForm.TheVariants.{One}
 use Rattle.ndc_causes.specs.declared.error.DumpError.TheVariants.{Line}
 use Rattle.ndc_causes.specs.declared.error.LineCause.TheVariants.{BadView}
 use Rattle.ndc_dump.specs.Batches.{batch_count, view_lines}
 use Rattle.ndc_dump.specs.Frame.{begins_batch}
 use Rattle.ndc_dump.specs.Lines.{differ_at, lines_of}
-use Rattle.ndc_dump.specs.Migrated.{migrated, standing_for}
+use Rattle.ndc_dump.specs.Migrated.{standing_for}
 use Rattle.ndc_dump.specs.Read.{shown_or, view_on, view_text}
 use Rattle.ndc_dump.proofs.Carriers.{standing-runs}
 
@@ -73,10 +72,9 @@ unfolding view_on
 shown-same number lines form batches runs o view same e f g =
     ap (shown_or (view_of (standing_for form batches))) (differs number lines form batches runs o same e ∙ f) ∙ ap Ok (sym g)
 
--- the view of the set with carriers has its batches, and the runs of the set without
-pub migrated-view : (form : TextForm) (batches stands : List Batch) (shown : View) → form ≡ One → stands ≡ migrated batches → shown ≡ view_of batches
-    → record { batches = stands; runs = shown.runs } ≡ view_of (standing_for form batches)
-migrated-view form batches stands shown is e f =
-    ap (λ (bs : List Batch). record { batches = bs; runs = shown.runs }) e
-    ∙ ap (λ (rs : List RunView). record { batches = migrated batches; runs = rs }) (ap (λ (v : View). v.runs) f ∙ sym (standing-runs One batches))
-    ∙ ap (λ t. view_of (standing_for t batches)) (sym is)
+-- the view of the set that batches stand for has its batches, and the runs of the set that was read
+pub standing-view : (form : TextForm) (batches stands : List Batch) (runs : List RunView) → stands ≡ standing_for form batches → runs ≡ (view_of batches).runs
+    → record { batches = stands; runs = runs } ≡ view_of (standing_for form batches)
+standing-view form batches stands runs e f =
+    ap (λ (bs : List Batch). record { batches = bs; runs = runs }) e
+    ∙ ap (λ (rs : List RunView). record { batches = standing_for form batches; runs = rs }) (f ∙ sym (standing-runs form batches))

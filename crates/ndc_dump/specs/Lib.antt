@@ -3,5 +3,7 @@ pub mod Frame
 pub mod Batches
 pub mod Migrated
 pub mod Read
+pub mod Groups
+pub mod Keys
 pub mod Marks
 pub mod Printed

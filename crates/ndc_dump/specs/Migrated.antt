@@ -15,9 +15,13 @@ key_before key = record { version = key.version; task = key.task - 1 }
 abbrev pub is_carried : List Batch → Batch → Bool
 is_carried batches b = is_none b.parent && closes_for b.run (batch_at (key_before b.key) batches)
 
+-- the batch, with the batch just before as its carrier where it is marked
+abbrev pub with_carrier : Bool → Batch → Batch
+with_carrier mark b = if mark then record b { carrier = Some (key_before b.key) } else b
+
 -- the batch with its carrier
 abbrev pub with_carrier_in : List Batch → Batch → Batch
-with_carrier_in batches b = if is_carried batches b then record b { carrier = Some (key_before b.key) } else b
+with_carrier_in batches b = with_carrier (is_carried batches b) b
 
 -- the set with carriers: a first batch gets the batch just before it as its carrier, where this ends by continuing as its run
 abbrev pub migrated : List Batch → List Batch

@@ -1,5 +1,5 @@
 // The batches of a dump, line by line.
-ghost use Rattle.std.specs.Prelude.{◌≡◌, ◌≤◌, length, map, None, IfOk};
+ghost use Rattle.std.specs.Prelude.{◌≡◌, ◌≤◌, length, map, true, None, IfOk};
 ghost use Rattle.ndc_event.specs.Outcome.{Gives};
 ghost use Rattle.ndc_text.specs.Read.{read_of};
 ghost use Rattle.ndc_text.specs.declared.error.TextError.TheVariants as text;
@@ -8,11 +8,11 @@ ghost use Rattle.ndc_dump.specs.Batches.{batch_on, batches_on, out_of_order, is_
 ghost use Rattle.ndc_causes.specs.Given.{AreRead};
 
 use crate::cut::without_end;
-use ndc_causes::{DumpError, LineCause};
 use crate::frame::{Heading, begins_batch};
+use ndc_causes::{DumpError, LineCause};
 use ndc_event::{Batch, BatchKey};
 use ndc_text::{TextError, TextForm, read_batch, read_batch_1};
-use std::alloc::Global;
+use std::alloc::{AllocError, Global};
 
 /// Why the text of the line with this number is that of no batch.
 fn text_fault(line: u64, error: TextError) -> DumpError
@@ -84,6 +84,17 @@ fn out_of_order(heading: &Heading, last: Option<BatchKey>, batch: &Batch) -> Opt
     }
 }
 
+/// The same batch of the heading's domain and workflow, by the heading's names, whose bytes are shared.
+fn with_shared_names(heading: &Heading, batch: Batch) -> Result<Batch, AllocError>
+    requires { is_own heading.now batch ≡ true }
+    ensures { IfOk result (λ shared. shared ≡ batch) }
+{
+    let mut shared = batch;
+    shared.domain = heading.domain.try_copy()?;
+    shared.workflow = heading.workflow.try_copy()?;
+    Ok(shared)
+}
+
 /// The batch of the line with this number, behind the batch with the last key.
 #[tactic(auto, unfolding(crate::specs::Batches::batch_on))]
 fn batch_on(
@@ -100,7 +111,7 @@ fn batch_on(
         Err(error) => return Err(text_fault(number, error)),
     };
     match out_of_order(heading, last, &batch) {
-        None => Ok(batch),
+        None => Ok(with_shared_names(heading, batch)?),
         Some(cause) => Err(DumpError::Line {
             line: number,
             cause,

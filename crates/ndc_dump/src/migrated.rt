@@ -1,11 +1,12 @@
 // Sets that were written without carriers.
-ghost use Rattle.std.specs.Prelude.{◌≡◌, IfOk};
+ghost use Rattle.std.specs.Prelude.{◌≡◌, map, IfOk};
 ghost use Rattle.ndc_sets.specs.Sets.{Rise};
-ghost use Rattle.ndc_dump.specs.Migrated.{is_carried, key_before, migrated, with_carrier_in};
+ghost use Rattle.ndc_dump.specs.Migrated.{is_carried, key_before, migrated, standing_for, with_carrier};
 
 use ndc_causes::causes::closes_for;
 use ndc_causes::found::batch_at;
 use ndc_event::{Batch, BatchKey};
+use ndc_text::TextForm;
 use std::alloc::{AllocError, Global};
 
 /// The key just before, of the same version.
@@ -26,26 +27,53 @@ fn is_carried(batches: &[Batch], batch: &Batch) -> bool
     batch.parent.is_none() && closes_for(batch.run, batch_at(batches, key_before(batch.key)))
 }
 
-/// A copy of the batch, with its carrier.
-fn with_carrier_in(batches: &[Batch], batch: &Batch) -> Result<Batch, AllocError>
+/// Which of the batches begin a run that the batch just before continues as.
+fn carried(alloc: Global, batches: &[Batch]) -> Result<Vec<bool>, AllocError>
     requires { Rise batches.now }
-    ensures { IfOk result (λ copy. copy ≡ with_carrier_in batches.now batch.now) }
+    ensures { IfOk result (λ marks. marks.items ≡ map (is_carried batches.now) batches.now) }
 {
-    let mut copy = batch.try_copy()?;
-    if is_carried(batches, batch) {
-        copy.carrier = Some(key_before(batch.key));
+    let mut marks = Vec::with_capacity(alloc, batches.len())?;
+    for batch in batches {
+        marks.push(is_carried(batches, batch))?;
     }
-    Ok(copy)
+    Ok(marks)
 }
 
-/// Copies of the batches, with their carriers.
-pub(crate) fn migrated(alloc: Global, batches: &[Batch]) -> Result<Vec<Batch>, AllocError>
-    requires { Rise batches.now }
-    ensures { IfOk result (λ list. list.items ≡ migrated batches.now) }
+/// Gives the batch its carrier, where it is marked.
+fn set_carrier(batch: &mut Batch, mark: bool)
+    ensures { batch.new ≡ with_carrier mark batch.old }
 {
-    let mut list = Vec::with_capacity(alloc, batches.len())?;
-    for batch in batches {
-        list.push(with_carrier_in(batches, batch)?)?;
+    if mark {
+        batch.carrier = Some(key_before(batch.key));
     }
-    Ok(list)
+}
+
+/// Gives the marked batches their carriers.
+fn set_carriers(batches: &mut [Batch], marks: &[bool])
+    requires { marks.now ≡ map (is_carried batches.old) batches.old }
+    ensures { batches.new ≡ migrated batches.old }
+{
+    for place in 0..batches.len() {
+        set_carrier(&mut batches[place], marks[place]);
+    }
+}
+
+/// The set that batches in this form stand for. They get their carriers where they are.
+pub(crate) fn standing_for(
+    alloc: Global,
+    form: TextForm,
+    batches: Vec<Batch>,
+) -> Result<Vec<Batch>, AllocError>
+    requires { Rise batches.items }
+    ensures { IfOk result (λ list. list.items ≡ standing_for form batches.items) }
+{
+    let mut list = batches;
+    match form {
+        TextForm::One => {
+            let marks = carried(alloc, list.as_slice())?;
+            set_carriers(list.as_mut_slice(), marks.as_slice());
+            Ok(list)
+        }
+        TextForm::Two => Ok(list),
+    }
 }

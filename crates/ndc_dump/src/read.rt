@@ -14,14 +14,13 @@ ghost use Rattle.ndc_causes.specs.declared.error.DumpError.TheVariants.{Memory};
 use crate::batches::batches_on;
 use crate::cut::lines_of;
 use crate::dump::Dump;
-use ndc_causes::{DumpError, LineCause};
 use crate::frame::{begins_batch, body_of, heading_of};
-use crate::migrated::migrated;
-use ndc_show::print::push_runs;
-use crate::showing::view_of;
-use ndc_causes::sound_or;
+use crate::migrated::standing_for;
+use crate::showing::runs_of;
+use ndc_causes::{DumpError, LineCause, sound_or};
 use ndc_event::Batch;
-use ndc_sets::{Batches, RunView, View};
+use ndc_sets::{Batches, RunView, RunViews, View};
+use ndc_show::print::push_runs;
 use ndc_text::TextForm;
 use std::alloc::{AllocError, Global};
 
@@ -96,26 +95,6 @@ fn first_other(
     Ok(differ_at(number, lines, wanted.as_slice()))
 }
 
-/// The view of the set that batches in this form stand for, where this is the view of the batches.
-fn standing_for(
-    alloc: Global,
-    form: TextForm,
-    batches: &[Batch],
-    shown: View,
-) -> Result<View, AllocError>
-    requires read { AreRead batches.now }
-    requires shown { shown ≡ view_of batches.now }
-    ensures { IfOk result (λ view. view ≡ view_of (standing_for form batches.now)) }
-{
-    match form {
-        TextForm::One => Ok(View {
-            batches: Batches::new(migrated(alloc, batches)?),
-            runs: shown.runs,
-        }),
-        TextForm::Two => Ok(shown),
-    }
-}
-
 /// The view of the set that batches stand for, where these lines, with numbers from this one on, are what it shows
 /// behind its batches.
 fn view_on(
@@ -123,16 +102,19 @@ fn view_on(
     number: u64,
     lines: &[&[u8]],
     form: TextForm,
-    batches: &[Batch],
+    batches: Vec<Batch>,
 ) -> Result<View, DumpError>
     requires count { number + length lines.now < 2 ^ 64 }
-    requires read { AreRead batches.now }
-    requires sound { sound_or batches.now ≡ Ok tt }
-    ensures { Gives Memory (λ view. view) result (view_on number (map (λ line. line.now) lines.now) (view_of (standing_for form batches.now))) }
+    requires read { AreRead batches.items }
+    requires sound { sound_or batches.items ≡ Ok tt }
+    ensures { Gives Memory (λ view. view) result (view_on number (map (λ line. line.now) lines.now) (view_of (standing_for form batches.items))) }
 {
-    let shown = view_of(alloc, batches)?;
-    match first_other(alloc, number, lines, shown.runs.as_slice())? {
-        None => Ok(standing_for(alloc, form, batches, shown)?),
+    let runs = runs_of(alloc, batches.as_slice())?;
+    match first_other(alloc, number, lines, runs.as_slice())? {
+        None => Ok(View {
+            batches: Batches::new(standing_for(alloc, form, batches)?),
+            runs: RunViews::new(runs),
+        }),
         Some(line) => Err(DumpError::Line {
             line,
             cause: LineCause::BadView,
@@ -150,13 +132,7 @@ fn dump_on(alloc: Global, lines: &[&[u8]]) -> Result<Dump, DumpError>
     let batches = batches_on(alloc, &heading, body)?;
     sound_or(alloc, batches.as_slice())?;
     let number = 2 + batches.len() as u64;
-    let view = view_on(
-        alloc,
-        number,
-        view_lines(body),
-        heading.form,
-        batches.as_slice(),
-    )?;
+    let view = view_on(alloc, number, view_lines(body), heading.form, batches)?;
     Ok(Dump {
         domain: heading.domain,
         workflow: heading.workflow,
@@ -176,9 +152,9 @@ fn dump_on(alloc: Global, lines: &[&[u8]]) -> Result<Dump, DumpError>
 /// that the cause holds of. Then the lines behind the batches are not what the batches show: [`LineCause::BadView`] at
 /// the first that differs, is missing or is one too many.
 ///
-/// A dump that is read takes time of its bytes, a look-up of the logarithm of its batches for each of them, and the path
-/// of each branch. A dump in which a cause stands that goes by paths (a split version, an origin twice, a bad replay)
-/// takes for that cause the paths of all batches.
+/// It takes time of the bytes, a look-up of the logarithm of the batches for each of them, and the path of each branch,
+/// of which the view shows the history and the state. A refusal takes no more than that, whatever its cause. Beside the
+/// batches that are read, it holds for a while what is learned of them, which shares their names.
 ///
 /// [`dump_text`]: crate::dump_text
 /// [`KeyCause`]: crate::KeyCause

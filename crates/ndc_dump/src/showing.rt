@@ -1,4 +1,4 @@
-// The view of a set of batches: they are learned one after the other, as a cell learns them.
+// The runs of a set of batches: they are learned one after the other, as a cell learns them.
 ghost use Rattle.std.specs.Prelude.{◌≡◌, Ok, IfOk};
 ghost use Rattle.ndc_sets.specs.Sound.{IsSound};
 ghost use Rattle.ndc_sets.specs.View.{view_of};
@@ -7,7 +7,7 @@ ghost use Rattle.ndc_causes.specs.Given.{AreRead};
 
 use ndc_event::Batch;
 use ndc_runs::Runs;
-use ndc_sets::{Batches, RunViews, View};
+use ndc_sets::RunView;
 use ndc_state::Steps;
 use std::alloc::{AllocError, Global};
 
@@ -28,19 +28,13 @@ fn learned(alloc: Global, batches: &[Batch]) -> Result<Runs, AllocError>
     Ok(runs)
 }
 
-/// The view of a set that none of the causes holds of.
-pub(crate) fn view_of(alloc: Global, batches: &[Batch]) -> Result<View, AllocError>
+/// The runs of the view of a set that none of the causes holds of. What was learned for them is dropped.
+pub(crate) fn runs_of(alloc: Global, batches: &[Batch]) -> Result<Vec<RunView>, AllocError>
     requires read { AreRead batches.now }
     requires sound { sound_or batches.now ≡ Ok tt }
-    ensures { IfOk result (λ view. view ≡ view_of batches.now) }
+    ensures { IfOk result (λ list. list.items ≡ (view_of batches.now).runs) }
 {
     let runs = learned(alloc, batches)?;
     let mut steps: Steps<Showing> = Steps::new();
-    match runs.view(alloc, &mut steps)? {
-        Some(view) => Ok(view),
-        None => Ok(View {
-            batches: Batches::new(Vec::new(alloc)),
-            runs: RunViews::new(Vec::new(alloc)),
-        }),
-    }
+    runs.runs_shown(alloc, &mut steps)
 }

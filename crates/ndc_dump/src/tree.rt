@@ -1,16 +1,19 @@
-ghost use Rattle.std.specs.Prelude.{◌≡◌, ◌++◌, codes, decimal, IfOk, OnOk};
+ghost use Rattle.std.specs.Prelude.{◌≡◌, ◌++◌, codes, decimal, map, IfOk, OnOk};
 ghost use Rattle.std.specs.List.{flat_map};
 ghost use Rattle.ndc_sets.specs.Paths.{first_id, last_id};
+ghost use Rattle.ndc_sets.specs.Sound.{IsSound};
 ghost use Rattle.ndc_sets.specs.View.{view_of};
+ghost use Rattle.ndc_dump.specs.Groups.{listed};
 ghost use Rattle.ndc_text.specs.Views.{branch_line, current_mark, parent_text, tree_text};
 ghost use Rattle.ndc_dump.specs.Marks.{batch_head, current_key, marked_line, marked_lines, run_tree};
 
+use crate::path::{KeySet, path_keys};
+use crate::run_batches::{RunBatches, grouped};
 use ndc_causes::ids::{first_id, last_id};
-use ndc_show::line::{push_branch_line, push_key, push_mark, push_number, push_run_line};
-use ndc_causes::path::{KeySet, path_keys};
-use ndc_show::print::push_heading;
-use ndc_event::{Batch, BatchKey, Event, Name, RunId};
+use ndc_event::{Batch, BatchKey, Event, Name};
 use ndc_sets::{BranchView, RunView, View};
+use ndc_show::line::{push_branch_line, push_key, push_mark, push_number, push_run_line};
+use ndc_show::print::push_heading;
 use std::alloc::{AllocError, Global};
 
 /// Appends a parent's key, or a dash.
@@ -55,19 +58,12 @@ fn push_batch_line(text: &mut Vec<u8>, batch: &Batch, is_current: bool) -> Resul
     Ok(())
 }
 
-/// Appends the lines of a run's batches, those with a listed key marked.
-fn push_batch_lines(
-    text: &mut Vec<u8>,
-    batches: &[Batch],
-    run: RunId,
-    keys: &KeySet,
-) -> Result<(), AllocError>
-    ensures { OnOk result (text.new.items ≡ text.old.items ++ marked_lines keys.now run batches.now) }
+/// Appends the lines of batches, those with a listed key marked.
+fn push_batch_lines(text: &mut Vec<u8>, batches: &[&Batch], keys: &KeySet) -> Result<(), AllocError>
+    ensures { OnOk result (text.new.items ≡ text.old.items ++ marked_lines keys.now (map (λ b. b.now) batches.now)) }
 {
     for batch in batches {
-        if batch.run == run {
-            push_batch_line(text, batch, keys.contains(batch.key))?;
-        }
+        push_batch_line(text, batch, keys.contains(batch.key))?;
     }
     Ok(())
 }
@@ -98,57 +94,52 @@ fn current_key(branches: &[BranchView]) -> Option<BatchKey>
 fn push_run_tree(
     alloc: Global,
     text: &mut Vec<u8>,
-    batches: &[Batch],
+    batches: &[&Batch],
     run: &RunView,
 ) -> Result<(), AllocError>
-    ensures { OnOk result (text.new.items ≡ text.old.items ++ run_tree batches.now run.now) }
+    ensures { OnOk result (text.new.items ≡ text.old.items ++ run_tree (map (λ b. b.now) batches.now) run.now) }
 {
     let branches = run.branches.as_slice();
     let keys = path_keys(alloc, batches, current_key(branches))?;
     push_run_line(alloc, text, run)?;
-    push_batch_lines(text, batches, run.run, &keys)?;
+    push_batch_lines(text, batches, &keys)?;
     push_branch_lines(text, branches)?;
     Ok(())
 }
 
-/// Appends runs with their batches and branches.
+/// Appends a run with those of the batches that are listed under it, and its branches.
+fn push_run_among(
+    alloc: Global,
+    text: &mut Vec<u8>,
+    batches: &RunBatches,
+    run: &RunView,
+) -> Result<(), AllocError>
+    ensures { OnOk result (text.new.items ≡ text.old.items ++ run_tree (listed run.now.run batches.now) run.now) }
+{
+    match batches.get(run.run) {
+        Some(list) => push_run_tree(alloc, text, list.as_slice(), run),
+        None => push_run_tree(alloc, text, &[], run),
+    }
+}
+
+/// Appends runs, each with those of the batches that are listed under it, and its branches.
 fn push_run_trees(
     alloc: Global,
     text: &mut Vec<u8>,
-    batches: &[Batch],
+    batches: &RunBatches,
     runs: &[RunView],
 ) -> Result<(), AllocError>
-    ensures { OnOk result (text.new.items ≡ text.old.items ++ flat_map (run_tree batches.now) runs.now) }
+    ensures { OnOk result (text.new.items ≡ text.old.items ++ flat_map (λ run. run_tree (listed run.run batches.now) run) runs.now) }
 {
     for run in runs {
-        push_run_tree(alloc, text, batches, run)?;
+        push_run_among(alloc, text, batches, run)?;
     }
     Ok(())
 }
 
-/// The first line and the trees of a view's runs.
-pub(crate) fn text_of(
-    alloc: Global,
-    domain: &Name,
-    workflow: &Name,
-    view: &View,
-) -> Result<Vec<u8>, AllocError>
-    ensures { IfOk result (λ text. text.items ≡ (codes "workflow " ++ domain.now ++ codes " " ++ workflow.now ++ codes "\n")
-        ++ flat_map (run_tree view.now.batches) view.now.runs) }
-{
-    let mut text = Vec::new(alloc);
-    push_heading(&mut text, b"workflow ".as_slice(), domain, workflow)?;
-    push_run_trees(
-        alloc,
-        &mut text,
-        view.batches.as_slice(),
-        view.runs.as_slice(),
-    )?;
-    Ok(text)
-}
-
 /// The tree of a view: a first line with the domain and the workflow, and each run with its batches in key order and
-/// its branches. It asks for the view of a set.
+/// its branches. It asks for the view of a sound set. The batches are gone over once for their runs, and those of each
+/// run once more for the path of its current branch.
 pub fn tree_text(
     alloc: Global,
     domain: &Name,
@@ -156,8 +147,12 @@ pub fn tree_text(
     view: &View,
 ) -> Result<Vec<u8>, AllocError>
     requires shown { view.now ≡ view_of view.now.batches }
+    requires sound { IsSound view.now.batches }
     ensures { IfOk result (λ text. text.items ≡ tree_text domain.now workflow.now view.now) }
 {
-    let text = text_of(alloc, domain, workflow, view)?;
+    let batches = grouped(alloc, view.batches.as_slice())?;
+    let mut text = Vec::new(alloc);
+    push_heading(&mut text, b"workflow ".as_slice(), domain, workflow)?;
+    push_run_trees(alloc, &mut text, &batches, view.runs.as_slice())?;
     Ok(text)
 }
