@@ -73,9 +73,10 @@ fn strays_are_found_and_applied_again(rt: HostRuntime) -> Result<(), Fail> {
     let alloc = rt.alloc();
     let list = signals(alloc, &[(3, "c"), (2, "b"), (1, "a"), (2, "b")])?;
     assert_eq!(rt; stray_names(alloc, list.as_slice())?.as_str(), "a b ");
+    let one = signals(alloc, &[(1, "a")])?;
     let state = state_behind(alloc, &batch(alloc, DECIDING)?)?;
     assert_eq!(rt;
-        reapplied(alloc, &state, &list.as_slice()[..1])?.as_str(),
+        reapplied(alloc, &state, one.as_slice())?.as_str(),
         "DecisionTaskFailed DecisionTaskScheduled WorkflowExecutionSignaled "
     );
     Ok(())
