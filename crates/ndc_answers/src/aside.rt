@@ -7,8 +7,8 @@ ghost use Rattle.ndc_model.specs.Texts.{ok};
 use crate::domains::counted;
 use crate::word::{Word, ok};
 use ndc_act::Header;
-use ndc_show::line::{push_key, push_number};
 use ndc_letters::Letter;
+use ndc_show::line::{push_key, push_number};
 use std::alloc::{AllocError, Global};
 
 /// What came was read as the batch that was sent.

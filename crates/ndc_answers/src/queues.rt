@@ -6,10 +6,10 @@ ghost use Rattle.ndc_answers.specs.Gaps.{gap_ends, gap_head, gap_text};
 use crate::domains::counted;
 use crate::tally::Tally;
 use crate::word::{Word, ok, refused};
-use ndc_show::line::{push_item, push_key};
 use ndc_event::{BatchKey, Name};
 use ndc_history::Item;
 use ndc_queue::Levels;
+use ndc_show::line::{push_item, push_key};
 use std::alloc::{AllocError, Global};
 
 /// No message is at the place.

@@ -9,11 +9,11 @@ ghost use Rattle.ndc_text.specs.Views.{branch_line, dump_text, key_text, run_lin
 use crate::domains::counted;
 use crate::tally::sum;
 use crate::word::{Word, ok, refused};
-use ndc_show::dump_text;
-use ndc_show::line::{push_branch_line, push_item, push_run_line, status_word};
 use ndc_event::{Batch, BatchKey, Event, Name, RunId};
 use ndc_history::Item;
 use ndc_sets::{BranchView, RunStatus, RunView, View};
+use ndc_show::dump_text;
+use ndc_show::line::{push_branch_line, push_item, push_run_line, status_word};
 use ndc_state::{CloseKind, State};
 use std::alloc::{AllocError, Global};
 

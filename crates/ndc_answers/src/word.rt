@@ -2,8 +2,8 @@ ghost use Rattle.std.specs.Prelude.{◌≡◌, ◌++◌, codes, decimal, map, If
 ghost use Rattle.ndc_model.specs.Texts.{ok, refused, spaced};
 ghost use Rattle.ndc_answers.specs.Words.{word_text};
 
-use ndc_show::line::{push_key, push_number};
 use ndc_event::BatchKey;
+use ndc_show::line::{push_key, push_number};
 use std::alloc::{AllocError, Global};
 
 /// A word of an answer.

@@ -72,11 +72,7 @@ fn push_run(alloc: Global, text: &mut Vec<u8>, run: &RunView) -> Result<(), Allo
 }
 
 /// Appends runs with their branches and their states.
-pub fn push_runs(
-    alloc: Global,
-    text: &mut Vec<u8>,
-    runs: &[RunView],
-) -> Result<(), AllocError>
+pub fn push_runs(alloc: Global, text: &mut Vec<u8>, runs: &[RunView]) -> Result<(), AllocError>
     ensures { OnOk result (text.new.items ≡ text.old.items ++ flat_map run_state_lines runs.now) }
 {
     for run in runs {
