@@ -1,12 +1,12 @@
 -- What is read is what can be dumped: the names of the heading, and batches of its domain and workflow, of which there is one.
-use Rattle.std.proofs.Common.{◌≡◌, ℕ, ◌+◌, ◌==◌, Bool, true, false, not, List, [], ◌∷◌, length, map, codes, Option, Some, None, Result, Ok, Err, if◌then◌else◌, refl, sym, ap, ◌∙◌, subst}
+use Rattle.std.proofs.Common.{◌≡◌, ℕ, ◌+◌, ◌==◌, Bool, true, false, not, List, [], ◌∷◌, length, map, codes, Option, Some, None, Result, Ok, Err, IfOk, if◌then◌else◌, refl, sym, ap, ◌∙◌, subst}
 use Rattle.std.specs.Prelude.{◌≢◌}
 use Rattle.std.specs.List.{AllByRecursion, slice_split}
 use Rattle.std.specs.Str.{bytes_eq}
 use Rattle.std.proofs.lemmas.Bool.{and_parts}
 use Rattle.std.proofs.lemmas.Slice.Eq.{bytes_eq-Decides}
 use Rattle.ndc_event.specs.Name.{is_name}
-use Rattle.ndc_event.specs.Outcome.{◌>>=◌}
+use Rattle.ndc_event.specs.Outcome.{Gives, ◌>>=◌}
 use Rattle.ndc_event.specs.declared.batch.Batch.{Batch}
 use Rattle.ndc_event.specs.declared.key.BatchKey.{BatchKey}
 use Rattle.ndc_event.specs.declared.name.Name.{Name}
@@ -21,7 +21,7 @@ use Rattle.ndc_text.specs.declared.form.TextForm.{TextForm}
 use Rattle.ndc_text.specs.declared.form.TextForm.TheVariants as form
 use Rattle.ndc_dump.specs.declared.dump.Dump.{Dump}
 use Rattle.ndc_causes.specs.declared.error.DumpError.{DumpError}
-use Rattle.ndc_causes.specs.declared.error.DumpError.TheVariants.{Line}
+use Rattle.ndc_causes.specs.declared.error.DumpError.TheVariants.{Line, Memory}
 use Rattle.ndc_causes.specs.declared.error.LineCause.TheVariants as cause
 use Rattle.ndc_dump.specs.declared.frame.Heading.{Heading}
 use Rattle.ndc_dump.specs.Batches.{batch_on, batches_on, behind, is_behind, is_own, is_same_as, on_line, out_of_order, view_lines}
@@ -237,3 +237,9 @@ rebuilt bytes d e =
     let view = view-of-dump bytes d e in
     ap (λ v. dump_of (dump_text d.domain d.workflow v)) view ∙ dump-again d.domain d.workflow d.view.batches (can-be-dumped bytes d e)
     ∙ ap (λ v. Ok (record { domain = d.domain; workflow = d.workflow; view = v })) (sym view)
+
+-- what is read is a sound set
+pub given-sound : (bytes : List ℕ) (lines : List (List ℕ)) (r : Result Dump DumpError) → lines ≡ lines_of bytes → Gives Memory (λ dump. dump) r (dump_on lines) → IfOk r (λ dump. IsSound dump.view.batches)
+unfolding dump_of
+given-sound bytes lines (Ok d) e g = (can-be-dumped bytes d (ap dump_on (sym e) ∙ g)).sound
+given-sound bytes lines (Err error) e g = tt

@@ -7,7 +7,7 @@ use Rattle.ndc_event.specs.declared.key.BatchKey.{BatchKey}
 use Rattle.ndc_sets.specs.Learned.{has_key}
 use Rattle.ndc_sets.specs.Paths.{Walk, is_wanted, walk_over}
 use Rattle.ndc_sets.proofs.KeyLemmas.{same-keys}
-use Rattle.ndc_dump.specs.Keys.{is_listed, with_key}
+use Rattle.ndc_causes.specs.Keys.{is_listed, with_key}
 
 -- the same keys are listed as are those of the path so far, and the same key is wanted
 pub record IsSoFar (keys : List BatchKey) (wanted : Option BatchKey) (w : Walk) : Type 0 where

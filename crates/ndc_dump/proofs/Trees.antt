@@ -23,7 +23,7 @@ use Rattle.ndc_sets.proofs.PathLemmas.{none-wanted}
 use Rattle.ndc_text.specs.Views.{batch_line, batch_lines, branch_line, is_on_tip, run_line, tree_text}
 use Rattle.ndc_dump.specs.Marks.{current_key, marked_line, marked_lines, path_lines, run_tree}
 use Rattle.ndc_dump.specs.Groups.{listed}
-use Rattle.ndc_dump.specs.Keys.{is_listed}
+use Rattle.ndc_causes.specs.Keys.{is_listed}
 
 -- ---- marks
 

@@ -4,6 +4,5 @@ pub mod Batches
 pub mod Migrated
 pub mod Read
 pub mod Groups
-pub mod Keys
 pub mod Marks
 pub mod Printed

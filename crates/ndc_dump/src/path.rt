@@ -3,56 +3,11 @@ ghost use Rattle.std.specs.Prelude.{◌≡◌, map, IfOk, Some};
 ghost use Rattle.ndc_event.specs.declared.key.BatchKey.{BatchKey};
 ghost use Rattle.ndc_sets.specs.Learned.{has_key};
 ghost use Rattle.ndc_sets.specs.Paths.{path_from};
-ghost use Rattle.ndc_dump.specs.Keys.{is_listed};
+ghost use Rattle.ndc_causes.specs.Keys.{is_listed};
 
-use indexmap::IndexSet;
+use ndc_causes::keys::KeySet;
 use ndc_event::{Batch, BatchKey};
 use std::alloc::{AllocError, Global};
-use std::marker::Model;
-
-/// Keys of batches, in any order. The set finds a key without going over the others.
-#[derive(Drop)]
-pub(crate) struct KeySet {
-    keys: IndexSet<BatchKey>,
-}
-
-impl Model for KeySet {
-    ghost use Rattle.std.specs.Prelude.{List};
-    ghost use Rattle.ndc_event.specs.declared.key.BatchKey.{BatchKey};
-
-    ghost Value = { List BatchKey };
-
-    ghost view = { λ set. set.keys.keys };
-}
-
-impl KeySet {
-    ghost use Rattle.std.specs.Prelude.{◌≡◌, [], OnOk};
-    ghost use Rattle.ndc_dump.specs.Keys.{is_listed, with_key};
-
-    /// No key.
-    fn new(alloc: Global) -> KeySet
-        ensures { result ≡ [] }
-    {
-        KeySet {
-            keys: IndexSet::new(alloc),
-        }
-    }
-
-    /// Whether the key is listed.
-    pub(crate) fn contains(&self, key: BatchKey) -> bool
-        ensures { result ≡ is_listed key self.now }
-    {
-        self.keys.contains(&key)
-    }
-
-    /// Lists the key.
-    fn insert(&mut self, key: BatchKey) -> Result<(), AllocError>
-        ensures { OnOk result (self.new ≡ with_key key self.old) }
-    {
-        self.keys.insert(key)?;
-        Ok(())
-    }
-}
 
 /// The keys of the path among these batches that ends where this key is wanted: the batches are gone over once, from
 /// the last to the first.

@@ -1,6 +1,7 @@
 ghost use Rattle.std.specs.Prelude.{◌≡◌, ◌+◌, ◌≤◌, ◌<◌, ◌^◌, ◌++◌, Ok, codes, length, map, IfOk};
 ghost use Rattle.std.specs.List.{flat_map};
 ghost use Rattle.ndc_event.specs.Outcome.{Gives};
+ghost use Rattle.ndc_sets.specs.Sound.{IsSound};
 ghost use Rattle.ndc_sets.specs.View.{view_of};
 ghost use Rattle.ndc_text.specs.Views.{run_state_lines};
 ghost use Rattle.ndc_dump.specs.Batches.{batch_count, view_lines};
@@ -162,6 +163,7 @@ fn dump_on(alloc: Global, lines: &[&[u8]]) -> Result<Dump, DumpError>
 pub fn read_dump(alloc: Global, bytes: &[u8]) -> Result<Dump, DumpError>
     ensures gives { Gives Memory (λ dump. dump) result (dump_of bytes.now) }
     ensures shown { IfOk result (λ dump. dump.view ≡ view_of dump.view.batches) }
+    ensures sound { IfOk result (λ dump. IsSound dump.view.batches) }
 {
     let lines = lines_of(alloc, bytes)?;
     dump_on(alloc, lines.as_slice())

@@ -7,9 +7,10 @@ ghost use Rattle.ndc_dump.specs.Groups.{listed};
 ghost use Rattle.ndc_text.specs.Views.{branch_line, current_mark, parent_text, tree_text};
 ghost use Rattle.ndc_dump.specs.Marks.{batch_head, current_key, marked_line, marked_lines, run_tree};
 
-use crate::path::{KeySet, path_keys};
+use crate::path::path_keys;
 use crate::run_batches::{RunBatches, grouped};
 use ndc_causes::ids::{first_id, last_id};
+use ndc_causes::keys::KeySet;
 use ndc_event::{Batch, BatchKey, Event, Name};
 use ndc_sets::{BranchView, RunView, View};
 use ndc_show::line::{push_branch_line, push_key, push_mark, push_number, push_run_line};

@@ -2,6 +2,7 @@
 ghost use Rattle.std.specs.Prelude.{◌≡◌, ◌≢◌, ◌≤◌, ◌<◌, Ok, Err, Some, [], ◌∷◌, length, IfOk, IfErr, IfSome, IsOk, IsErr, IsErrAnd, OnOk, OnErr};
 ghost use Rattle.ndc_port.specs.Bytes.{Appends, AppendsFront};
 ghost use Rattle.ndc_port.specs.Fault.{Rose};
+ghost use Rattle.ndc_sets.specs.Sound.{IsSound};
 ghost use Rattle.ndc_sets.specs.View.{view_of};
 ghost use Rattle.ndc_dump.specs.Read.{dump_of};
 ghost use Rattle.ndc_report.specs.declared.error.RunError.TheVariants as run_error;
@@ -27,7 +28,8 @@ pub enum ShownAs {
 /// What is shown of a dump.
 #[tactic(auto, unfolding(crate::specs::Show::shown_text))]
 fn shown_text(alloc: Global, how: ShownAs, dump: &Dump) -> Result<Vec<u8>, AllocError>
-    requires { dump.now.view ≡ view_of dump.now.view.batches }
+    requires shown { dump.now.view ≡ view_of dump.now.view.batches }
+    requires sound { IsSound dump.now.view.batches }
     ensures { IfOk result (λ text. text.items ≡ shown_text how dump.now) }
 {
     match how {
@@ -43,7 +45,8 @@ fn write_shown<K: Sink>(
     dump: &Dump,
     out: &mut K,
 ) -> Result<(), RunError>
-    requires { dump.now.view ≡ view_of dump.now.view.batches }
+    requires shown { dump.now.view ≡ view_of dump.now.view.batches }
+    requires sound { IsSound dump.now.view.batches }
     ensures whole { OnOk result (Appends (K.written out.old) (K.written out.new) (shown_text how dump.now)) }
     ensures front { OnErr result (AppendsFront (K.written out.old) (K.written out.new) (shown_text how dump.now)) }
     ensures cause { result ≡ Err run_error.Write → Rose (K.faults out.old) (K.faults out.new) }
@@ -58,6 +61,7 @@ fn write_shown<K: Sink>(
 fn read_input<S: Source>(alloc: Global, source: &mut S) -> Result<Dump, Fault>
     ensures dump { IfOk result (λ dump. IfSome (S.left source.old) (λ bytes. (length bytes ≤ most_bytes) × (dump_of bytes ≡ Ok dump))) }
     ensures view { IfOk result (λ dump. dump.view ≡ view_of dump.view.batches) }
+    ensures sound { IfOk result (λ dump. IsSound dump.view.batches) }
     ensures end { OnOk result (IfSome (S.left source.old) (λ _. S.left source.new ≡ Some [])) }
     ensures fault { IfErr result (DumpFault (S.left source.old) (S.faults source.old) (S.faults source.new)) }
     ensures count { S.faults source.old ≤ S.faults source.new }
