@@ -1,5 +1,5 @@
 -- The tree of a view with its batches marked by the keys of a path.
-use Rattle.std.specs.Prelude.{Bool, ℕ, List, [], ◌∷◌, ◌++◌, codes, decimal, find, Option, Some}
+use Rattle.std.specs.Prelude.{Bool, ℕ, List, ◌++◌, codes, decimal, find, Option, Some}
 use Rattle.std.specs.List.{flat_map}
 use Rattle.std.specs.Option.{option_map}
 use Rattle.ndc_event.specs.declared.batch.Batch.{Batch}

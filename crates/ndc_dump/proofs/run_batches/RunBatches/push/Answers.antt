@@ -1,4 +1,4 @@
-use Rattle.std.proofs.Common.{ap, ◌∙◌, sym, subst, List, map, ◌++◌, [], ◌∷◌, Option, ◌≡◌}
+use Rattle.std.proofs.Common.{ap, ◌∙◌, List, map, ◌++◌, [], ◌∷◌}
 use Rattle.std.specs.Option.{unwrap_or}
 use Rattle.std.proofs.lemmas.List.{map-append}
 use Rattle.ndc_event.specs.declared.key.RunId.{RunId}
