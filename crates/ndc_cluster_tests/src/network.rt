@@ -87,8 +87,8 @@ fn in_the_beginning(alloc: Global) -> Result<Opened, Fail>
     ensures orderly { IfOk result (λ opened. IsOrderly opened.header opened.network) }
 {
     let mut members = Vec::new(alloc);
-    members.push((name(alloc, "A")?, 1))?;
-    members.push((name(alloc, "B")?, 2))?;
+    members.push((Name::new(alloc, b"A".as_slice())?, 1))?;
+    members.push((Name::new(alloc, b"B".as_slice())?, 2))?;
     let header = Header {
         clusters: Clusters::build(10, members)?,
         shards: 1,
