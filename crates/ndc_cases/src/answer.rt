@@ -3,8 +3,9 @@ ghost use Rattle.std.specs.Prelude.{◌≡◌, [], IfOk};
 ghost use Rattle.ndc_act.specs.Print.{script_text};
 ghost use Rattle.ndc_read.specs.Body.{script_of};
 
+use crate::faulty::Faulty;
 use ndc_index::{Indexer, KindsIndexer, OpenIndexer, SignalsIndexer};
-use ndc_port::{MemSink, MemSource, OpenGate};
+use ndc_port::{Gate, MemSink, MemSource, OpenGate, PairGate};
 use ndc_script::{Script, ScriptError, generate, parse, print};
 use ndc_text::{TextError, print_batch, read_batch, read_batch_1};
 use ndc_top::ndc_top;
@@ -13,7 +14,7 @@ use std::alloc::{AllocError, Global};
 use std::thread::Threads;
 
 /// How many bytes a call may print.
-const ROOM: usize = 1_048_576;
+const ROOM: u64 = 1_048_576;
 
 /// What a call answers: its status, what it printed, and what it told on standard error.
 #[derive(Drop)]
@@ -47,10 +48,53 @@ fn printed(alloc: Global, output: Vec<u8>) -> Answer
     }
 }
 
-/// What the program answers on these words, with the three indexers that it ships.
-fn ndc_answer<R: Threads + Sync>(
+/// What fails of what a call is given: which call of the source and of both sinks and of the indexer `faulty`, counted
+/// from 1, none where the number is 0; and how many bytes the call may print.
+#[derive(Clone, Copy)]
+struct Faults {
+    read: u64,
+    write: u64,
+    tell: u64,
+    told: u64,
+    room: u64,
+}
+
+/// Nothing fails.
+const NO_FAULTS: Faults = Faults {
+    read: 0,
+    write: 0,
+    tell: 0,
+    told: 0,
+    room: ROOM,
+};
+
+/// The faults that five numbers name.
+fn faults_of(numbers: &[&[u8]]) -> Option<Faults> {
+    match numbers {
+        [read, write, tell, told, room] => Some(Faults {
+            read: number_of(read)?,
+            write: number_of(write)?,
+            tell: number_of(tell)?,
+            told: number_of(told)?,
+            room: number_of(room)?,
+        }),
+        _ => None,
+    }
+}
+
+/// The list of one call that fails.
+fn failing(alloc: Global, call: u64) -> Result<Vec<u64>, AllocError> {
+    let mut calls = Vec::new(alloc);
+    calls.push(call)?;
+    Ok(calls)
+}
+
+/// What the program answers on these words, with the three indexers that it ships and one that fails.
+fn ndc_answer<R: Threads + Sync, G: Gate>(
     rt: &R,
     alloc: Global,
+    gate: &G,
+    faults: Faults,
     words: &[&[u8]],
     input: &[u8],
 ) -> Result<Answer, AllocError>
@@ -60,13 +104,15 @@ fn ndc_answer<R: Threads + Sync>(
     for word in words {
         given.push(String::from_utf8_lossy(alloc, word)?)?;
     }
-    let mut source = MemSource::new(Vec::from_slice(alloc, input)?, Vec::new(alloc));
-    let mut out = MemSink::new(alloc, ROOM, Vec::new(alloc))?;
-    let mut err = MemSink::new(alloc, ROOM, Vec::new(alloc))?;
+    let input = Vec::from_slice(alloc, input)?;
+    let mut source = MemSource::new(input, failing(alloc, faults.read)?);
+    let mut out = MemSink::new(alloc, faults.room as usize, failing(alloc, faults.write)?)?;
+    let mut err = MemSink::new(alloc, ROOM as usize, failing(alloc, faults.tell)?)?;
     let mut indexers: Vec<Box<dyn Indexer>> = Vec::new(alloc);
     indexers.push(Box::new(alloc, KindsIndexer::new(alloc))?)?;
     indexers.push(Box::new(alloc, OpenIndexer::new(alloc))?)?;
     indexers.push(Box::new(alloc, SignalsIndexer::new(alloc))?)?;
+    indexers.push(Box::new(alloc, Faulty::new(alloc, faults.told))?)?;
     let status = ndc_top(
         rt,
         alloc,
@@ -74,7 +120,7 @@ fn ndc_answer<R: Threads + Sync>(
         &mut source,
         &mut out,
         &mut err,
-        &OpenGate {},
+        gate,
         indexers,
     );
     Ok(Answer {
@@ -82,6 +128,36 @@ fn ndc_answer<R: Threads + Sync>(
         output: Vec::from_slice(alloc, out.bytes())?,
         told: Vec::from_slice(alloc, err.bytes())?,
     })
+}
+
+/// What the program answers where something fails that it is given: behind five numbers.
+fn faulty_answer<R: Threads + Sync>(
+    rt: &R,
+    alloc: Global,
+    numbers: &[&[u8]],
+    words: &[&[u8]],
+    input: &[u8],
+) -> Result<Answer, AllocError> {
+    match faults_of(numbers) {
+        Some(faults) => ndc_answer(rt, alloc, &OpenGate {}, faults, words, input),
+        None => refused(alloc, 2, "no such numbers"),
+    }
+}
+
+/// What the program answers where the first worker of a round waits for the second; refused where they never met.
+fn paired_answer<R: Threads + Sync>(
+    rt: &R,
+    alloc: Global,
+    words: &[&[u8]],
+    input: &[u8],
+) -> Result<Answer, AllocError> {
+    let pair = PairGate::new();
+    let answer = ndc_answer(rt, alloc, &pair, NO_FAULTS, words, input)?;
+    if pair.met() {
+        Ok(answer)
+    } else {
+        refused(alloc, 2, "the workers did not meet")
+    }
 }
 
 /// A script, read and printed again.
@@ -134,7 +210,16 @@ pub fn answer_of<R: Threads + Sync>(
         .filter(|word| !word.is_empty())
         .collect(alloc)?;
     match words.as_slice() {
-        [program, rest @ ..] if *program == b"ndc".as_slice() => ndc_answer(rt, alloc, rest, input),
+        [program, rest @ ..] if *program == b"ndc".as_slice() => {
+            ndc_answer(rt, alloc, &OpenGate {}, NO_FAULTS, rest, input)
+        }
+        [word, read, write, tell, told, room, _, rest @ ..] if *word == b"faulty".as_slice() => {
+            let numbers = [*read, *write, *tell, *told, *room];
+            faulty_answer(rt, alloc, &numbers, rest, input)
+        }
+        [word, _, rest @ ..] if *word == b"paired".as_slice() => {
+            paired_answer(rt, alloc, rest, input)
+        }
         [word] if *word == b"script".as_slice() => script_answer(alloc, input),
         [word, count, seed] if *word == b"generated".as_slice() => {
             generated_answer(alloc, count, seed)

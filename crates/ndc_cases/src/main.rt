@@ -5,7 +5,9 @@
 //! case ends at an empty line:
 //!
 //! - `== NAME`: the case's name.
-//! - `$ WORDS`: the call: `ndc` with its words, `script` (a script is read and printed), `generated COUNT SEED`
+//! - `$ WORDS`: the call: `ndc` with its words; `faulty READ WRITE TELL TOLD ROOM ndc ..` (the call of the source, of
+//!   both sinks and of the indexer `faulty` that fails, 0 for none, and how many bytes may be printed); `paired ndc ..`
+//!   (the first worker of a round waits for the second); `script` (a script is read and printed), `generated COUNT SEED`
 //!   (a script is generated and printed), `batch` and `bare` (a batch is read and printed, or one without carrier).
 //! - `> TEXT`: a line of input; `>- TEXT`: the last one, without its line end; `>x DIGITS`: bytes in hexadecimal;
 //!   `>* COUNT TEXT`: a line so many times.
@@ -16,6 +18,7 @@
 
 mod answer;
 mod case;
+mod faulty;
 mod line;
 mod verdict;
 
@@ -26,7 +29,7 @@ use std::thread::Threads;
 use std::{fs, io};
 
 /// The files of transcripts.
-const FILES: [&str; 11] = [
+const FILES: [&str; 12] = [
     "examples.cases",
     "words.cases",
     "faults.cases",
@@ -38,6 +41,7 @@ const FILES: [&str; 11] = [
     "batches.cases",
     "dumps.cases",
     "damaged.cases",
+    "outside.cases",
 ];
 
 /// Runs a case that is whole and counts what comes of it. What has no name is none.

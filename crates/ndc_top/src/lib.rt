@@ -9,8 +9,6 @@ mod make;
 mod output;
 mod run;
 mod show;
-#[cfg(test)]
-mod tests;
 mod top;
 
 pub use top::ndc_top;
