@@ -92,10 +92,9 @@ fn push_run(alloc: Global, text: &mut Vec<u8>, run: &RunView) -> Result<(), Allo
 }
 
 /// How many runs there are, and their lines with those of their branches.
-pub fn branches(alloc: Global, view: &View) -> Result<Vec<u8>, AllocError>
-    ensures { IfOk result (λ text. text.items ≡ ok (decimal (length view.now.runs) ∷ []) ++ flat_map run_lines view.now.runs) }
+pub fn branches(alloc: Global, runs: &[RunView]) -> Result<Vec<u8>, AllocError>
+    ensures { IfOk result (λ text. text.items ≡ ok (decimal (length runs.now) ∷ []) ++ flat_map run_lines runs.now) }
 {
-    let runs = view.runs.as_slice();
     let mut text = counted(alloc, runs.len() as u64)?;
     for run in runs {
         push_run(alloc, &mut text, run)?;

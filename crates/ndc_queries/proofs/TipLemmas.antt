@@ -12,7 +12,7 @@ use Rattle.ndc_sets.specs.Branches.{current_tip, current_tips, has_child, is_cur
 use Rattle.ndc_sets.specs.Current.{current_state, run_status, state_at, state_to, status_of}
 use Rattle.ndc_sets.proofs.BranchLemmas.{greatest-among, run-same, same-run}
 use Rattle.ndc_sets.proofs.Lists.{Among, filter-among, filter_map-among, find-among}
-use Rattle.ndc_model.specs.Reading.{current_answer, history_answer, read_answer, tip_answer}
+use Rattle.ndc_model.specs.Reading.{branches_answer, current_answer, history_answer, read_answer, tip_answer}
 use Rattle.ndc_model.specs.Texts.{event_line, ok}
 use Rattle.ndc_queries.specs.Learned.{current_text, history_text}
 use Rattle.ndc_sets.specs.Paths.{events_to, path_to}
@@ -22,6 +22,14 @@ use Rattle.ndc_state.specs.Value.{StateValue}
 use Rattle.ndc_text.specs.Views.{key_text, status_text}
 use Rattle.ndc_tree.specs.Last.{is_nil}
 use Rattle.ndc_tree.specs.Reading.{path_at}
+
+-- where anything is learned, the line is answered
+answered : (answer : List Batch → List ℕ) (batches : List Batch) → is_nil batches ≡ false → read_answer answer batches ≡ answer batches
+answered answer [] some = absurd (cc)
+answered answer (b ∷ batches) some = refl
+
+pub branches_read : (batches : List Batch) → is_nil batches ≡ false → branches_answer batches ≡ read_answer branches_answer batches
+branches_read batches some = sym (answered branches_answer batches some)
 
 module _ (batches : List Batch) (tip : Batch) (is : workflow_tip batches ≡ Some tip) where
   of-run : (run : RunId) × Among run (runs batches) × (current_tip run batches ≡ Some tip)
@@ -46,13 +54,6 @@ module _ (batches : List Batch) (tip : Batch) (is : workflow_tip batches ≡ Som
   state-is : (s : StateValue) → Some s ≡ state_under (workflow_tip batches) batches → s ≡ state_to tip.run tip.key batches
   state-is s e = let both : Some s ≡ Some (state_to tip.run tip.key batches) = e ∙ ap (λ o. state_under o batches) is in cc
 
-  answered : (answer : List Batch → List ℕ) → is_nil batches ≡ false → read_answer answer batches ≡ answer batches
-  answered answer some = by batches some
-    where
-      by : (l : List Batch) → is_nil l ≡ false → read_answer answer l ≡ answer l
-      by [] e = absurd (cc)
-      by (b ∷ l) e = refl
-
 -- the answers of lines on the current run and on the history
 pub current_read : (batches : List Batch) (tip : Batch) (s : StateValue) → is_nil batches ≡ false → Some tip ≡ workflow_tip batches → Some s ≡ state_under (workflow_tip batches) batches
     → current_text tip s ≡ read_answer current_answer batches
@@ -60,14 +61,14 @@ current_read batches tip s some is state =
     ap (current_text tip) (state-is batches tip (sym is) s state)
     ∙ ap (λ status. ok (run_text tip.run ∷ key_text tip.key ∷ status_text status (state_to tip.run tip.key batches).close ∷ [])) (sym (status-is batches tip (sym is)))
     ∙ ap (tip_answer (λ t. ok (run_text t.run ∷ key_text t.key ∷ status_text (run_status t.run batches) (state_to t.run t.key batches).close ∷ []))) is
-    ∙ sym (answered batches tip (sym is) current_answer some)
+    ∙ sym (answered current_answer batches some)
 
 pub history_read : (batches : List Batch) (tip : Batch) (path : Option (List Batch)) → is_nil batches ≡ false → Some tip ≡ workflow_tip batches → path ≡ path_at tip.key batches
     → history_text path ≡ read_answer history_answer batches
 history_read batches tip path some is found =
     ap history_text found ∙ by (batch_at tip.key batches) refl
     ∙ ap (tip_answer (λ t. ok (decimal (length (events_to t.key batches)) ∷ []) ++ flat_map event_line (events_to t.key batches))) is
-    ∙ sym (answered batches tip (sym is) history_answer some)
+    ∙ sym (answered history_answer batches some)
   where
     line : List Batch → List ℕ
     line l = ok (decimal (length (history_of l)) ∷ []) ++ flat_map event_line (history_of l)

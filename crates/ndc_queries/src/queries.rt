@@ -71,14 +71,16 @@ pub fn state(alloc: Global, runs: &Runs) -> Result<Vec<u8>, AllocError>
     }
 }
 
-/// What `branches` answers: the runs with their branches.
+/// What `branches` answers: the runs with their branches. No batch is copied.
+#[tactic(auto, using(crate::proofs::TipLemmas::branches_read))]
 pub fn branches<L>(alloc: Global, runs: &Runs, steps: &mut Steps<L>) -> Result<Vec<u8>, AllocError>
     ensures { IfOk result (λ text. text.items ≡ read_answer branches_answer runs.now) }
 {
-    match runs.view(alloc, steps)? {
-        Some(view) => ndc_answers::branches(alloc, &view),
-        None => ndc_answers::no_workflow(alloc),
+    if runs.is_empty() {
+        return ndc_answers::no_workflow(alloc);
     }
+    let shown = runs.runs_shown(alloc, steps)?;
+    ndc_answers::branches(alloc, shown.as_slice())
 }
 
 /// What `dump` answers: how many batches are learned, and the dump.
