@@ -1,5 +1,5 @@
 -- The run of a script: what is written, and why it ends with a fault.
-use Rattle.std.specs.Prelude.{◌≡◌, ℕ, ◌<◌, ◌≤◌, ⊤, true, false, IsOkAnd, IfOk, IfSome, length, Some, List, [], ◌++◌, Option, Err}
+use Rattle.std.specs.Prelude.{◌≡◌, ◌⊎◌, ℕ, ◌<◌, ◌≤◌, ⊤, true, false, IsOkAnd, IfSome, length, Some, List, [], ◌++◌, Option, Err}
 use Rattle.ndc_act.specs.declared.script.ScriptError.{ScriptError}
 use Rattle.ndc_act.specs.declared.script.ScriptError.TheVariants.{Refused, Memory}
 use Rattle.ndc_event.specs.declared.name.Name.{Name}
@@ -17,14 +17,14 @@ abbrev pub Succeeds : List IndexerValue → List Name → List Name → Option (
 Succeeds all index late left rest before after =
     IfSome left (λ bytes. (length bytes ≤ most_bytes) × (rest ≡ Some []) × IsOkAnd (script_of bytes) (λ script. Reports script all index late before after × KeepsPromises script))
 
--- where the bytes are a script, a front of its report was written
-abbrev pub FrontOfReport : List IndexerValue → List Name → List Name → Option (List ℕ) → Option (List ℕ) → Option (List ℕ) → Type 0
-FrontOfReport all index late left before after = IfSome left (λ bytes. IfOk (script_of bytes) (λ script. ReportsFront script all index late before after))
-
 -- a script was read, and a front of its report was written
 abbrev pub StopsWithin : List IndexerValue → List Name → List Name → Option (List ℕ) → Option (List ℕ) → Option (List ℕ) → Type 0
 StopsWithin all index late left before after =
     IfSome left (λ bytes. (length bytes ≤ most_bytes) × IsOkAnd (script_of bytes) (λ script. ReportsFront script all index late before after))
+
+-- nothing was written, or a script was read and a front of its report was written
+abbrev pub FrontOfReport : List IndexerValue → List Name → List Name → Option (List ℕ) → Option (List ℕ) → Option (List ℕ) → Type 0
+FrontOfReport all index late left before after = (after ≡ before) ⊎ StopsWithin all index late left before after
 
 -- why reading a script ends with a fault
 abbrev pub ReadFault : Option (List ℕ) → ℕ → ℕ → Fault → Type 0

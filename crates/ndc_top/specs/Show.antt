@@ -1,5 +1,5 @@
 -- What is shown of a dump, and why showing one ends with a fault.
-use Rattle.std.specs.Prelude.{◌≡◌, ℕ, ◌<◌, ◌≤◌, ⊤, IsOkAnd, IfOk, IfSome, length, Some, List, [], Option, Err}
+use Rattle.std.specs.Prelude.{◌≡◌, ◌⊎◌, ℕ, ◌<◌, ◌≤◌, ⊤, IsOkAnd, IfSome, length, Some, List, [], Option, Err}
 use Rattle.ndc_port.specs.Bytes.{Appends, AppendsFront}
 use Rattle.ndc_port.specs.Fault.{Rose}
 use Rattle.ndc_text.specs.Views.{dump_text, tree_text}
@@ -24,14 +24,14 @@ abbrev pub Shows : ShownAs → Option (List ℕ) → Option (List ℕ) → Optio
 Shows how left rest before after =
     IfSome left (λ bytes. (length bytes ≤ most_bytes) × (rest ≡ Some []) × IsOkAnd (dump_of bytes) (λ dump. Appends before after (shown_text how dump)))
 
--- where the bytes are a dump, a front of what is shown of it was written
-abbrev pub ShowsFront : ShownAs → Option (List ℕ) → Option (List ℕ) → Option (List ℕ) → Type 0
-ShowsFront how left before after = IfSome left (λ bytes. IfOk (dump_of bytes) (λ dump. AppendsFront before after (shown_text how dump)))
-
 -- a dump was read, and a front of what is shown of it was written
 abbrev pub StopsShowing : ShownAs → Option (List ℕ) → Option (List ℕ) → Option (List ℕ) → Type 0
 StopsShowing how left before after =
     IfSome left (λ bytes. (length bytes ≤ most_bytes) × IsOkAnd (dump_of bytes) (λ dump. AppendsFront before after (shown_text how dump)))
+
+-- nothing was written, or a dump was read and a front of what is shown of it was written
+abbrev pub ShowsFront : ShownAs → Option (List ℕ) → Option (List ℕ) → Option (List ℕ) → Type 0
+ShowsFront how left before after = (after ≡ before) ⊎ StopsShowing how left before after
 
 -- why reading a dump ends with a fault
 abbrev pub DumpFault : Option (List ℕ) → ℕ → ℕ → Fault → Type 0
@@ -55,7 +55,7 @@ ShowFault how old new (fault.DumpBatch key cause) =
 ShowFault how old new fault.Read = Rose old.source_faults new.source_faults × (new.written ≡ old.written)
 ShowFault how old new fault.Write = Rose old.out_faults new.out_faults × StopsShowing how old.left old.written new.written
 ShowFault how old new fault.Limit = IfSome old.left (λ bytes. most_bytes < length bytes) × (new.written ≡ old.written)
-ShowFault how old new fault.Memory = ShowsFront how old.left old.written new.written
+ShowFault how old new fault.Memory = new.written ≡ old.written
 
 -- the line on a faulty dump was written, or a front of it and a fault came
 abbrev pub TellsDumpError : Option (List ℕ) → Option (List ℕ) → ℕ → ℕ → DumpError → Type 0

@@ -57,7 +57,8 @@ fn run<R: Threads + Sync, S: Source, K: Sink, G: Gate>(
     requires differ { AllPairs (λ one two. one ≢ two) (index.now ++ late.now) }
     requires new { AreNew (map (λ b. shown (title b) (failing b) (list b)) indexers.items) }
     ensures known { OnOk result (all_known (map (λ b. shown (title b) (failing b) (list b)) indexers.items) (index.now ++ late.now) ≡ true) }
-    ensures unknown { all_known (map (λ b. shown (title b) (failing b) (list b)) indexers.items) (index.now ++ late.now) ≡ false → IfErr result (λ fault. IsAmong (status_of fault) (2 ∷ 8 ∷ [])) }
+    ensures unknown { all_known (map (λ b. shown (title b) (failing b) (list b)) indexers.items) (index.now ++ late.now) ≡ false
+        → IfErr result (λ fault. IsAmong (status_of fault) (2 ∷ 8 ∷ [])) × (source.new ≡ source.old) × (out.new ≡ out.old) }
     ensures done { OnOk result (Succeeds (map (λ b. shown (title b) (failing b) (list b)) indexers.items) index.now late.now (S.left source.old) (S.left source.new) (K.written out.old) (K.written out.new)) }
     ensures fault { IfErr result (RunFault (map (λ b. shown (title b) (failing b) (list b)) indexers.items) index.now late.now
         (record { left = S.left source.old; source_faults = S.faults source.old; written = K.written out.old; out_faults = K.faults out.old })
@@ -99,6 +100,8 @@ pub fn run_input<R: Threads + Sync, S: Source, K: Sink, E: Sink, G: Gate>(
     requires new { AreNew (map (λ b. shown (title b) (failing b) (list b)) indexers.items) }
     ensures words { result ≡ 2 → all_known (map (λ b. shown (title b) (failing b) (list b)) indexers.items) (index.now ++ late.now) ≡ false }
     ensures unknown { all_known (map (λ b. shown (title b) (failing b) (list b)) indexers.items) (index.now ++ late.now) ≡ false → IsAmong result (2 ∷ 8 ∷ []) }
+    ensures unknown_source { all_known (map (λ b. shown (title b) (failing b) (list b)) indexers.items) (index.now ++ late.now) ≡ false → source.new ≡ source.old }
+    ensures unknown_out { all_known (map (λ b. shown (title b) (failing b) (list b)) indexers.items) (index.now ++ late.now) ≡ false → out.new ≡ out.old }
     ensures dump { result ≢ 7 }
     ensures done { result ≡ 0 → Succeeds (map (λ b. shown (title b) (failing b) (list b)) indexers.items) index.now late.now (S.left source.old) (S.left source.new) (K.written out.old) (K.written out.new) }
     ensures silent { result ≡ 0 → E.written err.new ≡ E.written err.old }

@@ -50,6 +50,7 @@ fn write_shown<K: Sink>(
     ensures whole { OnOk result (Appends (K.written out.old) (K.written out.new) (shown_text how dump.now)) }
     ensures front { OnErr result (AppendsFront (K.written out.old) (K.written out.new) (shown_text how dump.now)) }
     ensures cause { result ≡ Err run_error.Write → Rose (K.faults out.old) (K.faults out.new) }
+    ensures unwritten { result ≡ Err run_error.Memory → K.written out.new ≡ K.written out.old }
     ensures count { K.faults out.old ≤ K.faults out.new }
 {
     let text = shown_text(alloc, how, dump)?;

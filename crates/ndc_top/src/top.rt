@@ -47,6 +47,12 @@ fn perform<R: Threads + Sync, S: Source, K: Sink, E: Sink, G: Gate>(
     ensures words { result ≡ 2 → is_refused (map (λ b. shown (title b) (failing b) (list b)) indexers.items) (Some asked) ≡ true }
     ensures refused { is_refused (map (λ b. shown (title b) (failing b) (list b)) indexers.items) (Some asked) ≡ true → IsAmong result (2 ∷ 8 ∷ []) }
 
+    // Where the words are refused nothing is read or written; what asks for no input reads nothing.
+    ensures refused_source { is_refused (map (λ b. shown (title b) (failing b) (list b)) indexers.items) (Some asked) ≡ true → source.new ≡ source.old }
+    ensures refused_out { is_refused (map (λ b. shown (title b) (failing b) (list b)) indexers.items) (Some asked) ≡ true → out.new ≡ out.old }
+    ensures made_source { IfMade (Some asked) (λ _ _. source.new ≡ source.old) }
+    ensures demo_source { IfDemo (Some asked) (λ _. source.new ≡ source.old) }
+
     // What was done at status 0, by what was asked for.
     ensures run { IfRun (Some asked) (λ index late. result ≡ 0 → Succeeds (map (λ b. shown (title b) (failing b) (list b)) indexers.items) index late (S.left source.old) (S.left source.new) (K.written out.old) (K.written out.new)) }
     ensures shown { IfShown (Some asked) (λ how. result ≡ 0 → Shows how (S.left source.old) (S.left source.new) (K.written out.old) (K.written out.new)) }
@@ -78,7 +84,7 @@ fn perform<R: Threads + Sync, S: Source, K: Sink, E: Sink, G: Gate>(
     ensures whole_made { IfMade (Some asked) (λ _ _. IsAmong result (0 ∷ 5 ∷ 8 ∷ [])) }
     ensures whole_demo { IfDemo (Some asked) (λ _. IsAmong result (0 ∷ 5 ∷ 8 ∷ [])) }
 
-    // What is written: nothing before the output begins, and never more than a front of it.
+    // What is written: nothing before the output begins or where the input is none, and never more than a front of it.
     ensures early { IsAmong result (2 ∷ 3 ∷ 4 ∷ 6 ∷ 7 ∷ []) → K.written out.new ≡ K.written out.old }
     ensures front { IfRun (Some asked) (λ index late. result ≢ 0 → FrontOfReport (map (λ b. shown (title b) (failing b) (list b)) indexers.items) index late (S.left source.old) (K.written out.old) (K.written out.new)) }
     ensures shown_front { IfShown (Some asked) (λ how. result ≢ 0 → ShowsFront how (S.left source.old) (K.written out.old) (K.written out.new)) }
@@ -109,11 +115,12 @@ fn perform<R: Threads + Sync, S: Source, K: Sink, E: Sink, G: Gate>(
 /// `rebuild` reads a dump and prints it again from its batches, `inspect` prints its trees; `make` prints a script that
 /// is drawn from a seed, and `demo` shows what becomes of one. The indexers were told nothing yet.
 ///
-/// 0 where the input was read to its end and all was written; 2 exactly where the words are refused or name an indexer
-/// that is not there; 3 exactly where the input of `run` is no script; 4 only where reading failed; 5 only where writing
-/// failed; 6 exactly where the input has more than 16,777,216 bytes; 7 exactly where the input of `rebuild` or `inspect`
-/// is no dump; 8 where memory ran out. After a fault a line on `err` tells of it. The order of the statuses is 2, 4, 6,
-/// 3, 7, 5.
+/// 0 where the input was read to its end and all was written; 2 only where the words are refused or name an indexer that
+/// is not there; 3 only where the input of `run` is no script; 4 only where reading failed; 5 only where writing failed; 6
+/// only where the input has more than 16,777,216 bytes; 7 only where the input of `rebuild` or `inspect` is no dump; 8
+/// where memory ran out, which may be at any time. The order of the statuses is 2, 4, 6, 3, 7, 5, so where memory suffices
+/// and reading does not fail, 2, 3, 6 and 7 come exactly where they may. After a fault a line on `err` tells of it. Refused words read and write nothing, and `make` and `demo` read nothing. Whatever the status, `out` has what
+/// it had, followed by a front of what is to be written; by nothing where the input is no script or no dump.
 pub fn ndc_top<R: Threads + Sync, S: Source, K: Sink, E: Sink, G: Gate>(
     rt: &R,
     alloc: Global,
@@ -127,6 +134,12 @@ pub fn ndc_top<R: Threads + Sync, S: Source, K: Sink, E: Sink, G: Gate>(
     requires new { AreNew (map (λ b. shown (title b) (failing b) (list b)) indexers.items) }
     ensures words { result ≡ 2 → is_refused (map (λ b. shown (title b) (failing b) (list b)) indexers.items) (asked_of (map string_bytes words.now)) ≡ true }
     ensures refused { is_refused (map (λ b. shown (title b) (failing b) (list b)) indexers.items) (asked_of (map string_bytes words.now)) ≡ true → IsAmong result (2 ∷ 8 ∷ []) }
+
+    // Where the words are refused nothing is read or written; what asks for no input reads nothing.
+    ensures refused_source { is_refused (map (λ b. shown (title b) (failing b) (list b)) indexers.items) (asked_of (map string_bytes words.now)) ≡ true → source.new ≡ source.old }
+    ensures refused_out { is_refused (map (λ b. shown (title b) (failing b) (list b)) indexers.items) (asked_of (map string_bytes words.now)) ≡ true → out.new ≡ out.old }
+    ensures made_source { IfMade (asked_of (map string_bytes words.now)) (λ _ _. source.new ≡ source.old) }
+    ensures demo_source { IfDemo (asked_of (map string_bytes words.now)) (λ _. source.new ≡ source.old) }
 
     // What was done at status 0, by what was asked for.
     ensures run { IfRun (asked_of (map string_bytes words.now)) (λ index late. result ≡ 0 → Succeeds (map (λ b. shown (title b) (failing b) (list b)) indexers.items) index late (S.left source.old) (S.left source.new) (K.written out.old) (K.written out.new)) }
@@ -159,7 +172,7 @@ pub fn ndc_top<R: Threads + Sync, S: Source, K: Sink, E: Sink, G: Gate>(
     ensures whole_made { IfMade (asked_of (map string_bytes words.now)) (λ _ _. IsAmong result (0 ∷ 5 ∷ 8 ∷ [])) }
     ensures whole_demo { IfDemo (asked_of (map string_bytes words.now)) (λ _. IsAmong result (0 ∷ 5 ∷ 8 ∷ [])) }
 
-    // What is written: nothing before the output begins, and never more than a front of it.
+    // What is written: nothing before the output begins or where the input is none, and never more than a front of it.
     ensures early { IsAmong result (2 ∷ 3 ∷ 4 ∷ 6 ∷ 7 ∷ []) → K.written out.new ≡ K.written out.old }
     ensures front { IfRun (asked_of (map string_bytes words.now)) (λ index late. result ≢ 0 → FrontOfReport (map (λ b. shown (title b) (failing b) (list b)) indexers.items) index late (S.left source.old) (K.written out.old) (K.written out.new)) }
     ensures shown_front { IfShown (asked_of (map string_bytes words.now)) (λ how. result ≢ 0 → ShowsFront how (S.left source.old) (K.written out.old) (K.written out.new)) }

@@ -1,16 +1,16 @@
-use Rattle.std.proofs.Common.{Err, ◌∙◌, ap, refl, sym}
+use Rattle.std.proofs.Common.{Err, inl, inr, ◌∙◌, ap, refl, sym}
 use Rattle.std.proofs.lemmas.Bool.{false≢true}
 use Rattle.ndc_promises.proofs.PromiseLemmas.{keeps_promises}
 use Rattle.ndc_report.proofs.SeatLemmas.{reports_front, reports_whole, seated_chosen, unknown_chosen}
 use Rattle.ndc_top.specs.Top.{Streams}
-use Rattle.ndc_top.proofs.Endings.{front_of_report, read_fault, stops_within, succeeds, unreported}
+use Rattle.ndc_top.proofs.Endings.{read_fault, stops_within, succeeds}
 use Rattle.ndc_top.proofs.run.run.Goals as goal
 
 pub returns-in-Err-UnknownIndexer-clause-fault : goal.returns-in-Err-UnknownIndexer-clause-fault
 returns-in-Err-UnknownIndexer-clause-fault g c = (unknown_chosen _ c.args.index.now c.args.late.now c.requires.differ (c.in-Err-UnknownIndexer.ensures.unknown (ap (λ e. Err e) c.in-Err-UnknownIndexer.field-0-is)), refl)
 
 pub returns-in-Err-Memory-clause-fault : goal.returns-in-Err-Memory-clause-fault
-returns-in-Err-Memory-clause-fault g c = unreported _ c.args.index.now c.args.late.now (g.S.Source.left c.args.source.now) (g.K.Sink.written c.args.out.now) (g.K.Sink.written c.args.out.now) refl
+returns-in-Err-Memory-clause-fault g c = inl refl
 
 -- reading has written nothing
 pub returns-in-Err-clause-fault : goal.returns-in-Err-clause-fault
@@ -23,6 +23,17 @@ returns-in-Err-clause-fault g c =
 
 pub returns-in-Err-clause-unknown : goal.returns-in-Err-clause-unknown
 returns-in-Err-clause-unknown g c = λ e.
+    let seated = seated_chosen _ c.args.index.now c.args.late.now _ _ c.requires.differ c.in-Ok.ensures.chosen in
+    absurd (false≢true (sym e ∙ seated.both_known))
+
+-- behind the choice of indexers none was refused
+pub returns-in-Ok-run_script-clause-unknown : goal.returns-in-Ok-run_script-clause-unknown
+returns-in-Ok-run_script-clause-unknown g c = λ e.
+    let seated = seated_chosen _ c.args.index.now c.args.late.now _ _ c.requires.differ c.in-Ok.ensures.chosen in
+    absurd (false≢true (sym e ∙ seated.both_known))
+
+pub returns-clause-unknown : goal.returns-clause-unknown
+returns-clause-unknown g c = λ e.
     let seated = seated_chosen _ c.args.index.now c.args.late.now _ _ c.requires.differ c.in-Ok.ensures.chosen in
     absurd (false≢true (sym e ∙ seated.both_known))
 
@@ -60,5 +71,5 @@ returns-clause-fault g c =
     let script = c.in-Ok-read_script.script in
     let before = g.K.Sink.written c.args.out.now in
     let after = g.K.Sink.written c.run_script.new.out in
-    front_of_report _ c.args.index.now c.args.late.now (g.S.Source.left c.args.source.now) script c.in-Ok-read_script.ensures.script before after
-    (reports_front _ script c.args.index.now c.args.late.now _ _ c.requires.new seated before after c.in-Err-Memory-run_script.ensures.front)
+    inr (stops_within _ c.args.index.now c.args.late.now (g.S.Source.left c.args.source.now) script c.in-Ok-read_script.ensures.script before after
+    (reports_front _ script c.args.index.now c.args.late.now _ _ c.requires.new seated before after c.in-Err-Memory-run_script.ensures.front))

@@ -4,7 +4,13 @@ use Rattle.ndc_top.proofs.Endings.{front_end}
 use Rattle.ndc_top.proofs.run.run_input.Goals as goal
 
 pub returns-in-Err-clause-unknown : goal.returns-in-Err-clause-unknown
-returns-in-Err-clause-unknown g c = λ e. subst (λ n. IsAmong n (2 ∷ 8 ∷ [])) (sym c.end.ensures.status) (c.in-Err.ensures.unknown e)
+returns-in-Err-clause-unknown g c = λ e. subst (λ n. IsAmong n (2 ∷ 8 ∷ [])) (sym c.end.ensures.status) (c.in-Err.ensures.unknown e).0
+
+pub returns-in-Err-clause-unknown_source : goal.returns-in-Err-clause-unknown_source
+returns-in-Err-clause-unknown_source g c = λ e. (c.in-Err.ensures.unknown e).1
+
+pub returns-in-Err-clause-unknown_out : goal.returns-in-Err-clause-unknown_out
+returns-in-Err-clause-unknown_out g c = λ e. (c.in-Err.ensures.unknown e).2
 
 pub returns-in-Err-clause-front : goal.returns-in-Err-clause-front
 returns-in-Err-clause-front g c = λ _.
