@@ -1,11 +1,11 @@
 -- What is put off, and the last learned event above it.
-use Rattle.std.proofs.Common.{◌≡◌, ℕ, suc, ◌<◌, ◌≤◌, drop, ◌+◌, ◌-◌, inl, inr, Bool, true, false, true≢false, not, List, [], ◌∷◌, ◌++◌, append-nil, append_assoc, length, map, slice_get, sum, codes, decimal, Option, Some, None, refl, sym, ◌∙◌, ap, subst, arith, if◌then◌else◌}
-use Rattle.std.specs.Prelude.{is_some, unwrap_or}
+use Rattle.std.proofs.Common.{◌≡◌, ℕ, suc, ◌<◌, ◌≤◌, drop, get_or, ◌+◌, ◌-◌, inl, inr, Bool, true, false, true≢false, not, List, [], ◌∷◌, ◌++◌, append-nil, append_assoc, length, map, slice_get, sum, codes, decimal, Option, Some, None, refl, sym, ◌∙◌, ap, subst, arith, if◌then◌else◌}
+use Rattle.std.specs.Prelude.{is_some, slice_index_or, unwrap_or}
 use Rattle.std.specs.List.{AllByRecursion, filter, filter_map, flat_map, range_with_len, sum_by}
 use Rattle.std.proofs.lemmas.Grind.{flat_map-append}
 use Rattle.std.proofs.lemmas.List.Concat.{length-flat_map}
-use Rattle.std.proofs.lemmas.List.Elements.{filter-append}
-use Rattle.std.proofs.lemmas.List.{drop_all, length-map, map-id}
+use Rattle.std.proofs.lemmas.List.Elements.{All-push, All-same, filter-append}
+use Rattle.std.proofs.lemmas.List.{at_drop_more, drop-append-le, drop_all, length-map, map-id}
 use Rattle.std.proofs.lemmas.List.FromFn.{map-range_with_len_more}
 use Rattle.std.proofs.lemmas.List.Sums.{sum-map}
 use Rattle.ndc_act.specs.WellFormed.{IsCluster}
@@ -46,7 +46,7 @@ use Rattle.ndc_sets.proofs.PathLemmas.{none-wanted, path-parent}
 use Rattle.ndc_sets.proofs.SetLemmas.{found-has, found-key}
 use Rattle.ndc_state.specs.Replay.{history_of}
 use Rattle.ndc_text.specs.Views.{item_text, key_text}
-use Rattle.ndc_steps.specs.Waiting.{IfHigher, found_above, learned_up_to, looked, looked_by, row_of, waiting_at, waiting_in, waiting_of, waiting_text}
+use Rattle.ndc_steps.specs.Waiting.{AreFound, IfHigher, found_above, learned_up_to, looked, looked_by, row_of, waiting_at, waiting_in, waiting_of, waiting_text}
 use Rattle.ndc_steps.specs.declared.gaps.Above.TheVariants.{Found, Higher}
 use Rattle.ndc_steps.specs.declared.gaps.Waiting.{Waiting}
 
@@ -85,6 +85,17 @@ found_there b events known e same at is =
 pub nothing_above : (header : Header) (shard : ℕ) (w : World) (cell : Cell) (domain workflow : Name) → record { id = 0; version = 0 } ≡ learned_up_to header shard w cell domain workflow None
 nothing_above header shard w cell domain workflow =
     ap (λ (v : Walk). item_or_zero (last_item_of (history_of (filter (is_learned_in cell) v.path)))) (sym (none-wanted (filter (is_of domain workflow) (all_written header shard w))))
+
+-- what stands with the batch at a place is what is found by its key
+pub found_among : (found : BatchKey → Item) (known : List Waiting) (i : ℕ) (one : Waiting) (key : BatchKey) → AreFound found known → i < length known → one ≡ slice_index_or known i one → one.place.key ≡ key → one.after ≡ found key
+found_among found known i one key all below at same = subst (λ (x : Waiting). x.after ≡ found x.place.key) (sym at) (all i one below) ∙ ap found same
+
+-- it is known of one more that is added
+pub known_more : (found : BatchKey → Item) (start : ℕ) (waiting new : List Waiting) (one : Waiting) → start ≤ length waiting → AreFound found (drop start waiting) → one.after ≡ found one.place.key
+    → new ≡ waiting ++ one ∷ [] → AreFound found (drop start new)
+known_more found start waiting new one within all is pushed =
+    All-same (λ (x : Waiting). x.after ≡ found x.place.key) (drop start new) (drop start waiting ++ one ∷ []) (ap (drop start) pushed ∙ drop-append-le start waiting (one ∷ []) within)
+    (All-push (λ (x : Waiting). x.after ≡ found x.place.key) (drop start waiting) one all is)
 
 -- shards, one more
 pub shards_more : {X : Type 0} (f : ℕ → List X) (shard : ℕ) → flat_map f (range_with_len 0 shard) ++ f shard ≡ flat_map f (range_with_len 0 (shard + 1))
@@ -221,6 +232,32 @@ eight h a i b j c m n =
     (behind-one h (h ++ a ++ i ++ b) (a ++ i ++ b) j
     (behind-one h (h ++ a ++ i) (a ++ i) b
     (behind-one h (h ++ a) a i refl)))))
+
+-- a row with its own names and item
+abbrev row_with : Name → Name → Item → Lacking → Waiting
+row_with domain workflow item one = record {
+  place = record { domain = domain; workflow = workflow; key = one.key };
+  after = item;
+  before = record { id = one.first; version = one.key.version };
+  missing = one.missing;
+}
+
+-- rows behind others, one more
+pub rows_more : (header : Header) (shard : ℕ) (w : World) (cell : Cell) (domain workflow : Name) (items old new : List Waiting) (lacking : List Lacking) (i : ℕ) (d : Lacking)
+    (own_domain own_workflow : Name) (item : Item) → i < length lacking → own_domain ≡ domain → own_workflow ≡ workflow
+    → item ≡ learned_up_to header shard w cell domain workflow (Some (get_or lacking i d).key)
+    → new ≡ items ++ row_with own_domain own_workflow item (get_or lacking i d) ∷ []
+    → items ++ map (row_of header shard w cell domain workflow) (drop i lacking) ≡ old
+    → new ++ map (row_of header shard w cell domain workflow) (drop (i + 1) lacking) ≡ old
+rows_more header shard w cell domain workflow items old new lacking i d own_domain own_workflow item below same_domain same_workflow found pushed before =
+    ap (λ (l : List Waiting). l ++ left) pushed
+    ∙ append_assoc items (row_with own_domain own_workflow item (get_or lacking i d) ∷ []) left
+    ∙ (λ k. items ++ row_with (same_domain k) (same_workflow k) (found k) (get_or lacking i d) ∷ left)
+    ∙ ap (λ (l : List Waiting). items ++ l) (sym (at_drop_more (map (row_of header shard w cell domain workflow)) lacking i d below))
+    ∙ before
+  where
+    left : List Waiting
+    left = map (row_of header shard w cell domain workflow) (drop (i + 1) lacking)
 
 -- rows behind others, where none is left
 pub rows_end : (row : Lacking → Waiting) (items old : List Waiting) (lacking : List Lacking) (i : ℕ) → length lacking ≤ i → items ++ map row (drop i lacking) ≡ old ++ map row lacking → items ≡ old ++ map row lacking

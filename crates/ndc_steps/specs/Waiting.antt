@@ -1,5 +1,5 @@
 -- What is put off at a cluster, with the gap that each batch waits for.
-use Rattle.std.specs.Prelude.{ℕ, Bool, List, ◌++◌, codes, map, unwrap_or, Option, Some, None, if◌then◌else◌}
+use Rattle.std.specs.Prelude.{◌≡◌, ℕ, Bool, All, List, ◌++◌, codes, map, unwrap_or, Option, Some, None, if◌then◌else◌}
 use Rattle.std.specs.List.{filter}
 use Rattle.ndc_act.specs.declared.script.Header.{Header}
 use Rattle.ndc_cells.specs.Cells.{Cell, arrived_of, is_learned_in, missing_of, put_off_in}
@@ -32,6 +32,14 @@ learned_up_to header shard w cell domain workflow wanted =
 abbrev pub found_above : Header → ℕ → World → Cell → Name → Name → Above → Item
 found_above header shard w cell domain workflow (Found item) = item
 found_above header shard w cell domain workflow (Higher wanted) = learned_up_to header shard w cell domain workflow wanted
+
+-- what stands with each of these batches is what is found by its key
+abbrev pub AreFound : (BatchKey → Item) → List Waiting → Type 0
+AreFound found known = All (λ one. one.after ≡ found one.place.key) known
+
+-- with each of these batches of a workflow stands the last event of what a cell has learned of the path to it
+abbrev pub AreKnown : Header → ℕ → World → Cell → Name → Name → List Waiting → Type 0
+AreKnown header shard w cell domain workflow known = AreFound (λ key. learned_up_to header shard w cell domain workflow (Some key)) known
 
 -- a batch that is put off, with its gap
 abbrev pub waiting_of : Header → ℕ → World → Cell → Batch → Waiting

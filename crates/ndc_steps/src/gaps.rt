@@ -1,17 +1,19 @@
-ghost use Rattle.std.specs.Prelude.{◌≡◌, ◌<◌, ◌++◌, [], ◌∷◌, decimal, length, Some, IfOk, OnOk};
+ghost use Rattle.std.specs.Prelude.{◌≡◌, ◌<◌, ◌++◌, [], ◌∷◌, decimal, length, Some, IfOk, IfSome, OnOk};
 ghost use Rattle.std.specs.List.{filter, flat_map};
 ghost use Rattle.ndc_act.specs.WellFormed.{IsCluster};
 ghost use Rattle.ndc_again.specs.Steps.{keys_to};
 ghost use Rattle.ndc_cells.specs.Cells.{learned_of};
 ghost use Rattle.ndc_cells.specs.Places.{is_of};
+ghost use Rattle.ndc_event.specs.declared.key.BatchKey.{BatchKey};
 ghost use Rattle.ndc_fair.specs.Sometime.{IsReachedSometime};
+ghost use Rattle.ndc_history.specs.declared.item.Item.{Item};
 ghost use Rattle.ndc_links.specs.Lacking.{all_lacking};
 ghost use Rattle.ndc_model.specs.Moves.{all_written};
 ghost use Rattle.ndc_model.specs.Sending.{gaps_answer};
 ghost use Rattle.ndc_model.specs.Texts.{ok};
 ghost use Rattle.ndc_model.specs.World.{cell_at, shards_of};
 ghost use Rattle.ndc_sets.specs.Learned.{has_key};
-ghost use Rattle.ndc_steps.specs.Waiting.{IfHigher, looked, found_above, learned_up_to, waiting_at, waiting_for, waiting_in, waiting_text};
+ghost use Rattle.ndc_steps.specs.Waiting.{AreFound, AreKnown, IfHigher, looked, found_above, learned_up_to, waiting_at, waiting_for, waiting_in, waiting_text};
 
 use crate::sites::cell_of;
 use ndc_act::Header;
@@ -96,8 +98,46 @@ fn look_at<C: Reads + Drop>(
     look(batch, is_learned(cell, domain, workflow, key))
 }
 
+/// The last learned event above the batch of a key, where the batch is among these, which stand in key order. In time of
+/// their logarithm.
+fn known_at(known: &[Waiting], key: BatchKey) -> Option<Item>
+    ensures { (found : BatchKey → Item) → AreFound found known.now → IfSome result (λ item. item ≡ found key) }
+{
+    let place = known.partition_point(|one| one.place.key.is_before(key));
+    match known.get(place) {
+        Some(one) if one.place.key == key => Some(one.after),
+        _ => None,
+    }
+}
+
+/// Looks for the last learned event at the batch of a key; above one of these batches it is known.
+fn look_up<C: Reads + Drop>(
+    network: &Network<C>,
+    header: &Header,
+    cluster: ClusterNo,
+    shard: u32,
+    domain: &Name,
+    workflow: &Name,
+    known: &[Waiting],
+    key: BatchKey,
+) -> Above
+    requires cluster { IsCluster header.now cluster }
+    requires shard { shard < header.now.shards }
+    requires reached { IsReachedSometime header.now network.now }
+    requires known { AreKnown header.now shard network.now (cell_at cluster shard network.now) domain.now workflow.now known.now }
+    ensures found { found_above header.now shard network.now (cell_at cluster shard network.now) domain.now workflow.now result
+        ≡ learned_up_to header.now shard network.now (cell_at cluster shard network.now) domain.now workflow.now (Some key) }
+    ensures smaller { IfHigher result (λ up. keys_to (filter (is_of domain.now workflow.now) (all_written header.now shard network.now)) up
+        < keys_to (filter (is_of domain.now workflow.now) (all_written header.now shard network.now)) key) }
+{
+    match known_at(known, key) {
+        Some(item) => Above::Found { item },
+        None => look_at(network, header, cluster, shard, domain, workflow, key),
+    }
+}
+
 /// The last event of what a cluster has learned of the path to the batch of a key, or id and version 0. Each batch is looked
-/// up, from the last one up to the first that is learned.
+/// up, from the last one up to the first that is learned or is one of these, above which it is known.
 #[tactic(auto, using(crate::proofs::GapLemmas::nothing_above))]
 fn last_learned<C: Reads + Drop>(
     network: &Network<C>,
@@ -106,16 +146,18 @@ fn last_learned<C: Reads + Drop>(
     shard: u32,
     domain: &Name,
     workflow: &Name,
+    known: &[Waiting],
     key: BatchKey,
 ) -> Item
     requires cluster { IsCluster header.now cluster }
     requires shard { shard < header.now.shards }
     requires reached { IsReachedSometime header.now network.now }
+    requires known { AreKnown header.now shard network.now (cell_at cluster shard network.now) domain.now workflow.now known.now }
     ensures { result ≡ learned_up_to header.now shard network.now (cell_at cluster shard network.now) domain.now workflow.now (Some key) }
 {
     let mut at = key;
     loop {
-        match look_at(network, header, cluster, shard, domain, workflow, at) {
+        match look_up(network, header, cluster, shard, domain, workflow, known, at) {
             Above::Found { item } => return item,
             Above::Higher { key: None } => return Item { id: 0, version: 0 },
             Above::Higher { key: Some(up) } => at = up,
@@ -123,7 +165,8 @@ fn last_learned<C: Reads + Drop>(
     }
 }
 
-/// Adds what is put off of a workflow, with the gaps, in key order.
+/// Adds what is put off of a workflow, with the gaps, in key order. A batch comes behind those above it, so the way up from
+/// it ends at the first of them that is put off as well.
 fn add_waiting<C: Reads + Drop>(
     network: &Network<C>,
     waiting: &mut Vec<Waiting>,
@@ -141,8 +184,12 @@ fn add_waiting<C: Reads + Drop>(
 {
     let domain = &place.domain;
     let workflow = &place.workflow;
+    let start = waiting.len();
     for one in lacking {
-        let after = last_learned(network, header, cluster, shard, domain, workflow, one.key);
+        let (_, known) = waiting.as_slice().split_at(start);
+        let after = last_learned(
+            network, header, cluster, shard, domain, workflow, known, one.key,
+        );
         waiting.push(Waiting {
             place: Place {
                 domain: domain.try_copy()?,
