@@ -4,6 +4,7 @@ ghost use Rattle.ndc_act.specs.Print.{script_text};
 ghost use Rattle.ndc_read.specs.Body.{script_of};
 
 use crate::faulty::Faulty;
+use crate::gate::LateGate;
 use ndc_index::{Indexer, KindsIndexer, OpenIndexer, SignalsIndexer};
 use ndc_port::{Gate, MemSink, MemSource, OpenGate, PairGate};
 use ndc_script::{Script, ScriptError, generate, parse, print};
@@ -144,6 +145,15 @@ fn faulty_answer<R: Threads + Sync>(
     }
 }
 
+/// The answer where two workers of a round have met; else it is refused.
+fn where_met(alloc: Global, met: bool, answer: Answer) -> Result<Answer, AllocError> {
+    if met {
+        Ok(answer)
+    } else {
+        refused(alloc, 2, "the workers did not meet")
+    }
+}
+
 /// What the program answers where the first worker of a round waits for the second; refused where they never met.
 fn paired_answer<R: Threads + Sync>(
     rt: &R,
@@ -151,13 +161,21 @@ fn paired_answer<R: Threads + Sync>(
     words: &[&[u8]],
     input: &[u8],
 ) -> Result<Answer, AllocError> {
-    let pair = PairGate::new();
-    let answer = ndc_answer(rt, alloc, &pair, NO_FAULTS, words, input)?;
-    if pair.met() {
-        Ok(answer)
-    } else {
-        refused(alloc, 2, "the workers did not meet")
-    }
+    let gate = PairGate::new();
+    let answer = ndc_answer(rt, alloc, &gate, NO_FAULTS, words, input)?;
+    where_met(alloc, gate.met(), answer)
+}
+
+/// What the program answers where the second worker of a round waits for the first; refused where they never met.
+fn late_answer<R: Threads + Sync>(
+    rt: &R,
+    alloc: Global,
+    words: &[&[u8]],
+    input: &[u8],
+) -> Result<Answer, AllocError> {
+    let gate = LateGate::new();
+    let answer = ndc_answer(rt, alloc, &gate, NO_FAULTS, words, input)?;
+    where_met(alloc, gate.met(), answer)
 }
 
 /// A script, read and printed again.
@@ -219,6 +237,9 @@ pub fn answer_of<R: Threads + Sync>(
         }
         [word, _, rest @ ..] if *word == b"paired".as_slice() => {
             paired_answer(rt, alloc, rest, input)
+        }
+        [word, _, rest @ ..] if *word == b"late".as_slice() => {
+            late_answer(rt, alloc, rest, input)
         }
         [word] if *word == b"script".as_slice() => script_answer(alloc, input),
         [word, count, seed] if *word == b"generated".as_slice() => {

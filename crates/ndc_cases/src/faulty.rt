@@ -13,7 +13,7 @@ impl Faulty {
     ghost use Rattle.std.specs.Prelude.{◌≡◌, []};
 
     /// The indexer that was told nothing, and fails at this call.
-    pub fn new(alloc: Global, at: u64) -> Faulty
+    pub(crate) fn new(alloc: Global, at: u64) -> Faulty
         ensures { result.seen.items ≡ [] }
     {
         Faulty {

@@ -21,9 +21,10 @@ fn words_of(rt: &HostRuntime) -> io::Result<Vec<String>> {
 /// Runs the program with its indexers over the standard streams, and gives the status that it ends with.
 fn run<R: Threads + Sync>(rt: &HostRuntime, threads: &R) -> io::Result<u8> {
     let alloc = rt.alloc();
-    // Words that cannot be read are refused like wrong ones.
     let words = match words_of(rt) {
         Ok(words) => words,
+        Err(error) if error.kind() == io::ErrorKind::OutOfMemory => return Err(error),
+        // Words that are no UTF-8 are refused like wrong ones.
         Err(_) => Vec::new(alloc),
     };
     let mut indexers: Vec<Box<dyn Indexer>> = Vec::new(alloc);
@@ -48,7 +49,7 @@ fn run<R: Threads + Sync>(rt: &HostRuntime, threads: &R) -> io::Result<u8> {
 fn main(rt: HostRuntime) -> ExitCode {
     match run(&rt, &rt) {
         Ok(status) => ExitCode::from(status),
-        // No memory for the first few boxes.
+        // No memory for the words or the first few boxes.
         Err(_) => {
             let _told = eprintln!(&rt; "ndc: out of memory");
             ExitCode::from(8)
