@@ -1,5 +1,5 @@
 -- What lines of jobs leave and tell.
-use Rattle.std.proofs.Common.{◌≡◌, ℕ, List, [], ◌∷◌, ◌++◌, append-nil, codes, decimal, refl, sym, ◌∙◌, ap}
+use Rattle.std.proofs.Common.{◌≡◌, ℕ, List, [], ◌∷◌, ◌++◌, append-nil, codes, decimal, ◌∙◌, ap}
 use Rattle.std.specs.List.{flat_map}
 use Rattle.ndc_act.specs.declared.script.Header.{Header}
 use Rattle.ndc_answers.specs.declared.tally.Tally.{Tally}

@@ -1,11 +1,10 @@
 -- Counts of jobs, one list of notes behind another.
-use Rattle.std.proofs.Common.{◌≡◌, ℕ, ◌+◌, List, [], ◌∷◌, ◌++◌, map, sum, refl, sym, ◌∙◌, ap, arith}
-use Rattle.std.specs.List.{flat_map, sum_by}
+use Rattle.std.proofs.Common.{◌≡◌, ℕ, ◌+◌, List, [], ◌∷◌, ◌++◌, map, sum, refl, ◌∙◌, ap, arith}
+use Rattle.std.specs.List.{flat_map}
 use Rattle.std.proofs.lemmas.Grind.{flat_map-append}
 use Rattle.std.proofs.lemmas.List.Sums.{sum_by-append}
 use Rattle.ndc_answers.specs.Tallies.{no_tally, with_notes}
 use Rattle.ndc_answers.specs.declared.tally.Tally.{Tally}
-use Rattle.ndc_index.specs.declared.seen.Seen.{Seen}
 use Rattle.ndc_model.specs.Moves.{Note}
 use Rattle.ndc_model.specs.Steps.{applied_by, arrived_by, known_by, learned_by, put_off_by, seen_at, seen_of}
 use Rattle.ndc_network.specs.Dones.{notes_in}

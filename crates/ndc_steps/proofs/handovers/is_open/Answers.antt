@@ -1,7 +1,6 @@
 use Rattle.std.proofs.Common.{ap, ◌∙◌}
 use Rattle.ndc_graceful.specs.declared.handover.Handover.{Handover}
 use Rattle.std.specs.Prelude.{List, find, is_some}
-use Rattle.std.specs.List.{list_any}
 use Rattle.ndc_model.specs.Handovers.{is_handover_of}
 use Rattle.ndc_steps.proofs.FindLemmas.{any_found}
 use Rattle.ndc_steps.proofs.handovers.is_open.Goals as goal
