@@ -1,7 +1,7 @@
 -- Hexadecimal digits are read two by two.
 use Rattle.std.proofs.Common.{◌≡◌, ◌≤◌, ℕ, List, [], ◌∷◌, ◌++◌, length, take, drop, get_or, Result, Ok, sym, ap, ◌∙◌, arith}
 use Rattle.ndc_event.specs.Outcome.{◌>>=◌}
-use Rattle.ndc_read.proofs.LineLists.{behind, behind-one}
+use Rattle.ndc_script_read.proofs.LineLists.{behind, behind-one}
 use Rattle.ndc_cases.specs.Case.{byte_of, hex_of}
 use Rattle.ndc_cases.specs.declared.case.CaseError.{CaseError}
 

@@ -1,7 +1,7 @@
 -- A case of a transcript, and what each of its lines gives.
 use Rattle.std.specs.Prelude.{ℕ, zero, suc, ◌+◌, ◌-◌, ◌*◌, ◌&&◌, nat_le, take, Option, None, Some, List, [], ◌∷◌, ◌++◌, Result, Ok, Err, if◌then◌else◌}
 use Rattle.ndc_event.specs.Outcome.{◌>>=◌}
-use Rattle.ndc_words.specs.Number.{number_of}
+use Rattle.ndc_script_words.specs.Number.{number_of}
 use Rattle.ndc_cases.specs.Line.{mark_len, text_of, mark_of}
 use Rattle.ndc_cases.specs.declared.case.CaseError.{CaseError}
 use Rattle.ndc_cases.specs.declared.case.CaseError.TheVariants.{Form}

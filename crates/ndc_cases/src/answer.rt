@@ -1,16 +1,16 @@
 //! What a call answers, over memory.
 ghost use Rattle.std.specs.Prelude.{◌≡◌, [], IfOk};
-ghost use Rattle.ndc_act.specs.Print.{script_text};
-ghost use Rattle.ndc_read.specs.Body.{script_of};
+ghost use Rattle.ndc_script_types.specs.Print.{script_text};
+ghost use Rattle.ndc_script_read.specs.Body.{script_of};
 
 use crate::faulty::Faulty;
 use crate::gate::LateGate;
 use ndc_index::{Indexer, KindsIndexer, OpenIndexer, SignalsIndexer};
 use ndc_port::{Gate, MemSink, MemSource, OpenGate, PairGate};
 use ndc_script::{Script, ScriptError, generate, parse, print};
+use ndc_script_words::number_of;
 use ndc_text::{TextError, print_batch, read_batch, read_batch_1};
-use ndc_top::ndc_top;
-use ndc_words::number_of;
+use ndc_tool_top::ndc_top;
 use std::alloc::{AllocError, Global};
 use std::thread::Threads;
 

@@ -5,7 +5,7 @@ ghost use Rattle.ndc_cases.specs.Case.{digit_of, byte_of, hex_of, lines_of, many
 ghost use Rattle.ndc_cases.specs.declared.case.CaseError.TheVariants.{Memory};
 
 use crate::line::{Mark, mark_of, parts_of};
-use ndc_words::number_of;
+use ndc_script_words::number_of;
 use std::alloc::{AllocError, AllocFailed, Global};
 use std::marker::Model;
 

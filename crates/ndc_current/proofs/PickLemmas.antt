@@ -3,9 +3,9 @@ use Rattle.std.proofs.Common.{◌≡◌, ℕ, zero, suc, ◌+◌, Bool, true, fa
 use Rattle.ndc_event.specs.Key.{key_lt}
 use Rattle.ndc_event.specs.declared.batch.Batch.{Batch}
 use Rattle.ndc_event.specs.declared.key.BatchKey.{BatchKey}
-use Rattle.ndc_sets.specs.Branches.{current_tips, greatest_key, later, workflow_tip}
-use Rattle.ndc_sets.proofs.BranchLemmas.{none-greatest, up-to}
-use Rattle.ndc_sets.proofs.KeyLemmas.{before-trans}
+use Rattle.ndc_model_sets.specs.Branches.{current_tips, greatest_key, later, workflow_tip}
+use Rattle.ndc_model_sets.proofs.BranchLemmas.{none-greatest, up-to}
+use Rattle.ndc_model_sets.proofs.KeyLemmas.{before-trans}
 use Rattle.ndc_current.specs.Pick.{greater_of, pick_from, place_of, pick_of, IsGreatestAt}
 
 -- the greater of two, by whether the later is

@@ -1,9 +1,9 @@
 ghost use Rattle.std.specs.Prelude.{◌≡◌, Option, Some, None, OnSome, ◌↔◌, []};
-ghost use Rattle.ndc_sets.specs.Current.{status_of};
+ghost use Rattle.ndc_model_sets.specs.Current.{status_of};
 ghost use Rattle.ndc_current.specs.Pick.{greater_of, pick_from, pick_of};
 
 use ndc_event::BatchKey;
-use ndc_sets::RunStatus;
+use ndc_model_sets::RunStatus;
 
 /// The one with the greater key: of two with one key the first.
 fn greater(

@@ -2,7 +2,7 @@
 ghost use Rattle.std.specs.Prelude.{◌≡◌, ℕ, List, map, Some, slice_get};
 ghost use Rattle.ndc_event.specs.declared.batch.Batch.{Batch};
 ghost use Rattle.ndc_event.specs.declared.key.BatchKey.{BatchKey as Key};
-ghost use Rattle.ndc_sets.specs.Branches.{current_tips, workflow_tip};
+ghost use Rattle.ndc_model_sets.specs.Branches.{current_tips, workflow_tip};
 ghost use Rattle.ndc_current.specs.Pick.{pick_of, IsGreatestAt};
 
 /// What is picked is the greatest key.

@@ -5,4 +5,4 @@ mod current;
 pub mod laws;
 
 pub use current::{pick, status};
-pub use ndc_sets::RunStatus;
+pub use ndc_model_sets::RunStatus;

@@ -9,24 +9,24 @@ use Rattle.ndc_event.specs.Outcome.{◌>>=◌}
 use Rattle.ndc_event.specs.declared.batch.Batch.{Batch}
 use Rattle.ndc_event.specs.declared.key.BatchKey.{BatchKey}
 use Rattle.ndc_event.specs.declared.name.Name.{Name}
-use Rattle.ndc_sets.specs.View.{view_of}
-use Rattle.ndc_sets.specs.declared.view.View.{View}
+use Rattle.ndc_model_sets.specs.View.{view_of}
+use Rattle.ndc_model_sets.specs.declared.view.View.{View}
 use Rattle.ndc_text.specs.Read.{read_of}
 use Rattle.ndc_text.specs.Text.{batch_text}
 use Rattle.ndc_text.specs.Views.{dump_text, run_state_lines}
 use Rattle.ndc_text.proofs.Exact.{found}
 use Rattle.ndc_text.specs.declared.form.TextForm.{TextForm}
 use Rattle.ndc_text.specs.declared.form.TextForm.TheVariants as form
-use Rattle.ndc_causes.specs.declared.error.DumpError.{DumpError}
+use Rattle.ndc_dump_causes.specs.declared.error.DumpError.{DumpError}
 use Rattle.ndc_dump.specs.declared.frame.Heading.{Heading}
 use Rattle.ndc_dump.specs.declared.dump.Dump.{Dump}
-use Rattle.ndc_causes.specs.declared.error.DumpError.TheVariants.{Line}
-use Rattle.ndc_causes.specs.declared.error.LineCause.TheVariants.{BadFrame}
+use Rattle.ndc_dump_causes.specs.declared.error.DumpError.TheVariants.{Line}
+use Rattle.ndc_dump_causes.specs.declared.error.LineCause.TheVariants.{BadFrame}
 use Rattle.ndc_dump.specs.Batches.{batch_on, batches_on, behind, on_line, out_of_order, view_lines}
-use Rattle.ndc_causes.specs.Causes.{sound_or}
+use Rattle.ndc_dump_causes.specs.Causes.{sound_or}
 use Rattle.ndc_dump.specs.Migrated.{standing_for}
 use Rattle.ndc_dump.specs.Read.{dump_of, dump_on, dump_with, shown_or, view_on, view_text}
-use Rattle.ndc_causes.proofs.NoCause.{went}
+use Rattle.ndc_dump_causes.proofs.NoCause.{went}
 use Rattle.ndc_dump.proofs.ReadLemmas.{line-read, placed}
 use Rattle.ndc_dump.specs.Frame.{IsHeaded, begins_batch, begins_first, body_of, form_of, framed, heading_by, heading_of, heading_in, named}
 use Rattle.ndc_dump.specs.Lines.{differ_at, lines_of, onto_line, without_end}

@@ -4,8 +4,8 @@ use Rattle.std.proofs.lemmas.List.{append-nil, append_cancel_left}
 use Rattle.std.specs.List.{flat_map, AllByRecursion}
 use Rattle.ndc_event.specs.declared.batch.Batch.{Batch}
 use Rattle.ndc_event.specs.declared.name.Name.{Name}
-use Rattle.ndc_sets.specs.View.{view_of}
-use Rattle.ndc_sets.specs.declared.view.RunView.{RunView}
+use Rattle.ndc_model_sets.specs.View.{view_of}
+use Rattle.ndc_model_sets.specs.declared.view.RunView.{RunView}
 use Rattle.ndc_text.specs.Ranges.{InRange}
 use Rattle.ndc_text.specs.Text.{batch_text}
 use Rattle.ndc_text.specs.Views.{dump_text, run_state_lines}

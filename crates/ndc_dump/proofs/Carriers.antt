@@ -8,13 +8,13 @@ use Rattle.ndc_event.specs.declared.batch.Batch.{Batch}
 use Rattle.ndc_event.specs.declared.batch.Event.{Event}
 use Rattle.ndc_event.specs.declared.key.BatchKey.{BatchKey}
 use Rattle.ndc_event.specs.declared.key.RunId.{RunId}
-use Rattle.ndc_sets.specs.Branches.{current_tip, current_tips, greatest_key, has_child, is_current_run, is_run_of, later, leads, runs, same_run, tips, workflow_tip}
-use Rattle.ndc_sets.specs.Current.{current_state, replayed_or_new, state_at, state_to, status_of}
-use Rattle.ndc_sets.specs.Paths.{Walk, events_to, is_wanted, path_to, versions_of, walk_down, walk_over}
-use Rattle.ndc_sets.specs.View.{branch_view, is_tip_of, run_view, view_of}
-use Rattle.ndc_sets.specs.declared.view.BranchView.{BranchView}
-use Rattle.ndc_sets.specs.declared.view.RunView.{RunView}
-use Rattle.ndc_sets.proofs.PathLemmas.{from}
+use Rattle.ndc_model_sets.specs.Branches.{current_tip, current_tips, greatest_key, has_child, is_current_run, is_run_of, later, leads, runs, same_run, tips, workflow_tip}
+use Rattle.ndc_model_sets.specs.Current.{current_state, replayed_or_new, state_at, state_to, status_of}
+use Rattle.ndc_model_sets.specs.Paths.{Walk, events_to, is_wanted, path_to, versions_of, walk_down, walk_over}
+use Rattle.ndc_model_sets.specs.View.{branch_view, is_tip_of, run_view, view_of}
+use Rattle.ndc_model_sets.specs.declared.view.BranchView.{BranchView}
+use Rattle.ndc_model_sets.specs.declared.view.RunView.{RunView}
+use Rattle.ndc_model_sets.proofs.PathLemmas.{from}
 use Rattle.ndc_state.specs.declared.rule.CloseKind.{CloseKind}
 use Rattle.ndc_state.specs.Replay.{history_of, replay_of}
 use Rattle.ndc_text.specs.declared.form.TextForm.{TextForm}

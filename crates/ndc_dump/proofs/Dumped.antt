@@ -10,9 +10,9 @@ use Rattle.ndc_event.specs.Outcome.{Gives, ◌>>=◌}
 use Rattle.ndc_event.specs.declared.batch.Batch.{Batch}
 use Rattle.ndc_event.specs.declared.key.BatchKey.{BatchKey}
 use Rattle.ndc_event.specs.declared.name.Name.{Name}
-use Rattle.ndc_sets.specs.View.{view_of}
-use Rattle.ndc_sets.specs.declared.view.View.{View}
-use Rattle.ndc_sets.specs.Sound.{IsSound}
+use Rattle.ndc_model_sets.specs.View.{view_of}
+use Rattle.ndc_model_sets.specs.declared.view.View.{View}
+use Rattle.ndc_model_sets.specs.Sound.{IsSound}
 use Rattle.ndc_text.specs.Ranges.{InRange, IsName}
 use Rattle.ndc_text.proofs.Exact.{bare}
 use Rattle.ndc_text.specs.Read.{read_of}
@@ -20,23 +20,23 @@ use Rattle.ndc_text.specs.Views.{dump_text}
 use Rattle.ndc_text.specs.declared.form.TextForm.{TextForm}
 use Rattle.ndc_text.specs.declared.form.TextForm.TheVariants as form
 use Rattle.ndc_dump.specs.declared.dump.Dump.{Dump}
-use Rattle.ndc_causes.specs.declared.error.DumpError.{DumpError}
-use Rattle.ndc_causes.specs.declared.error.DumpError.TheVariants.{Line, Memory}
-use Rattle.ndc_causes.specs.declared.error.LineCause.TheVariants as cause
+use Rattle.ndc_dump_causes.specs.declared.error.DumpError.{DumpError}
+use Rattle.ndc_dump_causes.specs.declared.error.DumpError.TheVariants.{Line, Memory}
+use Rattle.ndc_dump_causes.specs.declared.error.LineCause.TheVariants as cause
 use Rattle.ndc_dump.specs.declared.frame.Heading.{Heading}
 use Rattle.ndc_dump.specs.Batches.{batch_on, batches_on, behind, is_behind, is_own, is_same_as, on_line, out_of_order, view_lines}
-use Rattle.ndc_causes.specs.Causes.{sound_or}
+use Rattle.ndc_dump_causes.specs.Causes.{sound_or}
 use Rattle.ndc_dump.specs.Frame.{IsHeaded, begins_batch, begins_first, body_of, form_of, framed, heading_by, heading_in, heading_of, named}
 use Rattle.ndc_dump.specs.Lines.{lines_of, without_end}
-use Rattle.ndc_causes.specs.Given.{AreRead}
+use Rattle.ndc_dump_causes.specs.Given.{AreRead}
 use Rattle.ndc_dump.specs.Migrated.{standing_for, with_carrier_in}
 use Rattle.ndc_dump.specs.Printed.{CanBeDumped, IsOwn}
 use Rattle.ndc_dump.specs.Read.{dump_of, dump_on, dump_with, shown_or, view_on}
 use Rattle.ndc_dump.proofs.Again.{printed_again}
 use Rattle.ndc_dump.proofs.Migration.{migrated-all, migrated-range, migrated-sound}
 use Rattle.ndc_dump.proofs.Printed.{dump-again}
-use Rattle.ndc_causes.proofs.Soundness.{read_is_sound}
-use Rattle.ndc_causes.proofs.NoCause.{went}
+use Rattle.ndc_dump_causes.proofs.Soundness.{read_is_sound}
+use Rattle.ndc_dump_causes.proofs.NoCause.{went}
 use Rattle.ndc_dump.proofs.ReadLemmas.{are-read, line-read, placed}
 use Rattle.ndc_dump.proofs.ShownView.{shown-view}
 

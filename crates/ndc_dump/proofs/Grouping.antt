@@ -7,9 +7,9 @@ use Rattle.std.proofs.lemmas.Map.Made.{lookup-map_values}
 use Rattle.ndc_event.specs.declared.batch.Batch.{Batch}
 use Rattle.ndc_event.specs.declared.key.RunId.{RunId}
 use Rattle.ndc_dump.specs.Groups.{listed}
-use Rattle.ndc_runs.specs.RunMap.{part_of}
-use Rattle.ndc_sets.specs.Branches.{same_run}
-use Rattle.ndc_sets.proofs.BranchLemmas.{run-same}
+use Rattle.ndc_shard_runs.specs.RunMap.{part_of}
+use Rattle.ndc_model_sets.specs.Branches.{same_run}
+use Rattle.ndc_model_sets.proofs.BranchLemmas.{run-same}
 
 module _ {V : Type 0} (f : V → List Batch) where
   -- the batches that the values under the runs stand for

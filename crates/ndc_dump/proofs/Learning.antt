@@ -7,19 +7,19 @@ use Rattle.std.proofs.lemmas.List.{take-append-drop, take_more}
 use Rattle.ndc_event.specs.Key.{key_eq, key_lt}
 use Rattle.ndc_event.specs.declared.batch.Batch.{Batch}
 use Rattle.ndc_event.specs.declared.key.BatchKey.{BatchKey}
-use Rattle.ndc_sets.specs.Learned.{has_key, IsClosed, IsPart}
-use Rattle.ndc_sets.specs.Sets.{ComeAfter, PointsBack, Rise, arrived, batch_at, earlier}
-use Rattle.ndc_sets.specs.Sound.{IsSound}
-use Rattle.ndc_sets.proofs.BranchLemmas.{among-has, has-among}
-use Rattle.ndc_sets.proofs.KeyLemmas.{before-irrefl, before-trans, same-keys}
-use Rattle.ndc_sets.proofs.Lists.{Among, all-among, all-from}
-use Rattle.ndc_sets.proofs.SetLemmas.{after-trans, at-append, none-there}
-use Rattle.ndc_sets.proofs.SoundLemmas.{part_is_sound}
-use Rattle.ndc_causes.proofs.Finding.{after-parts, rise-parts}
+use Rattle.ndc_model_sets.specs.Learned.{has_key, IsClosed, IsPart}
+use Rattle.ndc_model_sets.specs.Sets.{ComeAfter, PointsBack, Rise, arrived, batch_at, earlier}
+use Rattle.ndc_model_sets.specs.Sound.{IsSound}
+use Rattle.ndc_model_sets.proofs.BranchLemmas.{among-has, has-among}
+use Rattle.ndc_model_sets.proofs.KeyLemmas.{before-irrefl, before-trans, same-keys}
+use Rattle.ndc_model_sets.proofs.Lists.{Among, all-among, all-from}
+use Rattle.ndc_model_sets.proofs.SetLemmas.{after-trans, at-append, none-there}
+use Rattle.ndc_model_sets.proofs.SoundLemmas.{part_is_sound}
+use Rattle.ndc_dump_causes.proofs.Finding.{after-parts, rise-parts}
 use Rattle.ndc_text.specs.Ranges.{InRange}
-use Rattle.ndc_causes.specs.Given.{HasSmallIds}
-use Rattle.ndc_causes.proofs.OnPaths.{left-one}
-use Rattle.ndc_causes.proofs.Walking.{all-small}
+use Rattle.ndc_dump_causes.specs.Given.{HasSmallIds}
+use Rattle.ndc_dump_causes.proofs.OnPaths.{left-one}
+use Rattle.ndc_dump_causes.proofs.Walking.{all-small}
 
 -- of two keys the later one neither comes before the other nor is it
 pub later-key : (before key : BatchKey) → key_lt before key ≡ true → (key_lt key before ≡ false) × (key_eq key before ≡ false)

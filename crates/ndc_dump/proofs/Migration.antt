@@ -10,24 +10,24 @@ use Rattle.ndc_event.specs.declared.batch.Batch.{Batch}
 use Rattle.ndc_event.specs.declared.batch.Event.{Event}
 use Rattle.ndc_event.specs.declared.key.BatchKey.{BatchKey}
 use Rattle.ndc_event.specs.declared.key.RunId.{RunId}
-use Rattle.ndc_sets.specs.Learned.{has_key, IsClosed}
-use Rattle.ndc_sets.specs.Origins.{origins_in}
-use Rattle.ndc_sets.specs.Paths.{events_to, first_id, last_id, path_to}
-use Rattle.ndc_sets.specs.Sets.{ComeAfter, Has, PointsBack, Rise, batch_at, earlier, earlier_of}
-use Rattle.ndc_sets.specs.Sound.{CarriersFit, ContinuesAs, CopiesFit, IsCopyFit, IsSound, ParentsFit, VersionsAreChains}
-use Rattle.ndc_sets.proofs.BranchLemmas.{among-has, has-among}
-use Rattle.ndc_sets.proofs.FaultLemmas.{Passes, passes}
-use Rattle.ndc_sets.proofs.Lists.{all-among, all-from, map-among}
-use Rattle.ndc_sets.proofs.SetLemmas.{found-has, found-key}
+use Rattle.ndc_model_sets.specs.Learned.{has_key, IsClosed}
+use Rattle.ndc_model_sets.specs.Origins.{origins_in}
+use Rattle.ndc_model_sets.specs.Paths.{events_to, first_id, last_id, path_to}
+use Rattle.ndc_model_sets.specs.Sets.{ComeAfter, Has, PointsBack, Rise, batch_at, earlier, earlier_of}
+use Rattle.ndc_model_sets.specs.Sound.{CarriersFit, ContinuesAs, CopiesFit, IsCopyFit, IsSound, ParentsFit, VersionsAreChains}
+use Rattle.ndc_model_sets.proofs.BranchLemmas.{among-has, has-among}
+use Rattle.ndc_model_sets.proofs.FaultLemmas.{Passes, passes}
+use Rattle.ndc_model_sets.proofs.Lists.{all-among, all-from, map-among}
+use Rattle.ndc_model_sets.proofs.SetLemmas.{found-has, found-key}
 use Rattle.ndc_state.specs.Laws.{AreApart}
 use Rattle.ndc_state.specs.Replay.{replay_of}
 use Rattle.ndc_text.specs.Ranges.{InRange, KeyFits}
-use Rattle.ndc_causes.specs.Causes.{closes_for}
-use Rattle.ndc_causes.specs.Given.{AreRead}
+use Rattle.ndc_dump_causes.specs.Causes.{closes_for}
+use Rattle.ndc_dump_causes.specs.Given.{AreRead}
 use Rattle.ndc_dump.specs.Migrated.{is_carried, key_before, migrated, with_carrier_in}
 use Rattle.ndc_dump.proofs.Carriers.{Keeps, carrier-keeps, events-of, find-map-of, walk-of}
 use Rattle.ndc_dump.proofs.ReadLemmas.{points-back}
-use Rattle.ndc_causes.proofs.Soundness.{ends-for}
+use Rattle.ndc_dump_causes.proofs.Soundness.{ends-for}
 
 -- a batch that passes all tests has no fault
 no-fault : (b : Batch) → Passes b → fault_of b ≡ None

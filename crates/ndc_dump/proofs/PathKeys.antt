@@ -4,10 +4,10 @@ use Rattle.std.proofs.lemmas.List.Folds.{list_any-append}
 use Rattle.ndc_event.specs.Key.{key_eq}
 use Rattle.ndc_event.specs.declared.batch.Batch.{Batch}
 use Rattle.ndc_event.specs.declared.key.BatchKey.{BatchKey}
-use Rattle.ndc_sets.specs.Learned.{has_key}
-use Rattle.ndc_sets.specs.Paths.{Walk, is_wanted, walk_over}
-use Rattle.ndc_sets.proofs.KeyLemmas.{same-keys}
-use Rattle.ndc_causes.specs.Keys.{is_listed, with_key}
+use Rattle.ndc_model_sets.specs.Learned.{has_key}
+use Rattle.ndc_model_sets.specs.Paths.{Walk, is_wanted, walk_over}
+use Rattle.ndc_model_sets.proofs.KeyLemmas.{same-keys}
+use Rattle.ndc_dump_causes.specs.Keys.{is_listed, with_key}
 
 -- the same keys are listed as are those of the path so far, and the same key is wanted
 pub record IsSoFar (keys : List BatchKey) (wanted : Option BatchKey) (w : Walk) : Type 0 where

@@ -10,17 +10,17 @@ use Rattle.ndc_event.specs.Name.{is_name_byte}
 use Rattle.ndc_event.specs.declared.batch.Batch.{Batch}
 use Rattle.ndc_event.specs.declared.key.BatchKey.{BatchKey}
 use Rattle.ndc_event.specs.declared.name.Name.{Name}
-use Rattle.ndc_sets.specs.Sets.{ComeAfter, Rise}
-use Rattle.ndc_sets.specs.View.{view_of}
-use Rattle.ndc_sets.specs.declared.view.View.{View}
-use Rattle.ndc_sets.proofs.BranchLemmas.{among-has}
-use Rattle.ndc_sets.proofs.Lists.{all-among, all-from}
+use Rattle.ndc_model_sets.specs.Sets.{ComeAfter, Rise}
+use Rattle.ndc_model_sets.specs.View.{view_of}
+use Rattle.ndc_model_sets.specs.declared.view.View.{View}
+use Rattle.ndc_model_sets.proofs.BranchLemmas.{among-has}
+use Rattle.ndc_model_sets.proofs.Lists.{all-among, all-from}
 use Rattle.ndc_text.specs.Ranges.{InRange, IsName}
 use Rattle.ndc_text.specs.Text.{batch_text}
 use Rattle.ndc_text.specs.Views.{dump_text}
 use Rattle.ndc_text.specs.declared.form.TextForm.TheVariants as form
 use Rattle.ndc_text.proofs.Exact.{text_again}
-use Rattle.ndc_causes.specs.declared.error.LineCause.TheVariants as cause
+use Rattle.ndc_dump_causes.specs.declared.error.LineCause.TheVariants as cause
 use Rattle.ndc_dump.specs.declared.frame.Heading.{Heading}
 use Rattle.ndc_dump.specs.Batches.{batch_on, batches_on, is_behind, is_own, is_same_as, out_of_order, view_lines}
 use Rattle.ndc_dump.specs.Frame.{begins_batch, begins_first, body_of, framed, heading_by, heading_in, heading_of, named}
@@ -29,7 +29,7 @@ use Rattle.ndc_dump.specs.Printed.{CanBeDumped, IsOwn}
 use Rattle.ndc_dump.specs.Read.{dump_of, dump_on, view_on, view_text}
 use Rattle.ndc_dump.proofs.Again.{heading_text}
 use Rattle.ndc_dump.proofs.Apart.{batch_line, dump_apart, runs_begin, text_begins}
-use Rattle.ndc_causes.proofs.Causeless.{is-causeless}
+use Rattle.ndc_dump_causes.proofs.Causeless.{is-causeless}
 use Rattle.ndc_dump.proofs.Learning.{later-key}
 use Rattle.ndc_dump.proofs.Unbroken.{is_unbroken, text-unbroken, unbroken-append}
 

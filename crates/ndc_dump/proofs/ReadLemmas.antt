@@ -8,24 +8,24 @@ use Rattle.std.proofs.lemmas.List.{length-map}
 use Rattle.ndc_event.specs.Outcome.{Gives, ◌>>=◌}
 use Rattle.ndc_event.specs.declared.batch.Batch.{Batch}
 use Rattle.ndc_event.specs.declared.key.BatchKey.{BatchKey}
-use Rattle.ndc_sets.specs.Sets.{ComeAfter, PointsBack, Rise, earlier_of}
-use Rattle.ndc_sets.proofs.BranchLemmas.{has-among}
-use Rattle.ndc_sets.proofs.FaultLemmas.{passes}
-use Rattle.ndc_sets.proofs.KeyLemmas.{before-from, before-total, IsBefore}
-use Rattle.ndc_sets.proofs.Lists.{all-among}
-use Rattle.ndc_sets.proofs.SetLemmas.{after-trans}
+use Rattle.ndc_model_sets.specs.Sets.{ComeAfter, PointsBack, Rise, earlier_of}
+use Rattle.ndc_model_sets.proofs.BranchLemmas.{has-among}
+use Rattle.ndc_model_sets.proofs.FaultLemmas.{passes}
+use Rattle.ndc_model_sets.proofs.KeyLemmas.{before-from, before-total, IsBefore}
+use Rattle.ndc_model_sets.proofs.Lists.{all-among}
+use Rattle.ndc_model_sets.proofs.SetLemmas.{after-trans}
 use Rattle.ndc_text.specs.Ranges.{InRange}
 use Rattle.ndc_text.specs.Read.{read_of}
 use Rattle.ndc_text.specs.declared.error.TextError.{TextError}
 use Rattle.ndc_text.proofs.Exact.{found}
-use Rattle.ndc_causes.specs.declared.error.DumpError.{DumpError}
-use Rattle.ndc_causes.specs.declared.error.DumpError.TheVariants.{Memory}
-use Rattle.ndc_causes.specs.declared.error.LineCause.{LineCause}
-use Rattle.ndc_causes.specs.declared.error.LineCause.TheVariants as cause
+use Rattle.ndc_dump_causes.specs.declared.error.DumpError.{DumpError}
+use Rattle.ndc_dump_causes.specs.declared.error.DumpError.TheVariants.{Memory}
+use Rattle.ndc_dump_causes.specs.declared.error.LineCause.{LineCause}
+use Rattle.ndc_dump_causes.specs.declared.error.LineCause.TheVariants as cause
 use Rattle.ndc_dump.specs.declared.frame.Heading.{Heading}
 use Rattle.ndc_dump.specs.Batches.{batch_on, batches_on, behind, is_behind, is_own, is_same_as, on_line, out_of_order, placed_or}
 use Rattle.ndc_dump.specs.Frame.{begins_batch}
-use Rattle.ndc_causes.specs.Given.{AreRead}
+use Rattle.ndc_dump_causes.specs.Given.{AreRead}
 use Rattle.ndc_dump.specs.Lines.{without_end}
 
 -- a batch without a fault points back

@@ -1,16 +1,16 @@
 -- What is read is the view of a set.
 use Rattle.std.proofs.Common.{◌≡◌, ℕ, List, Option, Some, None, Result, Ok, Err, IfOk, refl, sym, ap, ◌∙◌}
 use Rattle.ndc_event.specs.Outcome.{Gives}
-use Rattle.ndc_sets.specs.View.{view_of}
-use Rattle.ndc_sets.specs.declared.view.View.{View}
+use Rattle.ndc_model_sets.specs.View.{view_of}
+use Rattle.ndc_model_sets.specs.declared.view.View.{View}
 use Rattle.ndc_dump.specs.declared.dump.Dump.{Dump}
-use Rattle.ndc_causes.specs.declared.error.DumpError.{DumpError}
-use Rattle.ndc_causes.specs.declared.error.DumpError.TheVariants.{Memory}
+use Rattle.ndc_dump_causes.specs.declared.error.DumpError.{DumpError}
+use Rattle.ndc_dump_causes.specs.declared.error.DumpError.TheVariants.{Memory}
 use Rattle.ndc_dump.specs.Batches.{batches_on}
-use Rattle.ndc_causes.specs.Causes.{sound_or}
+use Rattle.ndc_dump_causes.specs.Causes.{sound_or}
 use Rattle.ndc_dump.specs.Frame.{heading_of, body_of}
 use Rattle.ndc_dump.specs.Read.{dump_on, dump_with, shown_or, view_on}
-use Rattle.ndc_causes.proofs.NoCause.{went}
+use Rattle.ndc_dump_causes.proofs.NoCause.{went}
 
 shown : (view v : View) (o : Option ℕ) → shown_or view o ≡ Ok v → v ≡ view
 shown view v None e = cc

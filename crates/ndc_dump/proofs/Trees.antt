@@ -7,23 +7,23 @@ use Rattle.ndc_event.specs.declared.batch.Batch.{Batch}
 use Rattle.ndc_event.specs.declared.key.BatchKey.{BatchKey}
 use Rattle.ndc_event.specs.declared.key.RunId.{RunId}
 use Rattle.ndc_event.specs.declared.name.Name.{Name}
-use Rattle.ndc_runs.specs.RunMap.{part_of}
-use Rattle.ndc_runs.proofs.PartLemmas.{part-path}
-use Rattle.ndc_sets.specs.Branches.{current_tip, has_child, leads, runs, same_run, tips}
-use Rattle.ndc_sets.specs.Learned.{has_key}
-use Rattle.ndc_sets.specs.Paths.{path_from}
-use Rattle.ndc_sets.specs.Sound.{IsSound}
-use Rattle.ndc_sets.specs.View.{branch_view, run_view, view_of}
-use Rattle.ndc_sets.specs.declared.view.RunView.{RunView}
-use Rattle.ndc_sets.specs.declared.view.View.{View}
-use Rattle.ndc_sets.proofs.BranchLemmas.{among-has, run-same}
-use Rattle.ndc_sets.proofs.KeyLemmas.{same-keys, key_eq-self}
-use Rattle.ndc_sets.proofs.Lists.{Among, filter-among, find-among}
-use Rattle.ndc_sets.proofs.PathLemmas.{none-wanted}
+use Rattle.ndc_shard_runs.specs.RunMap.{part_of}
+use Rattle.ndc_shard_runs.proofs.PartLemmas.{part-path}
+use Rattle.ndc_model_sets.specs.Branches.{current_tip, has_child, leads, runs, same_run, tips}
+use Rattle.ndc_model_sets.specs.Learned.{has_key}
+use Rattle.ndc_model_sets.specs.Paths.{path_from}
+use Rattle.ndc_model_sets.specs.Sound.{IsSound}
+use Rattle.ndc_model_sets.specs.View.{branch_view, run_view, view_of}
+use Rattle.ndc_model_sets.specs.declared.view.RunView.{RunView}
+use Rattle.ndc_model_sets.specs.declared.view.View.{View}
+use Rattle.ndc_model_sets.proofs.BranchLemmas.{among-has, run-same}
+use Rattle.ndc_model_sets.proofs.KeyLemmas.{same-keys, key_eq-self}
+use Rattle.ndc_model_sets.proofs.Lists.{Among, filter-among, find-among}
+use Rattle.ndc_model_sets.proofs.PathLemmas.{none-wanted}
 use Rattle.ndc_text.specs.Views.{batch_line, batch_lines, branch_line, is_on_tip, run_line, tree_text}
 use Rattle.ndc_dump.specs.Marks.{current_key, marked_line, marked_lines, path_lines, run_tree}
 use Rattle.ndc_dump.specs.Groups.{listed}
-use Rattle.ndc_causes.specs.Keys.{is_listed}
+use Rattle.ndc_dump_causes.specs.Keys.{is_listed}
 
 -- ---- marks
 

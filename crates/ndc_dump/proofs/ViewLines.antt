@@ -3,13 +3,13 @@ use Rattle.std.proofs.Common.{◌≡◌, ℕ, zero, suc, ◌<◌, ◌≤◌, Boo
 use Rattle.std.specs.List.{flat_map}
 use Rattle.std.proofs.lemmas.List.{length-map, length-drop}
 use Rattle.ndc_event.specs.declared.batch.Batch.{Batch}
-use Rattle.ndc_sets.specs.View.{view_of}
-use Rattle.ndc_sets.specs.declared.view.RunView.{RunView}
-use Rattle.ndc_sets.specs.declared.view.View.{View}
+use Rattle.ndc_model_sets.specs.View.{view_of}
+use Rattle.ndc_model_sets.specs.declared.view.RunView.{RunView}
+use Rattle.ndc_model_sets.specs.declared.view.View.{View}
 use Rattle.ndc_text.specs.Views.{run_state_lines}
 use Rattle.ndc_text.specs.declared.form.TextForm.{TextForm}
-use Rattle.ndc_causes.specs.declared.error.DumpError.TheVariants.{Line}
-use Rattle.ndc_causes.specs.declared.error.LineCause.TheVariants.{BadView}
+use Rattle.ndc_dump_causes.specs.declared.error.DumpError.TheVariants.{Line}
+use Rattle.ndc_dump_causes.specs.declared.error.LineCause.TheVariants.{BadView}
 use Rattle.ndc_dump.specs.Batches.{batch_count, view_lines}
 use Rattle.ndc_dump.specs.Frame.{begins_batch}
 use Rattle.ndc_dump.specs.Lines.{differ_at, lines_of}

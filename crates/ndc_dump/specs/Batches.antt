@@ -8,10 +8,10 @@ use Rattle.ndc_event.specs.declared.key.BatchKey.{BatchKey}
 use Rattle.ndc_text.specs.Read.{read_of}
 use Rattle.ndc_text.specs.declared.error.TextError.{TextError}
 use Rattle.ndc_text.specs.declared.error.TextError.TheVariants as text
-use Rattle.ndc_causes.specs.declared.error.DumpError.{DumpError}
-use Rattle.ndc_causes.specs.declared.error.DumpError.TheVariants as dump
-use Rattle.ndc_causes.specs.declared.error.LineCause.{LineCause}
-use Rattle.ndc_causes.specs.declared.error.LineCause.TheVariants as cause
+use Rattle.ndc_dump_causes.specs.declared.error.DumpError.{DumpError}
+use Rattle.ndc_dump_causes.specs.declared.error.DumpError.TheVariants as dump
+use Rattle.ndc_dump_causes.specs.declared.error.LineCause.{LineCause}
+use Rattle.ndc_dump_causes.specs.declared.error.LineCause.TheVariants as cause
 use Rattle.ndc_dump.specs.declared.frame.Heading.{Heading}
 use Rattle.ndc_dump.specs.Frame.{begins_batch}
 use Rattle.ndc_dump.specs.Lines.{without_end}

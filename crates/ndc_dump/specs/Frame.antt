@@ -6,9 +6,9 @@ use Rattle.ndc_event.specs.Name.{is_name}
 use Rattle.ndc_event.specs.declared.name.Name.{Name}
 use Rattle.ndc_text.specs.declared.form.TextForm.{TextForm}
 use Rattle.ndc_text.specs.declared.form.TextForm.TheVariants as form
-use Rattle.ndc_causes.specs.declared.error.DumpError.{DumpError}
-use Rattle.ndc_causes.specs.declared.error.DumpError.TheVariants.{Line}
-use Rattle.ndc_causes.specs.declared.error.LineCause.TheVariants.{BadFrame}
+use Rattle.ndc_dump_causes.specs.declared.error.DumpError.{DumpError}
+use Rattle.ndc_dump_causes.specs.declared.error.DumpError.TheVariants.{Line}
+use Rattle.ndc_dump_causes.specs.declared.error.LineCause.TheVariants.{BadFrame}
 use Rattle.ndc_dump.specs.declared.frame.Heading.{Heading}
 use Rattle.ndc_dump.specs.Lines.{without_end}
 

@@ -4,11 +4,11 @@ use Rattle.std.specs.List.{flat_map}
 use Rattle.std.specs.Option.{option_map}
 use Rattle.ndc_event.specs.declared.batch.Batch.{Batch}
 use Rattle.ndc_event.specs.declared.key.BatchKey.{BatchKey}
-use Rattle.ndc_sets.specs.Learned.{has_key}
-use Rattle.ndc_sets.specs.Paths.{first_id, last_id, path_from}
-use Rattle.ndc_sets.specs.declared.view.BranchView.{BranchView}
-use Rattle.ndc_sets.specs.declared.view.RunView.{RunView}
-use Rattle.ndc_causes.specs.Keys.{is_listed}
+use Rattle.ndc_model_sets.specs.Learned.{has_key}
+use Rattle.ndc_model_sets.specs.Paths.{first_id, last_id, path_from}
+use Rattle.ndc_model_sets.specs.declared.view.BranchView.{BranchView}
+use Rattle.ndc_model_sets.specs.declared.view.RunView.{RunView}
+use Rattle.ndc_dump_causes.specs.Keys.{is_listed}
 use Rattle.ndc_text.specs.Views.{branch_line, current_mark, key_text, parent_text, run_line}
 
 -- `batch KEY after PARENT`

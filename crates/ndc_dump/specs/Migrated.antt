@@ -2,10 +2,10 @@
 use Rattle.std.specs.Prelude.{◌-◌, Bool, ◌&&◌, is_none, List, map, Some, if◌then◌else◌}
 use Rattle.ndc_event.specs.declared.batch.Batch.{Batch}
 use Rattle.ndc_event.specs.declared.key.BatchKey.{BatchKey}
-use Rattle.ndc_sets.specs.Sets.{batch_at}
+use Rattle.ndc_model_sets.specs.Sets.{batch_at}
 use Rattle.ndc_text.specs.declared.form.TextForm.{TextForm}
 use Rattle.ndc_text.specs.declared.form.TextForm.TheVariants.{One, Two}
-use Rattle.ndc_causes.specs.Causes.{closes_for}
+use Rattle.ndc_dump_causes.specs.Causes.{closes_for}
 
 -- the key just before, of the same version
 abbrev pub key_before : BatchKey → BatchKey

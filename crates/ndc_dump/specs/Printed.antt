@@ -3,7 +3,7 @@ use Rattle.std.specs.Prelude.{◌≡◌, ◌≢◌, List, []}
 use Rattle.std.specs.List.{AllByRecursion}
 use Rattle.ndc_event.specs.declared.batch.Batch.{Batch}
 use Rattle.ndc_event.specs.declared.name.Name.{Name}
-use Rattle.ndc_sets.specs.Sound.{IsSound}
+use Rattle.ndc_model_sets.specs.Sound.{IsSound}
 use Rattle.ndc_text.specs.Ranges.{InRange, IsName}
 
 -- a batch of this domain and workflow

@@ -2,15 +2,15 @@
 use Rattle.std.specs.Prelude.{ℕ, ◌+◌, List, ◌++◌, length, codes, Option, Some, None, Result, Ok, Err}
 use Rattle.std.specs.List.{flat_map}
 use Rattle.ndc_event.specs.Outcome.{◌>>=◌}
-use Rattle.ndc_sets.specs.View.{view_of}
-use Rattle.ndc_sets.specs.declared.view.View.{View}
+use Rattle.ndc_model_sets.specs.View.{view_of}
+use Rattle.ndc_model_sets.specs.declared.view.View.{View}
 use Rattle.ndc_text.specs.Views.{run_state_lines}
 use Rattle.ndc_dump.specs.declared.dump.Dump.{Dump}
-use Rattle.ndc_causes.specs.declared.error.DumpError.{DumpError}
-use Rattle.ndc_causes.specs.declared.error.DumpError.TheVariants.{Line}
-use Rattle.ndc_causes.specs.declared.error.LineCause.TheVariants.{BadView}
+use Rattle.ndc_dump_causes.specs.declared.error.DumpError.{DumpError}
+use Rattle.ndc_dump_causes.specs.declared.error.DumpError.TheVariants.{Line}
+use Rattle.ndc_dump_causes.specs.declared.error.LineCause.TheVariants.{BadView}
 use Rattle.ndc_dump.specs.Batches.{batches_on, view_lines}
-use Rattle.ndc_causes.specs.Causes.{sound_or}
+use Rattle.ndc_dump_causes.specs.Causes.{sound_or}
 use Rattle.ndc_dump.specs.declared.frame.Heading.{Heading}
 use Rattle.ndc_dump.specs.Frame.{heading_of, body_of}
 use Rattle.ndc_dump.specs.Lines.{differ_at, lines_of}

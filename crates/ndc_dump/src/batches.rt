@@ -3,13 +3,13 @@ ghost use Rattle.std.specs.Prelude.{◌≡◌, ◌≤◌, length, map, true, Non
 ghost use Rattle.ndc_event.specs.Outcome.{Gives};
 ghost use Rattle.ndc_text.specs.Read.{read_of};
 ghost use Rattle.ndc_text.specs.declared.error.TextError.TheVariants as text;
-ghost use Rattle.ndc_causes.specs.declared.error.DumpError.TheVariants.{Memory};
+ghost use Rattle.ndc_dump_causes.specs.declared.error.DumpError.TheVariants.{Memory};
 ghost use Rattle.ndc_dump.specs.Batches.{batch_on, batches_on, out_of_order, is_behind, is_own, is_same_as, text_fault};
-ghost use Rattle.ndc_causes.specs.Given.{AreRead};
+ghost use Rattle.ndc_dump_causes.specs.Given.{AreRead};
 
 use crate::cut::without_end;
 use crate::frame::{Heading, begins_batch};
-use ndc_causes::{DumpError, LineCause};
+use ndc_dump_causes::{DumpError, LineCause};
 use ndc_event::{Batch, BatchKey};
 use ndc_text::{TextError, TextForm, read_batch, read_batch_1};
 use std::alloc::{AllocError, Global};

@@ -1,5 +1,5 @@
 use ndc_event::Name;
-use ndc_sets::View;
+use ndc_model_sets::View;
 
 /// A dump: a workflow and what a cluster shows of it.
 #[derive(Drop)]

@@ -2,11 +2,11 @@
 ghost use Rattle.std.specs.Prelude.{◌≡◌, ◌==◌, IfOk, map, take};
 ghost use Rattle.std.specs.List.{slice_split};
 ghost use Rattle.ndc_event.specs.Outcome.{Gives};
-ghost use Rattle.ndc_causes.specs.declared.error.DumpError.TheVariants.{Memory};
+ghost use Rattle.ndc_dump_causes.specs.declared.error.DumpError.TheVariants.{Memory};
 ghost use Rattle.ndc_dump.specs.Frame.{begins_batch, body_of, form_of, begins_first, heading_in, heading_of, heading_with, named};
 
 use crate::cut::without_end;
-use ndc_causes::{DumpError, LineCause};
+use ndc_dump_causes::{DumpError, LineCause};
 use ndc_event::{Name, NameError};
 use ndc_text::TextForm;
 use std::alloc::{AllocError, Global};

@@ -15,7 +15,7 @@ mod tree;
 pub mod worked_dumps;
 
 pub use dump::Dump;
-pub use ndc_causes::{DumpError, KeyCause, LineCause};
-pub use ndc_show::dump_text;
+pub use ndc_dump_causes::{DumpError, KeyCause, LineCause};
+pub use ndc_dump_show::dump_text;
 pub use read::read_dump;
 pub use tree::tree_text;

@@ -1,10 +1,10 @@
 // Sets that were written without carriers.
 ghost use Rattle.std.specs.Prelude.{◌≡◌, map, IfOk};
-ghost use Rattle.ndc_sets.specs.Sets.{Rise};
+ghost use Rattle.ndc_model_sets.specs.Sets.{Rise};
 ghost use Rattle.ndc_dump.specs.Migrated.{is_carried, key_before, migrated, standing_for, with_carrier};
 
-use ndc_causes::causes::closes_for;
-use ndc_causes::found::batch_at;
+use ndc_dump_causes::causes::closes_for;
+use ndc_dump_causes::found::batch_at;
 use ndc_event::{Batch, BatchKey};
 use ndc_text::TextForm;
 use std::alloc::{AllocError, Global};

@@ -1,11 +1,11 @@
 // The keys of a path.
 ghost use Rattle.std.specs.Prelude.{◌≡◌, map, IfOk, Some};
 ghost use Rattle.ndc_event.specs.declared.key.BatchKey.{BatchKey};
-ghost use Rattle.ndc_sets.specs.Learned.{has_key};
-ghost use Rattle.ndc_sets.specs.Paths.{path_from};
-ghost use Rattle.ndc_causes.specs.Keys.{is_listed};
+ghost use Rattle.ndc_model_sets.specs.Learned.{has_key};
+ghost use Rattle.ndc_model_sets.specs.Paths.{path_from};
+ghost use Rattle.ndc_dump_causes.specs.Keys.{is_listed};
 
-use ndc_causes::keys::KeySet;
+use ndc_dump_causes::keys::KeySet;
 use ndc_event::{Batch, BatchKey};
 use std::alloc::{AllocError, Global};
 

@@ -1,16 +1,16 @@
 ghost use Rattle.std.specs.Prelude.{◌≡◌, ◌+◌, ◌≤◌, ◌<◌, ◌^◌, ◌++◌, Ok, codes, length, map, IfOk};
 ghost use Rattle.std.specs.List.{flat_map};
 ghost use Rattle.ndc_event.specs.Outcome.{Gives};
-ghost use Rattle.ndc_sets.specs.Sound.{IsSound};
-ghost use Rattle.ndc_sets.specs.View.{view_of};
+ghost use Rattle.ndc_model_sets.specs.Sound.{IsSound};
+ghost use Rattle.ndc_model_sets.specs.View.{view_of};
 ghost use Rattle.ndc_text.specs.Views.{run_state_lines};
 ghost use Rattle.ndc_dump.specs.Batches.{batch_count, view_lines};
-ghost use Rattle.ndc_causes.specs.Causes.{sound_or};
-ghost use Rattle.ndc_causes.specs.Given.{AreRead};
+ghost use Rattle.ndc_dump_causes.specs.Causes.{sound_or};
+ghost use Rattle.ndc_dump_causes.specs.Given.{AreRead};
 ghost use Rattle.ndc_dump.specs.Lines.{differ_at, lines_of};
 ghost use Rattle.ndc_dump.specs.Migrated.{standing_for};
 ghost use Rattle.ndc_dump.specs.Read.{dump_of, dump_on, view_on};
-ghost use Rattle.ndc_causes.specs.declared.error.DumpError.TheVariants.{Memory};
+ghost use Rattle.ndc_dump_causes.specs.declared.error.DumpError.TheVariants.{Memory};
 
 use crate::batches::batches_on;
 use crate::cut::lines_of;
@@ -18,10 +18,10 @@ use crate::dump::Dump;
 use crate::frame::{begins_batch, body_of, heading_of};
 use crate::migrated::standing_for;
 use crate::showing::runs_of;
-use ndc_causes::{DumpError, LineCause, sound_or};
+use ndc_dump_causes::{DumpError, LineCause, sound_or};
+use ndc_dump_show::print::push_runs;
 use ndc_event::Batch;
-use ndc_sets::{Batches, RunView, RunViews, View};
-use ndc_show::print::push_runs;
+use ndc_model_sets::{Batches, RunView, RunViews, View};
 use ndc_text::TextForm;
 use std::alloc::{AllocError, Global};
 

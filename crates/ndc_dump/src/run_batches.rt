@@ -2,7 +2,7 @@
 ghost use Rattle.std.specs.Prelude.{◌≡◌, IfOk};
 ghost use Rattle.ndc_event.specs.declared.key.RunId.{RunId as Id};
 ghost use Rattle.ndc_dump.specs.Groups.{listed};
-ghost use Rattle.ndc_runs.specs.RunMap.{part_of};
+ghost use Rattle.ndc_shard_runs.specs.RunMap.{part_of};
 
 use indexmap::IndexMap;
 use ndc_event::{Batch, RunId};
@@ -29,7 +29,7 @@ impl<'b> RunBatches<'b> {
     ghost use Rattle.std.specs.Prelude.{◌≡◌, ◌++◌, [], ◌∷◌, map, IfNone, IfSome, OnOk};
     ghost use Rattle.ndc_event.specs.declared.key.RunId.{RunId as Id};
     ghost use Rattle.ndc_dump.specs.Groups.{listed};
-    ghost use Rattle.ndc_runs.specs.RunMap.{part_of};
+    ghost use Rattle.ndc_shard_runs.specs.RunMap.{part_of};
 
     /// There is no batch.
     fn new(alloc: Global) -> RunBatches<'b>

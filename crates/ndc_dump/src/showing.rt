@@ -1,13 +1,13 @@
 // The runs of a set of batches: they are learned one after the other, as a cell learns them.
 ghost use Rattle.std.specs.Prelude.{◌≡◌, Ok, IfOk};
-ghost use Rattle.ndc_sets.specs.Sound.{IsSound};
-ghost use Rattle.ndc_sets.specs.View.{view_of};
-ghost use Rattle.ndc_causes.specs.Causes.{sound_or};
-ghost use Rattle.ndc_causes.specs.Given.{AreRead};
+ghost use Rattle.ndc_model_sets.specs.Sound.{IsSound};
+ghost use Rattle.ndc_model_sets.specs.View.{view_of};
+ghost use Rattle.ndc_dump_causes.specs.Causes.{sound_or};
+ghost use Rattle.ndc_dump_causes.specs.Given.{AreRead};
 
 use ndc_event::Batch;
-use ndc_runs::Runs;
-use ndc_sets::RunView;
+use ndc_model_sets::RunView;
+use ndc_shard_runs::Runs;
 use ndc_state::Steps;
 use std::alloc::{AllocError, Global};
 

@@ -1,20 +1,20 @@
 ghost use Rattle.std.specs.Prelude.{◌≡◌, ◌++◌, codes, decimal, map, IfOk, OnOk};
 ghost use Rattle.std.specs.List.{flat_map};
-ghost use Rattle.ndc_sets.specs.Paths.{first_id, last_id};
-ghost use Rattle.ndc_sets.specs.Sound.{IsSound};
-ghost use Rattle.ndc_sets.specs.View.{view_of};
+ghost use Rattle.ndc_model_sets.specs.Paths.{first_id, last_id};
+ghost use Rattle.ndc_model_sets.specs.Sound.{IsSound};
+ghost use Rattle.ndc_model_sets.specs.View.{view_of};
 ghost use Rattle.ndc_dump.specs.Groups.{listed};
 ghost use Rattle.ndc_text.specs.Views.{branch_line, current_mark, parent_text, tree_text};
 ghost use Rattle.ndc_dump.specs.Marks.{batch_head, current_key, marked_line, marked_lines, run_tree};
 
 use crate::path::path_keys;
 use crate::run_batches::{RunBatches, grouped};
-use ndc_causes::ids::{first_id, last_id};
-use ndc_causes::keys::KeySet;
+use ndc_dump_causes::ids::{first_id, last_id};
+use ndc_dump_causes::keys::KeySet;
+use ndc_dump_show::line::{push_branch_line, push_key, push_mark, push_number, push_run_line};
+use ndc_dump_show::print::push_heading;
 use ndc_event::{Batch, BatchKey, Event, Name};
-use ndc_sets::{BranchView, RunView, View};
-use ndc_show::line::{push_branch_line, push_key, push_mark, push_number, push_run_line};
-use ndc_show::print::push_heading;
+use ndc_model_sets::{BranchView, RunView, View};
 use std::alloc::{AllocError, Global};
 
 /// Appends a parent's key, or a dash.

@@ -2,17 +2,17 @@
 ghost use Rattle.std.specs.Prelude.{◌≡◌, [], ◌∷◌, map, None, Some, Ok, Err, codes};
 ghost use Rattle.ndc_event.specs.declared.batch.Batch.{Batch};
 ghost use Rattle.ndc_event.specs.declared.kind.EventKind.TheVariants.{DecisionTaskScheduled};
-ghost use Rattle.ndc_sets.specs.Sets.{arrived};
-ghost use Rattle.ndc_sets.specs.Worked.{batch, begun, begun_again, copied_twice, copy, first_lost, forked, from, key, old_run_wins, run, signal, signaled};
-ghost use Rattle.ndc_causes.specs.declared.error.DumpError.TheVariants.{Line, Key};
-ghost use Rattle.ndc_causes.specs.declared.error.KeyCause.TheVariants.{MissingParent, NotWellFormed, SplitVersion, OriginTwice, OriginUnfit, BadReplay, CarrierUnfit};
-ghost use Rattle.ndc_causes.specs.declared.error.LineCause.TheVariants.{BadFrame};
-ghost use Rattle.ndc_causes.specs.Causes.{sound_or};
+ghost use Rattle.ndc_model_sets.specs.Sets.{arrived};
+ghost use Rattle.ndc_model_sets.specs.Worked.{batch, begun, begun_again, copied_twice, copy, first_lost, forked, from, key, old_run_wins, run, signal, signaled};
+ghost use Rattle.ndc_dump_causes.specs.declared.error.DumpError.TheVariants.{Line, Key};
+ghost use Rattle.ndc_dump_causes.specs.declared.error.KeyCause.TheVariants.{MissingParent, NotWellFormed, SplitVersion, OriginTwice, OriginUnfit, BadReplay, CarrierUnfit};
+ghost use Rattle.ndc_dump_causes.specs.declared.error.LineCause.TheVariants.{BadFrame};
+ghost use Rattle.ndc_dump_causes.specs.Causes.{sound_or};
 ghost use Rattle.ndc_dump.specs.Migrated.{migrated};
 ghost use Rattle.ndc_dump.specs.Read.{dump_of};
 
 /// Sets that clusters write have none of the causes.
-#[tactic(auto, unfolding(ndc_causes::specs::Causes::sound_or, ndc_state::specs::Table::row))]
+#[tactic(auto, unfolding(ndc_dump_causes::specs::Causes::sound_or, ndc_state::specs::Table::row))]
 pub fn sets_that_clusters_write_have_no_cause()
     ensures forked { sound_or forked ≡ Ok tt }
     ensures copied { sound_or copied_twice ≡ Ok tt }
@@ -21,7 +21,7 @@ pub fn sets_that_clusters_write_have_no_cause()
 {}
 
 /// A set with one batch that does not fit has its cause, with its key.
-#[tactic(auto, unfolding(ndc_causes::specs::Causes::sound_or, ndc_state::specs::Table::row))]
+#[tactic(auto, unfolding(ndc_dump_causes::specs::Causes::sound_or, ndc_state::specs::Table::row))]
 pub fn each_cause_has_a_set()
     ensures missing { sound_or first_lost ≡ Err (Key (key 1 2) MissingParent) }
     ensures formed { sound_or (begun ∷ signaled (key 1 2) (key 1 1) 4 (signal (codes "ping") (codes "x")) ∷ []) ≡ Err (Key (key 1 2) NotWellFormed) }

@@ -1,6 +1,6 @@
 -- The beginning of a handover: the domain fails over to the target, where its version is the cluster's own.
 use Rattle.std.specs.Prelude.{ℕ, not, List, Option, Some, None, Result, Ok, Err, if◌then◌else◌}
-use Rattle.ndc_cells.specs.Writing.{is_writer}
+use Rattle.ndc_model_cells.specs.Writing.{is_writer}
 use Rattle.ndc_domain.specs.Clusters.{ClusterList, writer_of}
 use Rattle.ndc_domain.specs.Records.{failover_of, record_of}
 use Rattle.ndc_domain.specs.declared.clusters.ClusterNo.{ClusterNo}

@@ -1,5 +1,5 @@
 ghost use Rattle.std.specs.Prelude.{◌≡◌, ◌≤◌, ◌^◌, length};
-ghost use Rattle.ndc_cells.specs.Writing.{is_writer};
+ghost use Rattle.ndc_model_cells.specs.Writing.{is_writer};
 ghost use Rattle.ndc_domain.specs.Clusters.{writer_of};
 ghost use Rattle.ndc_domain.specs.Records.{record_of};
 ghost use Rattle.ndc_graceful.specs.Ready.{lagging_from, not_below};

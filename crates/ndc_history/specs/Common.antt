@@ -41,3 +41,8 @@ better place (Some item) (Some later) = if nat_lt item.id later.1.id then Some l
 abbrev pub best_from : ℕ → List (List Item) → List Item → Option (ℕ × Item)
 best_from place [] remote = None
 best_from place (history ∷ histories) remote = better place (common_of history remote) (best_from (place + 1) histories remote)
+
+-- an item, or the one before all
+abbrev pub item_or_zero : Option Item → Item
+item_or_zero None = record { id = 0; version = 0 }
+item_or_zero (Some item) = item

@@ -2,13 +2,13 @@
 use Rattle.std.proofs.Common.{◌≡◌, ◌≤◌, ℕ, Bool, true, false, List, [], ◌∷◌, ◌++◌, Option, Some, None, Result, Ok, Err, if◌then◌else◌, refl, sym, ◌∙◌, subst, ap, arith}
 use Rattle.std.specs.Prelude.{option_to_list}
 use Rattle.std.specs.List.{AllByRecursion}
-use Rattle.ndc_cells.specs.Arrival.{arrived_at, cell_with, has_arrived}
-use Rattle.ndc_cells.specs.Cells.{Cell, both, empty_cell, learned_of}
-use Rattle.ndc_cells.specs.Jobs.{after_job, cell_for, cells_after, cells_behind, reapplied_in, workflows_of, written_at}
-use Rattle.ndc_cells.specs.Writing.{Entry, Home, alone, as_command_error, batch_below, batches_in, carried_by, command_entries, command_of, entry_message, entry_of, first_batch, goes_on_as, is_close_full, key_behind, may_write, next_key, reapplication_below, reapplication_by, reapplication_of, reset_at, reset_below, reset_close, reset_entries, reset_refused, with_all_written, with_batches, with_written}
-use Rattle.ndc_cells.specs.declared.job.Job.{Job}
-use Rattle.ndc_cells.specs.declared.job.Job.TheVariants as job
-use Rattle.ndc_cells.specs.declared.job.ShardJob.{ShardJob}
+use Rattle.ndc_model_cells.specs.Arrival.{arrived_at, cell_with, has_arrived}
+use Rattle.ndc_model_cells.specs.Cells.{Cell, both, empty_cell, learned_of}
+use Rattle.ndc_model_cells.specs.Jobs.{after_job, cell_for, cells_after, cells_behind, reapplied_in, workflows_of, written_at}
+use Rattle.ndc_model_cells.specs.Writing.{Entry, Home, alone, as_command_error, batch_below, batches_in, carried_by, command_entries, command_of, entry_message, entry_of, first_batch, goes_on_as, is_close_full, key_behind, may_write, next_key, reapplication_below, reapplication_by, reapplication_of, reset_at, reset_below, reset_close, reset_entries, reset_refused, with_all_written, with_batches, with_written}
+use Rattle.ndc_model_cells.specs.declared.job.Job.{Job}
+use Rattle.ndc_model_cells.specs.declared.job.Job.TheVariants as job
+use Rattle.ndc_model_cells.specs.declared.job.ShardJob.{ShardJob}
 use Rattle.ndc_command.specs.Laws.{begins_run}
 use Rattle.ndc_command.specs.Plan.{plan_of}
 use Rattle.ndc_command.specs.declared.command.Command.{Command}
@@ -24,14 +24,14 @@ use Rattle.ndc_event.specs.declared.batch.Batch.{Batch}
 use Rattle.ndc_event.specs.declared.key.BatchKey.{BatchKey}
 use Rattle.ndc_event.specs.declared.kind.EventKind.{EventKind}
 use Rattle.ndc_event.specs.declared.name.Name.{Name}
-use Rattle.ndc_fair.proofs.WriterLemmas.{may-parts}
+use Rattle.ndc_laws_reached.proofs.WriterLemmas.{may-parts}
 use Rattle.ndc_model.proofs.ListLemmas.{all-append}
 use Rattle.ndc_model.proofs.WorldLemmas.{set-cases}
 use Rattle.ndc_reapply.specs.declared.stray.Stray.{Stray}
 use Rattle.ndc_reset.specs.Reset.{reset_of}
-use Rattle.ndc_sets.specs.Branches.{workflow_tip}
-use Rattle.ndc_sets.specs.Current.{state_to, strays}
-use Rattle.ndc_sets.specs.Paths.{events_to}
+use Rattle.ndc_model_sets.specs.Branches.{workflow_tip}
+use Rattle.ndc_model_sets.specs.Current.{state_to, strays}
+use Rattle.ndc_model_sets.specs.Paths.{events_to}
 use Rattle.ndc_state.specs.Value.{StateValue}
 
 -- a table's record of the batch's domain has no greater version

@@ -2,29 +2,29 @@
 use Rattle.std.proofs.Common.{◌≡◌, ◌<◌, ℕ, Bool, true, false, not, List, ◌⊎◌, inl, inr, Option, Some, None, refl, sym, ◌∙◌, subst, ap, true≢false}
 use Rattle.std.specs.Prelude.{is_some}
 use Rattle.std.specs.List.{IsAmong}
-use Rattle.ndc_act.specs.WellFormed.{IsCluster}
-use Rattle.ndc_act.specs.declared.script.Header.{Header}
-use Rattle.ndc_cells.specs.Arrival.{has_arrived}
-use Rattle.ndc_cells.specs.Cells.{Cell, arrived_of, is_learned_in, put_off_in}
-use Rattle.ndc_cells.specs.Places.{batch_there, is_of, place_of}
-use Rattle.ndc_cells.proofs.PlaceLemmas.{set_of_workflow}
+use Rattle.ndc_script_types.specs.WellFormed.{IsCluster}
+use Rattle.ndc_script_types.specs.declared.script.Header.{Header}
+use Rattle.ndc_model_cells.specs.Arrival.{has_arrived}
+use Rattle.ndc_model_cells.specs.Cells.{Cell, arrived_of, is_learned_in, put_off_in}
+use Rattle.ndc_model_cells.specs.Places.{batch_there, is_of, place_of}
+use Rattle.ndc_model_cells.proofs.PlaceLemmas.{set_of_workflow}
 use Rattle.ndc_domain.specs.declared.clusters.ClusterNo.{ClusterNo}
 use Rattle.ndc_event.specs.declared.batch.Batch.{Batch}
 use Rattle.ndc_event.specs.declared.key.BatchKey.{BatchKey}
 use Rattle.ndc_event.specs.declared.name.Name.{Name}
-use Rattle.ndc_fair.proofs.FoundLemmas.{at-there}
-use Rattle.ndc_fair.proofs.WrittenLemmas.{arrived-written, cell-is, has-written, names-of, own-names}
+use Rattle.ndc_laws_reached.proofs.FoundLemmas.{at-there}
+use Rattle.ndc_laws_reached.proofs.WrittenLemmas.{arrived-written, cell-is, has-written, names-of, own-names}
 use Rattle.ndc_laws.specs.Promised.{LacksAncestor, WaitsForAncestors}
 use Rattle.ndc_model.specs.Facts.{IsReached}
 use Rattle.ndc_model.specs.Fair.{written_of}
 use Rattle.ndc_model.specs.World.{World, cell_at}
 use Rattle.ndc_model.proofs.ListLemmas.{among-is, is-among}
-use Rattle.ndc_sets.specs.Learned.{IsPart, ReachesTop, WaitsFor, behind, itself, learned, top, up}
-use Rattle.ndc_sets.specs.Sets.{Has, IsSet, batch_at, earlier}
-use Rattle.ndc_sets.proofs.BranchLemmas.{among-has, has-among, same-batch}
-use Rattle.ndc_sets.proofs.LearnedLemmas.{closed_whole, learned-reaches, reaches-has, reaches-learned}
-use Rattle.ndc_sets.proofs.Lists.{Among, among-filter, filter-among}
-use Rattle.ndc_sets.proofs.SetLemmas.{found-has, found-key}
+use Rattle.ndc_model_sets.specs.Learned.{IsPart, ReachesTop, WaitsFor, behind, itself, learned, top, up}
+use Rattle.ndc_model_sets.specs.Sets.{Has, IsSet, batch_at, earlier}
+use Rattle.ndc_model_sets.proofs.BranchLemmas.{among-has, has-among, same-batch}
+use Rattle.ndc_model_sets.proofs.LearnedLemmas.{closed_whole, learned-reaches, reaches-has, reaches-learned}
+use Rattle.ndc_model_sets.proofs.Lists.{Among, among-filter, filter-among}
+use Rattle.ndc_model_sets.proofs.SetLemmas.{found-has, found-key}
 
 -- some batch on the way up from one is not there
 record Lacks (all held : List Batch) (b : Batch) : Type 0 where

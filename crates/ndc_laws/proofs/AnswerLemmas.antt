@@ -2,38 +2,38 @@
 use Rattle.std.proofs.Common.{◌≡◌, ◌<◌, ◌↔◌, ℕ, Bool, true, false, not, is_some, List, [], ◌∷◌, Option, Some, None, refl, sym, ◌∙◌, subst, ap, true≢false, if◌then◌else◌}
 use Rattle.std.specs.Prelude.{map, unwrap_or}
 use Rattle.std.specs.List.{IsAmong, filter}
-use Rattle.ndc_act.specs.WellFormed.{IsCluster}
-use Rattle.ndc_act.specs.declared.script.Header.{Header}
-use Rattle.ndc_cells.specs.declared.job.Arrived.{Arrived}
-use Rattle.ndc_cells.specs.declared.job.Arrived.TheVariants.{Known, Learned, PutOff}
-use Rattle.ndc_cells.specs.declared.message.Message.{Message}
-use Rattle.ndc_cells.specs.Arrival.{arrival_of, arrived_at, cell_with, has_arrived, learned_with, newly_learned}
-use Rattle.ndc_cells.specs.Cells.{Cell, arrived_of, is_learned_in, learned_of, missing_of, put_off_in}
-use Rattle.ndc_cells.specs.Jobs.{after_job, cells_after}
-use Rattle.ndc_cells.specs.Places.{batch_there, is_of, place_of}
-use Rattle.ndc_cells.specs.Shards.{shard_of}
+use Rattle.ndc_script_types.specs.WellFormed.{IsCluster}
+use Rattle.ndc_script_types.specs.declared.script.Header.{Header}
+use Rattle.ndc_model_cells.specs.declared.job.Arrived.{Arrived}
+use Rattle.ndc_model_cells.specs.declared.job.Arrived.TheVariants.{Known, Learned, PutOff}
+use Rattle.ndc_model_cells.specs.declared.message.Message.{Message}
+use Rattle.ndc_model_cells.specs.Arrival.{arrival_of, arrived_at, cell_with, has_arrived, learned_with, newly_learned}
+use Rattle.ndc_model_cells.specs.Cells.{Cell, arrived_of, is_learned_in, learned_of, missing_of, put_off_in}
+use Rattle.ndc_model_cells.specs.Jobs.{after_job, cells_after}
+use Rattle.ndc_model_cells.specs.Places.{batch_there, is_of, place_of}
+use Rattle.ndc_model_cells.specs.Shards.{shard_of}
 use Rattle.ndc_domain.specs.declared.clusters.ClusterNo.{ClusterNo}
 use Rattle.ndc_event.specs.declared.batch.Batch.{Batch}
 use Rattle.ndc_event.specs.declared.key.BatchKey.{BatchKey}
-use Rattle.ndc_fair.proofs.BringLemmas.{HasCome, IsBrought, MayArrive, one-arrives, world_after}
-use Rattle.ndc_fair.proofs.FoundLemmas.{at-there, order-finds, there-among, there-place}
-use Rattle.ndc_fair.proofs.WrittenLemmas.{arrived-written, ordered, own-names}
-use Rattle.ndc_fair.proofs.LandLemmas.{cell-here}
+use Rattle.ndc_laws_reached.proofs.BringLemmas.{HasCome, IsBrought, MayArrive, one-arrives, world_after}
+use Rattle.ndc_laws_reached.proofs.FoundLemmas.{at-there, order-finds, there-among, there-place}
+use Rattle.ndc_laws_reached.proofs.WrittenLemmas.{arrived-written, ordered, own-names}
+use Rattle.ndc_laws_reached.proofs.LandLemmas.{cell-here}
 use Rattle.ndc_laws.specs.Promised.{FirstMissing, LacksAncestor}
 use Rattle.ndc_laws.proofs.AncestorLemmas.{arrived-set, waits-for-ancestors}
 use Rattle.ndc_laws.proofs.MissingLemmas.{first-missing}
-use Rattle.ndc_fair.proofs.MissingLemmas.{none-missing}
+use Rattle.ndc_laws_reached.proofs.MissingLemmas.{none-missing}
 use Rattle.ndc_model.specs.Facts.{IsReached}
 use Rattle.ndc_model.specs.Fair.{IsMessageTrue, is_named, written_of}
 use Rattle.ndc_model.specs.Moves.{all_written, arrives}
 use Rattle.ndc_model.specs.World.{World, cell_at}
 use Rattle.ndc_model.proofs.ListLemmas.{among-is, is-among}
-use Rattle.ndc_sets.specs.Learned.{WaitsFor, has_key}
-use Rattle.ndc_sets.specs.Sets.{batch_at, Has, IsSet, Rise}
-use Rattle.ndc_sets.proofs.BranchLemmas.{Rise-filter, among-has, has-among}
-use Rattle.ndc_sets.proofs.LearnedLemmas.{IsSet-learned, learned-reaches, reaches-has, reaches-learned}
-use Rattle.ndc_sets.proofs.Lists.{Among, among-filter, filter-among}
-use Rattle.ndc_sets.proofs.SetLemmas.{found-has, found-key, has-found}
+use Rattle.ndc_model_sets.specs.Learned.{WaitsFor, has_key}
+use Rattle.ndc_model_sets.specs.Sets.{batch_at, Has, IsSet, Rise}
+use Rattle.ndc_model_sets.proofs.BranchLemmas.{Rise-filter, among-has, has-among}
+use Rattle.ndc_model_sets.proofs.LearnedLemmas.{IsSet-learned, learned-reaches, reaches-has, reaches-learned}
+use Rattle.ndc_model_sets.proofs.Lists.{Among, among-filter, filter-among}
+use Rattle.ndc_model_sets.proofs.SetLemmas.{found-has, found-key, has-found}
 
 -- an answer by whether the batch has arrived, and whether it became learned
 abbrev answered_by : Bool → Bool → Message → Cell → Arrived

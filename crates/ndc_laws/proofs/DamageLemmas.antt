@@ -4,19 +4,19 @@ use Rattle.std.specs.Prelude.{find, option_map}
 use Rattle.std.specs.List.{IsAmong}
 use Rattle.std.proofs.lemmas.Bool.{and_parts}
 use Rattle.std.proofs.lemmas.Bool.Decides.{nat_tests}
-use Rattle.ndc_act.specs.WellFormed.{AreTwoClusters}
-use Rattle.ndc_act.specs.declared.script.Act.TheVariants as act
-use Rattle.ndc_act.specs.declared.script.Header.{Header}
-use Rattle.ndc_cells.specs.declared.message.Message.{Message}
-use Rattle.ndc_cells.specs.Places.{place_of}
-use Rattle.ndc_cells.specs.Writing.{same_cluster}
+use Rattle.ndc_script_types.specs.WellFormed.{AreTwoClusters}
+use Rattle.ndc_script_types.specs.declared.script.Act.TheVariants as act
+use Rattle.ndc_script_types.specs.declared.script.Header.{Header}
+use Rattle.ndc_model_cells.specs.declared.message.Message.{Message}
+use Rattle.ndc_model_cells.specs.Places.{place_of}
+use Rattle.ndc_model_cells.specs.Writing.{same_cluster}
 use Rattle.ndc_domain.specs.declared.clusters.ClusterNo.{ClusterNo}
 use Rattle.ndc_event.specs.Batch.{fault_of}
-use Rattle.ndc_fair.proofs.FoundLemmas.{find-passes, there-among}
-use Rattle.ndc_fair.proofs.ManyLemmas.{one-cluster}
-use Rattle.ndc_fair.proofs.WrittenLemmas.{has-written}
-use Rattle.ndc_fair.proofs.LinkLemmas.{IsLinkFit, links-fit}
-use Rattle.ndc_fair.proofs.TrimmedLemmas.{link-there}
+use Rattle.ndc_laws_reached.proofs.FoundLemmas.{find-passes, there-among}
+use Rattle.ndc_laws_reached.proofs.ManyLemmas.{one-cluster}
+use Rattle.ndc_laws_reached.proofs.WrittenLemmas.{has-written}
+use Rattle.ndc_laws_reached.proofs.LinkLemmas.{IsLinkFit, links-fit}
+use Rattle.ndc_laws_reached.proofs.TrimmedLemmas.{link-there}
 use Rattle.ndc_letters.specs.Letters.{letter_of}
 use Rattle.ndc_letters.specs.declared.letter.Letter.{Letter}
 use Rattle.ndc_model.specs.Facts.{IsReached}
@@ -30,8 +30,8 @@ use Rattle.ndc_model.specs.Texts.{ok}
 use Rattle.ndc_model.specs.World.{Link, World, cluster_at, flight_at, is_link, lane_in, link_found, queue_at, with_flight}
 use Rattle.ndc_model.proofs.LetterLemmas.{whole_where_uncut}
 use Rattle.ndc_model.proofs.ListLemmas.{all-got, is-among}
-use Rattle.ndc_sets.proofs.BranchLemmas.{has-among}
-use Rattle.ndc_sets.proofs.Lists.{Among, all-among, find-among}
+use Rattle.ndc_model_sets.proofs.BranchLemmas.{has-among}
+use Rattle.ndc_model_sets.proofs.Lists.{Among, all-among, find-among}
 use Rattle.ndc_text.specs.Ranges.{InRange}
 use Rattle.ndc_text.specs.Text.{batch_text}
 

@@ -1,30 +1,30 @@
 -- Behind further lines tables have grown, and so an ended version stays ended, and nothing more is written with it.
 use Rattle.std.proofs.Common.{◌≡◌, ◌≢◌, ℕ, ◌+◌, ◌<◌, ◌≤◌, true, ◌⊎◌, inl, inr, List, [], ◌∷◌, length, Some, Ok, sym, ◌∙◌, subst, ap, arith}
 use Rattle.std.specs.List.{AllByRecursion, IsAmong, flat_map}
-use Rattle.ndc_act.specs.WellFormed.{IsCluster, IsWellFormedHeader}
-use Rattle.ndc_act.specs.declared.script.Header.{Header}
-use Rattle.ndc_act.specs.declared.script.Line.{Line}
-use Rattle.ndc_cells.specs.Cells.{both, learned_of}
-use Rattle.ndc_cells.specs.Places.{is_of}
-use Rattle.ndc_cells.specs.Shards.{shard_of}
-use Rattle.ndc_cells.specs.Writing.{may_write}
+use Rattle.ndc_script_types.specs.WellFormed.{IsCluster, IsWellFormedHeader}
+use Rattle.ndc_script_types.specs.declared.script.Header.{Header}
+use Rattle.ndc_script_types.specs.declared.script.Line.{Line}
+use Rattle.ndc_model_cells.specs.Cells.{both, learned_of}
+use Rattle.ndc_model_cells.specs.Places.{is_of}
+use Rattle.ndc_model_cells.specs.Shards.{shard_of}
+use Rattle.ndc_model_cells.specs.Writing.{may_write}
 use Rattle.ndc_domain.specs.Clusters.{count_of, writer_of}
 use Rattle.ndc_domain.specs.Records.{record_of}
 use Rattle.ndc_domain.specs.declared.clusters.ClusterNo.{ClusterNo}
 use Rattle.ndc_domain.specs.declared.record.DomainRecord.{DomainRecord}
 use Rattle.ndc_event.specs.declared.batch.Batch.{Batch}
 use Rattle.ndc_event.specs.declared.name.Name.{Name}
-use Rattle.ndc_fair.proofs.LetterLemmas.{shard-below}
-use Rattle.ndc_fair.proofs.WrittenLemmas.{flat-among, in_order-among, names-of}
-use Rattle.ndc_fair.specs.Sometime.{IsReachedSometime}
-use Rattle.ndc_fair.proofs.GrowLemmas.{grows-none, record-grows}
+use Rattle.ndc_laws_reached.proofs.LetterLemmas.{shard-below}
+use Rattle.ndc_laws_reached.proofs.WrittenLemmas.{flat-among, in_order-among, names-of}
+use Rattle.ndc_laws_reached.specs.Sometime.{IsReachedSometime}
+use Rattle.ndc_laws_reached.proofs.GrowLemmas.{grows-none, record-grows}
 use Rattle.ndc_laws.specs.Grown.{IsWellFormedLine, TablesGrow, world_after}
 use Rattle.ndc_laws.proofs.GrowLemmas.{tables-then}
 use Rattle.ndc_laws.proofs.LineLemmas.{line-above, line-grows}
 use Rattle.ndc_laws.proofs.WriteLemmas.{WasOrIsAbove, WritesAbove, above-none, above-one, above-then}
-use Rattle.ndc_fair.proofs.WriterLemmas.{may-parts, within}
+use Rattle.ndc_laws_reached.proofs.WriterLemmas.{may-parts, within}
 use Rattle.ndc_graceful.specs.declared.handover.Handover.{Handover}
-use Rattle.ndc_laws.proofs.ReachedLemmas.{line_reached}
+use Rattle.ndc_laws_reached.proofs.ReachedLemmas.{line_reached}
 use Rattle.ndc_model.specs.Facts.{IsHandoverFit, IsReached}
 use Rattle.ndc_model.specs.Fair.{HasRecordFrom, IsOwn, written_of}
 use Rattle.ndc_model.specs.Lines.{act_step}
@@ -32,9 +32,9 @@ use Rattle.ndc_model.specs.Moves.{all_written}
 use Rattle.ndc_model.specs.World.{World, all_clusters, cell_at, cell_of, cluster_at, home_at}
 use Rattle.ndc_model.proofs.FairLemmas.{clusters-among}
 use Rattle.ndc_model.proofs.ListLemmas.{is-among}
-use Rattle.ndc_sets.specs.Sets.{Has}
-use Rattle.ndc_sets.proofs.BranchLemmas.{has-among}
-use Rattle.ndc_sets.proofs.Lists.{Among, all-among, filter-among}
+use Rattle.ndc_model_sets.specs.Sets.{Has}
+use Rattle.ndc_model_sets.proofs.BranchLemmas.{has-among}
+use Rattle.ndc_model_sets.proofs.Lists.{Among, all-among, filter-among}
 
 -- tables grow behind lines that run one after the other
 pub lines-grow : (header : Header) (lines : ℕ) (more : List Line) (w : World) → IsWellFormedHeader header → AllByRecursion (IsWellFormedLine header) more → lines + length more ≤ 100000 → IsReached header lines w

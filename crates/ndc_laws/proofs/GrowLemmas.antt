@@ -3,9 +3,9 @@ use Rattle.std.proofs.Common.{◌≡◌, ℕ, ◌≤◌, Bool, true, false, ◌|
 use Rattle.std.specs.Prelude.{◌==◌, codes, is_some, option_to_list}
 use Rattle.std.specs.Str.{bytes_eq}
 use Rattle.std.proofs.lemmas.Slice.Eq.{bytes_eq-Decides}
-use Rattle.ndc_act.specs.WellFormed.{IsCluster}
-use Rattle.ndc_act.specs.declared.script.Header.{Header}
-use Rattle.ndc_cells.specs.Writing.{is_writer, same_cluster}
+use Rattle.ndc_script_types.specs.WellFormed.{IsCluster}
+use Rattle.ndc_script_types.specs.declared.script.Header.{Header}
+use Rattle.ndc_model_cells.specs.Writing.{is_writer, same_cluster}
 use Rattle.ndc_domain.specs.Clusters.{AreClusters, writer_of}
 use Rattle.ndc_domain.specs.Flags.{has-where}
 use Rattle.ndc_domain.specs.Laws.{Keeps}
@@ -25,8 +25,8 @@ use Rattle.ndc_domain.proofs.MergeLaws.{merge_keeps_ours}
 use Rattle.ndc_domain.proofs.Tables.{found_has}
 use Rattle.ndc_domain.proofs.Unions.{member_below}
 use Rattle.ndc_event.specs.declared.name.Name.{Name}
-use Rattle.ndc_fair.specs.Tables.{Grew, TableGrows}
-use Rattle.ndc_fair.proofs.GrowLemmas.{grows-none}
+use Rattle.ndc_laws_reached.specs.Tables.{Grew, TableGrows}
+use Rattle.ndc_laws_reached.proofs.GrowLemmas.{grows-none}
 use Rattle.ndc_laws.specs.Grown.{TablesGrow}
 use Rattle.ndc_laws.proofs.StayLemmas.{AreTables, TablesStay}
 use Rattle.ndc_graceful.specs.Begin.{begin_of, begun_by, begun_from}
@@ -42,7 +42,7 @@ use Rattle.ndc_model.specs.Tables.{failover_words, join_step, register_words, re
 use Rattle.ndc_model.specs.Texts.{refused}
 use Rattle.ndc_model.specs.World.{Cluster, World, cluster_at, new_cluster, with_table}
 use Rattle.ndc_model.proofs.WorldLemmas.{set-cases}
-use Rattle.ndc_sets.proofs.Lists.{all-among, find-among}
+use Rattle.ndc_model_sets.proofs.Lists.{all-among, find-among}
 
 -- what grew to what grew has grown
 pub table-then : (one two three : List DomainRecord) → TableGrows one two → TableGrows two three → TableGrows one three

@@ -9,13 +9,13 @@ use Rattle.std.proofs.lemmas.List.{take-append-drop}
 use Rattle.std.proofs.lemmas.Slice.Eq.{bytes_eq-Decides}
 use Rattle.ndc_domain.specs.declared.record.DomainRecord.{DomainRecord}
 use Rattle.ndc_model.proofs.ListLemmas.{is-among}
-use Rattle.ndc_act.specs.WellFormed.{AreTwoClusters, IsCluster, IsWellFormedHeader}
-use Rattle.ndc_act.specs.declared.script.Header.{Header}
-use Rattle.ndc_cells.specs.declared.message.Message.{Message}
-use Rattle.ndc_cells.specs.Cells.{both, carries, is_learned_in, is_message_learned, is_second_learned, learned_of}
-use Rattle.ndc_cells.specs.Places.{is_of}
-use Rattle.ndc_cells.specs.Shards.{shard_of}
-use Rattle.ndc_cells.specs.Writing.{same_cluster, may_write}
+use Rattle.ndc_script_types.specs.WellFormed.{AreTwoClusters, IsCluster, IsWellFormedHeader}
+use Rattle.ndc_script_types.specs.declared.script.Header.{Header}
+use Rattle.ndc_model_cells.specs.declared.message.Message.{Message}
+use Rattle.ndc_model_cells.specs.Cells.{both, carries, is_learned_in, is_message_learned, is_second_learned, learned_of}
+use Rattle.ndc_model_cells.specs.Places.{is_of}
+use Rattle.ndc_model_cells.specs.Shards.{shard_of}
+use Rattle.ndc_model_cells.specs.Writing.{same_cluster, may_write}
 use Rattle.ndc_domain.specs.Clusters.{writer_of}
 use Rattle.ndc_domain.specs.Records.{record_of}
 use Rattle.ndc_domain.specs.declared.clusters.ClusterNo.{ClusterNo}
@@ -23,15 +23,15 @@ use Rattle.ndc_event.specs.declared.batch.Batch.{Batch}
 use Rattle.ndc_event.specs.declared.key.BatchKey.{BatchKey}
 use Rattle.ndc_event.specs.declared.name.Name.{Name}
 use Rattle.ndc_event.specs.Batch.{is_carrier_fit}
-use Rattle.ndc_fair.proofs.ArrivalLemmas.{own-is}
-use Rattle.ndc_fair.proofs.FoundLemmas.{find-passes}
-use Rattle.ndc_fair.proofs.LetterLemmas.{shard-below}
-use Rattle.ndc_fair.proofs.ManyLemmas.{among-flat, one-cluster}
-use Rattle.ndc_fair.proofs.WrittenLemmas.{names-of, wanted-some}
-use Rattle.ndc_fair.proofs.LinkLemmas.{IsLinkFit, links-fit}
-use Rattle.ndc_fair.proofs.TrimmedLemmas.{link-there}
-use Rattle.ndc_fair.proofs.CameLemmas.{written-message}
-use Rattle.ndc_fair.proofs.WriterLemmas.{within, may-parts}
+use Rattle.ndc_laws_reached.proofs.ArrivalLemmas.{own-is}
+use Rattle.ndc_laws_reached.proofs.FoundLemmas.{find-passes}
+use Rattle.ndc_laws_reached.proofs.LetterLemmas.{shard-below}
+use Rattle.ndc_laws_reached.proofs.ManyLemmas.{among-flat, one-cluster}
+use Rattle.ndc_laws_reached.proofs.WrittenLemmas.{names-of, wanted-some}
+use Rattle.ndc_laws_reached.proofs.LinkLemmas.{IsLinkFit, links-fit}
+use Rattle.ndc_laws_reached.proofs.TrimmedLemmas.{link-there}
+use Rattle.ndc_laws_reached.proofs.CameLemmas.{written-message}
+use Rattle.ndc_laws_reached.proofs.WriterLemmas.{within, may-parts}
 use Rattle.ndc_graceful.specs.Ready.{lagging_from, not_below, ready_of, ready_unless}
 use Rattle.ndc_graceful.specs.declared.handover.Handover.{Handover}
 use Rattle.ndc_graceful.specs.declared.handover.ReadyError.TheVariants.{NotYet}
@@ -44,18 +44,18 @@ use Rattle.ndc_model.specs.Reading.{learned_at}
 use Rattle.ndc_model.specs.World.{Link, World, cell_at, cluster_at, is_late_in, is_link, lane_at, link_at, link_found, queue_at, cell_of, home_at}
 use Rattle.ndc_queue.specs.Levels.{LevelPair, new_levels}
 use Rattle.ndc_event.specs.Key.{key_lt}
-use Rattle.ndc_fair.proofs.OneWriterLemmas.{learned_sound}
-use Rattle.ndc_sets.specs.Branches.{current_tip, greatest_key}
-use Rattle.ndc_sets.specs.Paths.{is_wanted}
-use Rattle.ndc_sets.specs.Sets.{Has, batch_at}
-use Rattle.ndc_sets.proofs.BranchLemmas.{has-among, same-batch}
-use Rattle.ndc_sets.specs.Sound.{IsSound}
-use Rattle.ndc_sets.proofs.CurrentLemmas.{IsGreatestOf, current-greatest, of_run, run-greatest}
-use Rattle.ndc_sets.proofs.FaultLemmas.{passes}
-use Rattle.ndc_sets.proofs.KeyLemmas.{IsBefore, before-parts}
-use Rattle.ndc_sets.proofs.ForkLemmas.{among-cases}
-use Rattle.ndc_sets.proofs.Lists.{Among, all-among, filter-among, find-among}
-use Rattle.ndc_sets.proofs.SetLemmas.{found-has, found-key}
+use Rattle.ndc_laws_reached.proofs.OneWriterLemmas.{learned_sound}
+use Rattle.ndc_model_sets.specs.Branches.{current_tip, greatest_key}
+use Rattle.ndc_model_sets.specs.Paths.{is_wanted}
+use Rattle.ndc_model_sets.specs.Sets.{Has, batch_at}
+use Rattle.ndc_model_sets.proofs.BranchLemmas.{has-among, same-batch}
+use Rattle.ndc_model_sets.specs.Sound.{IsSound}
+use Rattle.ndc_model_sets.proofs.CurrentLemmas.{IsGreatestOf, current-greatest, of_run, run-greatest}
+use Rattle.ndc_model_sets.proofs.FaultLemmas.{passes}
+use Rattle.ndc_model_sets.proofs.KeyLemmas.{IsBefore, before-parts}
+use Rattle.ndc_model_sets.proofs.ForkLemmas.{among-cases}
+use Rattle.ndc_model_sets.proofs.Lists.{Among, all-among, filter-among, find-among}
+use Rattle.ndc_model_sets.proofs.SetLemmas.{found-has, found-key}
 
 -- no shard lags: each is done up to its place
 none-lags : (shard : ℕ) (places : List ℕ) (levels : List LevelPair) → lagging_from shard places levels ≡ Ok tt → (i : ℕ) → i < length places → i < length levels

@@ -1,37 +1,31 @@
 -- What holds of every reached world of what clusters have learned.
 use Rattle.std.proofs.Common.{◌≡◌, ◌<◌, ◌↔◌, ℕ, Bool, true, false, codes, List, [], ◌∷◌, Result, Ok, Err, IsOk, refl, sym, ◌∙◌, subst, ap, if◌then◌else◌}
-use Rattle.std.specs.List.{AllByRecursion}
-use Rattle.ndc_act.specs.WellFormed.{IsCluster, IsWellFormedHeader}
-use Rattle.ndc_act.specs.declared.script.Header.{Header}
+use Rattle.ndc_script_types.specs.WellFormed.{IsCluster, IsWellFormedHeader}
+use Rattle.ndc_script_types.specs.declared.script.Header.{Header}
 use Rattle.ndc_domain.specs.declared.clusters.ClusterNo.{ClusterNo}
 use Rattle.ndc_event.specs.declared.batch.Batch.{Batch}
 use Rattle.ndc_event.specs.declared.name.Name.{Name}
-use Rattle.ndc_fair.proofs.LetterLemmas.{shard-below}
-use Rattle.ndc_fair.specs.OneWriter.{EachHasOneCurrent}
-use Rattle.ndc_fair.proofs.OneWriterLemmas.{learned_sound}
-use Rattle.ndc_fair.proofs.WriterLemmas.{within}
+use Rattle.ndc_laws_reached.specs.OneWriter.{EachHasOneCurrent}
+use Rattle.ndc_laws_reached.proofs.OneWriterLemmas.{learned_sound}
 use Rattle.ndc_laws.specs.Promised.{AnswerAlike, ComparesSame, LearnedTheSame, StatesAreReplays, TipsDiffer}
-use Rattle.ndc_fair.proofs.DumpLemmas.{shown-same}
+use Rattle.ndc_model.proofs.DumpLemmas.{shown-same}
 use Rattle.ndc_model.specs.Facts.{IsReached}
-use Rattle.ndc_model.specs.Fair.{written_of}
 use Rattle.ndc_model.specs.Lines.{act_step}
 use Rattle.ndc_model.specs.Reading.{learned_at, shows_same}
 use Rattle.ndc_model.specs.Texts.{ok}
 use Rattle.ndc_model.specs.World.{World}
 use Rattle.ndc_model.proofs.AlikeLemmas.{branches_alike, compare_same, current_alike, dump_alike, history_alike, state_alike}
-use Rattle.ndc_sets.specs.Current.{replayed_or_new, state_to}
-use Rattle.ndc_sets.specs.Paths.{events_to}
-use Rattle.ndc_sets.specs.Sets.{Has}
-use Rattle.ndc_sets.specs.Sound.{IsSound, OriginsDiffer}
-use Rattle.ndc_sets.specs.View.{view_of}
-use Rattle.ndc_sets.proofs.ArrivalLemmas.{equal_sets}
-use Rattle.ndc_sets.proofs.BranchLemmas.{among-has, has-among}
-use Rattle.ndc_sets.proofs.CurrentLaws.{one_branch_leads, runs_apart}
-use Rattle.ndc_sets.proofs.Lists.{all-among, all-from}
+use Rattle.ndc_model_sets.specs.Current.{replayed_or_new, state_to}
+use Rattle.ndc_model_sets.specs.Paths.{events_to}
+use Rattle.ndc_model_sets.specs.Sets.{Has}
+use Rattle.ndc_model_sets.specs.Sound.{IsSound, OriginsDiffer}
+use Rattle.ndc_model_sets.specs.View.{view_of}
+use Rattle.ndc_model_sets.proofs.ArrivalLemmas.{equal_sets}
+use Rattle.ndc_model_sets.proofs.CurrentLaws.{one_branch_leads, runs_apart}
+use Rattle.ndc_laws_reached.proofs.LearnedRanges.{ranges}
 use Rattle.ndc_state.specs.Replay.{replay_of}
 use Rattle.ndc_state.specs.Value.{StateValue}
 use Rattle.ndc_state.specs.declared.rule.StateError.{StateError}
-use Rattle.ndc_text.specs.Ranges.{InRange}
 use Rattle.ndc_text.specs.Views.{dump_text}
 
 -- the state that is shown is that of the replay
@@ -71,12 +65,6 @@ module _ (header : Header) (lines : ℕ) (w : World) (fit : IsWellFormedHeader h
     pub origins-differ : OriginsDiffer batches
     origins-differ = sound.origins
 
-    pub ranges : AllByRecursion InRange batches
-    ranges =
-        all-from InRange batches
-        (λ b among. all-among InRange (written_of header domain workflow w) b (is.ranges domain workflow)
-        (has-among (written_of header domain workflow w) b (within header lines w is cluster known domain workflow (shard-below domain workflow header.shards some) b (among-has batches b sound.set.ordered among))))
-
   module _ (one two : ClusterNo) (domain workflow : Name) (first : IsCluster header one) (second : IsCluster header two) where
     same-list : LearnedTheSame header one two domain workflow w → learned_at header one domain workflow w ≡ learned_at header two domain workflow w
     same-list same =
@@ -103,5 +91,5 @@ module _ (header : Header) (lines : ℕ) (w : World) (fit : IsWellFormedHeader h
 
         there : ComparesSame header one two domain workflow w → LearnedTheSame header one two domain workflow w
         there e =
-            parts (shown-same domain workflow (learned_at header one domain workflow w) (learned_at header two domain workflow w) (ranges one first domain workflow) (ranges two second domain workflow)
+            parts (shown-same domain workflow (learned_at header one domain workflow w) (learned_at header two domain workflow w) (ranges header lines w fit is one first domain workflow) (ranges header lines w fit is two second domain workflow)
             (same-word (shows_same domain workflow (learned_at header one domain workflow w) (learned_at header two domain workflow w)) e))

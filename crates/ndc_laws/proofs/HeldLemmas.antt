@@ -1,8 +1,8 @@
 -- Clusters that have the same reports hold the same.
 use Rattle.std.proofs.Common.{◌≡◌, ℕ, Bool, true, false, ◌&&◌, ◌||◌, ◌==◌, nat_lt, List, [], ◌∷◌, ◌++◌, ◌⊎◌, inl, inr, Option, Some, None, refl, sym, ◌∙◌, subst, ap, arith, true≢false, if◌then◌else◌}
 use Rattle.std.proofs.lemmas.Bool.Decides.{nat_tests}
-use Rattle.ndc_act.specs.WellFormed.{IsCluster}
-use Rattle.ndc_act.specs.declared.script.Header.{Header}
+use Rattle.ndc_script_types.specs.WellFormed.{IsCluster}
+use Rattle.ndc_script_types.specs.declared.script.Header.{Header}
 use Rattle.ndc_domain.specs.declared.clusters.ClusterNo.{ClusterNo}
 use Rattle.ndc_model.specs.Facts.{IsReached}
 use Rattle.ndc_model.specs.World.{World, cluster_at}
@@ -13,8 +13,8 @@ use Rattle.ndc_progress.proofs.OrderLemmas.{not-before}
 use Rattle.ndc_progress.specs.Reports.{greater_report, held, report_lt, same_activity}
 use Rattle.ndc_progress.specs.declared.report.ActivityRef.{ActivityRef}
 use Rattle.ndc_progress.specs.declared.report.Report.{Report}
-use Rattle.ndc_sets.proofs.ForkLemmas.{among-cases, among-left, among-right}
-use Rattle.ndc_sets.proofs.Lists.{Among}
+use Rattle.ndc_model_sets.proofs.ForkLemmas.{among-cases, among-left, among-right}
+use Rattle.ndc_model_sets.proofs.Lists.{Among}
 
 -- the order of reports, by their numbers
 abbrev before : ℕ → ℕ → ℕ → ℕ → Bool

@@ -1,12 +1,12 @@
 -- Every line lets tables grow, and writes nothing below the versions of records.
 use Rattle.std.proofs.Common.{ℕ}
-use Rattle.ndc_act.specs.WellFormed.{IsWellFormedAct, IsWellFormedHeader}
-use Rattle.ndc_act.specs.declared.script.Act.{Act}
-use Rattle.ndc_act.specs.declared.script.Act.TheVariants as act
-use Rattle.ndc_act.specs.declared.script.Header.{Header}
+use Rattle.ndc_script_types.specs.WellFormed.{IsWellFormedAct, IsWellFormedHeader}
+use Rattle.ndc_script_types.specs.declared.script.Act.{Act}
+use Rattle.ndc_script_types.specs.declared.script.Act.TheVariants as act
+use Rattle.ndc_script_types.specs.declared.script.Header.{Header}
 use Rattle.ndc_domain.specs.Merge.{merged}
 use Rattle.ndc_domain.specs.Records.{failover_of, join_of, register_of, retain_of}
-use Rattle.ndc_fair.proofs.GrowLemmas.{grows-none}
+use Rattle.ndc_laws_reached.proofs.GrowLemmas.{grows-none}
 use Rattle.ndc_laws.specs.Grown.{TablesGrow}
 use Rattle.ndc_laws.proofs.GrowLemmas.{complete-grow, failover-grow, handover-grow, join-grow, merge-grow, register-grow, retain-grow, stay-grow}
 use Rattle.ndc_laws.proofs.SettleLemmas.{settle-above, settle-grow}

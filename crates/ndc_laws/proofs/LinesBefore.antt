@@ -3,16 +3,16 @@ use Rattle.std.proofs.Common.{◌<◌, ◌+◌, ℕ, List, [], ◌∷◌, ◌++�
 use Rattle.std.specs.List.{AllByRecursion}
 use Rattle.std.specs.Prelude.{codes}
 use Rattle.std.proofs.lemmas.List.{length-append}
-use Rattle.ndc_act.specs.Print.{act_lines, body_lines, header_lines, job_words}
-use Rattle.ndc_act.specs.WellFormed.{IsWellFormed, IsWellFormedAct, IsWellFormedHeader}
-use Rattle.ndc_act.specs.declared.script.Act.{Act}
-use Rattle.ndc_act.specs.declared.script.Act.TheVariants as act
-use Rattle.ndc_act.specs.declared.script.Header.{Header}
-use Rattle.ndc_act.specs.declared.script.Line.{Line}
+use Rattle.ndc_script_types.specs.Print.{act_lines, body_lines, header_lines, job_words}
+use Rattle.ndc_script_types.specs.WellFormed.{IsWellFormed, IsWellFormedAct, IsWellFormedHeader}
+use Rattle.ndc_script_types.specs.declared.script.Act.{Act}
+use Rattle.ndc_script_types.specs.declared.script.Act.TheVariants as act
+use Rattle.ndc_script_types.specs.declared.script.Header.{Header}
+use Rattle.ndc_script_types.specs.declared.script.Line.{Line}
 use Rattle.ndc_domain.specs.Clusters.{name_of}
-use Rattle.ndc_fair.proofs.LineLemmas.{line_kept}
-use Rattle.ndc_fair.proofs.ScriptLemmas.{act-fits, act-short}
-use Rattle.ndc_fair.proofs.WorkflowApplyLemmas.{writing_keeps}
+use Rattle.ndc_laws_reached.proofs.LineLemmas.{line_kept}
+use Rattle.ndc_laws_reached.proofs.ScriptLemmas.{act-fits, act-short}
+use Rattle.ndc_laws_reached.proofs.WorkflowApplyLemmas.{writing_keeps}
 use Rattle.ndc_laws.specs.Promised.{RunsReached, world_before}
 use Rattle.ndc_model.specs.Facts.{IsReached}
 use Rattle.ndc_model.specs.Laws.{script_of}

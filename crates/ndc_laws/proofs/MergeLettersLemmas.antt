@@ -2,27 +2,27 @@
 use Rattle.std.proofs.Common.{◌≡◌, ◌<◌, ℕ, Bool, true, List, [], Some, None, inl, refl, sym, ◌∙◌, subst, ap, if◌then◌else◌}
 use Rattle.std.specs.Prelude.{is_some, option_map}
 use Rattle.std.specs.List.{AllByRecursion, filter, filter_map, flat_map}
-use Rattle.ndc_act.specs.WellFormed.{IsCluster, IsWellFormedHeader}
-use Rattle.ndc_act.specs.declared.script.Act.TheVariants as act
-use Rattle.ndc_act.specs.declared.script.Header.{Header}
-use Rattle.ndc_cells.specs.declared.job.Job.TheVariants.{Arrive}
-use Rattle.ndc_cells.specs.declared.job.ShardJob.{ShardJob}
-use Rattle.ndc_cells.specs.declared.message.Message.{Message}
-use Rattle.ndc_cells.specs.declared.place.Place.{Place}
-use Rattle.ndc_cells.specs.Cells.{Cell, both, learned_message, learned_of, message_found, message_of}
-use Rattle.ndc_cells.specs.Jobs.{cell_for}
-use Rattle.ndc_cells.specs.Places.{batch_there, is_at, is_of, place_of}
-use Rattle.ndc_cells.specs.Shards.{shard_of}
+use Rattle.ndc_script_types.specs.WellFormed.{IsCluster, IsWellFormedHeader}
+use Rattle.ndc_script_types.specs.declared.script.Act.TheVariants as act
+use Rattle.ndc_script_types.specs.declared.script.Header.{Header}
+use Rattle.ndc_model_cells.specs.declared.job.Job.TheVariants.{Arrive}
+use Rattle.ndc_model_cells.specs.declared.job.ShardJob.{ShardJob}
+use Rattle.ndc_model_cells.specs.declared.message.Message.{Message}
+use Rattle.ndc_model_cells.specs.declared.place.Place.{Place}
+use Rattle.ndc_model_cells.specs.Cells.{Cell, both, learned_message, learned_of, message_found, message_of}
+use Rattle.ndc_model_cells.specs.Jobs.{cell_for}
+use Rattle.ndc_model_cells.specs.Places.{batch_there, is_at, is_of, place_of}
+use Rattle.ndc_model_cells.specs.Shards.{shard_of}
 use Rattle.ndc_domain.specs.declared.clusters.ClusterNo.{ClusterNo}
 use Rattle.ndc_event.specs.declared.batch.Batch.{Batch}
 use Rattle.ndc_event.specs.declared.name.Name.{Name}
-use Rattle.ndc_fair.proofs.ArrivalLemmas.{own-is}
-use Rattle.ndc_fair.proofs.BringLemmas.{HasCome, IsArrival, world_after}
-use Rattle.ndc_fair.proofs.FoundLemmas.{at-place}
-use Rattle.ndc_fair.proofs.LetterLemmas.{shard-below}
-use Rattle.ndc_fair.proofs.ManyLemmas.{among-flat, many}
-use Rattle.ndc_fair.proofs.MessageLemmas.{learned-true}
-use Rattle.ndc_fair.proofs.OneWriterLemmas.{learned_sound}
+use Rattle.ndc_laws_reached.proofs.ArrivalLemmas.{own-is}
+use Rattle.ndc_laws_reached.proofs.BringLemmas.{HasCome, IsArrival, world_after}
+use Rattle.ndc_laws_reached.proofs.FoundLemmas.{at-place}
+use Rattle.ndc_laws_reached.proofs.LetterLemmas.{shard-below}
+use Rattle.ndc_laws_reached.proofs.ManyLemmas.{among-flat, many}
+use Rattle.ndc_laws_reached.proofs.MessageLemmas.{learned-true}
+use Rattle.ndc_laws_reached.proofs.OneWriterLemmas.{learned_sound}
 use Rattle.ndc_laws.specs.Promised.{HasArrivedFor}
 use Rattle.ndc_letters.specs.Letters.{place_of_letter}
 use Rattle.ndc_letters.specs.declared.letter.Letter.{Letter}
@@ -34,9 +34,9 @@ use Rattle.ndc_model.specs.Lines.{act_step}
 use Rattle.ndc_model.specs.Moves.{all_written, arrives, jobs_done, renewed}
 use Rattle.ndc_model.specs.World.{Cluster, World, cell_at, cluster_at, new_cluster, queue_at}
 use Rattle.ndc_model.proofs.WorldLemmas.{set-cases}
-use Rattle.ndc_sets.specs.Sets.{Has}
-use Rattle.ndc_sets.proofs.BranchLemmas.{among-has, has-among, same-batch}
-use Rattle.ndc_sets.proofs.Lists.{Among, all-among, all-from, among-filter_map, filter_map-among, find-only}
+use Rattle.ndc_model_sets.specs.Sets.{Has}
+use Rattle.ndc_model_sets.proofs.BranchLemmas.{among-has, has-among, same-batch}
+use Rattle.ndc_model_sets.proofs.Lists.{Among, all-among, all-from, among-filter_map, filter_map-among, find-only}
 
 module _ (header : Header) (fit : IsWellFormedHeader header) (lines : ℕ) (w : World) (is : IsReached header lines w) (reader : ClusterNo) (known : IsCluster header reader) where
   some : 0 < header.shards

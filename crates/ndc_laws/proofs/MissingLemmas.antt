@@ -1,16 +1,16 @@
 -- The first key that is missing on the way up from a batch.
 use Rattle.std.proofs.Common.{◌≡◌, true, List, Option, Some, None, refl, sym, ◌∙◌, ap, true≢false}
-use Rattle.ndc_cells.specs.Cells.{missing_of}
+use Rattle.ndc_model_cells.specs.Cells.{missing_of}
 use Rattle.ndc_event.specs.Key.{key_eq}
 use Rattle.ndc_event.specs.declared.batch.Batch.{Batch}
 use Rattle.ndc_event.specs.declared.key.BatchKey.{BatchKey}
 use Rattle.ndc_laws.specs.Promised.{FirstMissing, comes_next, further}
-use Rattle.ndc_fair.proofs.MissingLemmas.{back-up, wanted_behind, whole}
-use Rattle.ndc_sets.specs.Paths.{is_wanted}
-use Rattle.ndc_sets.specs.Sets.{Has, IsSet, batch_at, earlier}
-use Rattle.ndc_sets.proofs.BranchLemmas.{has-among}
-use Rattle.ndc_sets.proofs.KeyLemmas.{key_eq-self}
-use Rattle.ndc_sets.proofs.SetLemmas.{found-has, found-key}
+use Rattle.ndc_laws_reached.proofs.MissingLemmas.{back-up, wanted_behind, whole}
+use Rattle.ndc_model_sets.specs.Paths.{is_wanted}
+use Rattle.ndc_model_sets.specs.Sets.{Has, IsSet, batch_at, earlier}
+use Rattle.ndc_model_sets.proofs.BranchLemmas.{has-among}
+use Rattle.ndc_model_sets.proofs.KeyLemmas.{key_eq-self}
+use Rattle.ndc_model_sets.proofs.SetLemmas.{found-has, found-key}
 
 -- what is missing is the first key on the way up that is that of none
 pub first-missing : (held : List Batch) (b : Batch) (key : BatchKey) → IsSet held → Has held b → missing_of b held ≡ Some key → FirstMissing held key b

@@ -1,25 +1,19 @@
 -- All worlds of a script are reached, and as promised.
-use Rattle.std.proofs.Common.{ℕ, ◌+◌, ◌<◌}
+use Rattle.std.proofs.Common.{ℕ}
 use Rattle.std.specs.List.{AllByRecursion}
-use Rattle.ndc_act.specs.WellFormed.{IsWellFormed, IsWellFormedAct, IsWellFormedHeader}
-use Rattle.ndc_act.specs.declared.script.Act.{Act}
-use Rattle.ndc_act.specs.declared.script.Header.{Header}
-use Rattle.ndc_act.specs.declared.script.Script.{Script}
-use Rattle.ndc_fair.specs.Sometime.{IsReachedSometime}
-use Rattle.ndc_fair.proofs.LineLemmas.{line_kept}
-use Rattle.ndc_fair.proofs.ScriptLemmas.{worlds_kept}
-use Rattle.ndc_fair.proofs.WorkflowApplyLemmas.{writing_keeps}
+use Rattle.ndc_script_types.specs.WellFormed.{IsWellFormed, IsWellFormedHeader}
+use Rattle.ndc_script_types.specs.declared.script.Header.{Header}
+use Rattle.ndc_script_types.specs.declared.script.Script.{Script}
+use Rattle.ndc_laws_reached.specs.Sometime.{IsReachedSometime}
+use Rattle.ndc_laws_reached.proofs.ScriptLemmas.{worlds_kept}
+use Rattle.ndc_laws_reached.proofs.WorkflowApplyLemmas.{writing_keeps}
 use Rattle.ndc_laws.specs.Promised.{IsAsPromised}
 use Rattle.ndc_laws.proofs.AncestorLemmas.{waits-for-ancestors}
 use Rattle.ndc_laws.proofs.HeadlineLemmas.{answers-alike, compares-same, each-current, origins-differ, states-replay, tips-differ}
 use Rattle.ndc_model.specs.Facts.{IsReached, ReportsAgree}
-use Rattle.ndc_model.specs.Lines.{act_step, worlds_of}
+use Rattle.ndc_model.specs.Lines.{worlds_of}
 use Rattle.ndc_model.specs.World.{World}
 use Rattle.ndc_model.proofs.ListLemmas.{all-weaker}
-
--- a line that may write anything keeps a world as it should be
-pub line_reached : (header : Header) (lines : ℕ) (line : Act) (w : World) → IsWellFormedHeader header → IsWellFormedAct header line → lines < 100000 → IsReached header lines w → IsReached header (lines + 1) (act_step header line w).world
-line_reached header lines line w sound asked below is = line_kept header lines line w sound asked below (writing_keeps header lines sound below) is
 
 -- all worlds of a script
 pub worlds_reached : (script : Script) → IsWellFormed script → AllByRecursion (IsReachedSometime script.header) (worlds_of script)

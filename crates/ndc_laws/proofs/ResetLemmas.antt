@@ -2,15 +2,15 @@
 use Rattle.std.proofs.Common.{◌≡◌, ◌<◌, ◌+◌, ℕ, Bool, true, false, List, [], ◌∷◌, ◌++◌, ◌⊎◌, inl, inr, Option, Some, None, Result, Ok, Err, IsOkAnd, refl, sym, ◌∙◌, subst, ap, arith, true≢false, if◌then◌else◌}
 use Rattle.std.specs.Prelude.{is_some}
 use Rattle.std.proofs.lemmas.List.{append-nil}
-use Rattle.ndc_act.specs.WellFormed.{IsWellFormedHeader, IsWorkflowAt}
-use Rattle.ndc_act.specs.declared.script.Act.TheVariants as act
-use Rattle.ndc_act.specs.declared.script.Header.{Header}
-use Rattle.ndc_cells.specs.Cells.{Cell, IsCell, arrived_of, learned_of}
-use Rattle.ndc_cells.specs.Places.{is_of}
-use Rattle.ndc_cells.specs.Shards.{shard_of}
-use Rattle.ndc_cells.specs.Writing.{Entry, alone, as_command_error, batch_below, first_batch, is_close_full, key_behind, may_write, next_key, reset_at, reset_below, reset_close, reset_entries, reset_refused, with_all_written, with_written}
-use Rattle.ndc_cells.specs.Jobs.{written_at}
-use Rattle.ndc_cells.proofs.PlaceLemmas.{written_arrives, writing_keeps}
+use Rattle.ndc_script_types.specs.WellFormed.{IsWellFormedHeader, IsWorkflowAt}
+use Rattle.ndc_script_types.specs.declared.script.Act.TheVariants as act
+use Rattle.ndc_script_types.specs.declared.script.Header.{Header}
+use Rattle.ndc_model_cells.specs.Cells.{Cell, IsCell, arrived_of, learned_of}
+use Rattle.ndc_model_cells.specs.Places.{is_of}
+use Rattle.ndc_model_cells.specs.Shards.{shard_of}
+use Rattle.ndc_model_cells.specs.Writing.{Entry, alone, as_command_error, batch_below, first_batch, is_close_full, key_behind, may_write, next_key, reset_at, reset_below, reset_close, reset_entries, reset_refused, with_all_written, with_written}
+use Rattle.ndc_model_cells.specs.Jobs.{written_at}
+use Rattle.ndc_model_cells.proofs.PlaceLemmas.{written_arrives, writing_keeps}
 use Rattle.ndc_command.specs.declared.refusal.CommandError.TheVariants.{Refused}
 use Rattle.ndc_command.specs.declared.refusal.Refusal.{Refusal}
 use Rattle.ndc_command.specs.declared.refusal.Refusal.TheVariants.{HistoryFull}
@@ -21,13 +21,13 @@ use Rattle.ndc_event.specs.declared.batch.Batch.{Batch}
 use Rattle.ndc_event.specs.declared.key.BatchKey.{BatchKey}
 use Rattle.ndc_event.specs.declared.kind.EventKind.{EventKind}
 use Rattle.ndc_event.specs.declared.name.Name.{Name}
-use Rattle.ndc_fair.proofs.LetterLemmas.{shard-below}
-use Rattle.ndc_fair.proofs.WrittenLemmas.{cell-is, own-names}
-use Rattle.ndc_fair.proofs.JoinedLemmas.{first-back}
-use Rattle.ndc_fair.proofs.LandLemmas.{cell-here}
-use Rattle.ndc_fair.proofs.MoveLemmas.{reset-kept}
-use Rattle.ndc_fair.proofs.OneWriterLemmas.{learned_sound}
-use Rattle.ndc_fair.proofs.WriterLemmas.{WritesWith, are-few, may-add, may-parts}
+use Rattle.ndc_laws_reached.proofs.LetterLemmas.{shard-below}
+use Rattle.ndc_laws_reached.proofs.WrittenLemmas.{cell-is, own-names}
+use Rattle.ndc_laws_reached.proofs.JoinedLemmas.{first-back}
+use Rattle.ndc_laws_reached.proofs.LandLemmas.{cell-here}
+use Rattle.ndc_laws_reached.proofs.MoveLemmas.{reset-kept}
+use Rattle.ndc_laws_reached.proofs.OneWriterLemmas.{learned_sound}
+use Rattle.ndc_laws_reached.proofs.WriterLemmas.{WritesWith, are-few, may-add, may-parts}
 use Rattle.ndc_laws.specs.Promised.{IsResetFrom}
 use Rattle.ndc_laws.proofs.AncestorLemmas.{arrived-part, arrived-set}
 use Rattle.ndc_laws.proofs.HeadlineLemmas.{replayed}
@@ -38,35 +38,35 @@ use Rattle.ndc_model.specs.Moves.{jobs_done}
 use Rattle.ndc_model.specs.Reading.{learned_at}
 use Rattle.ndc_model.specs.Steps.{reset_step}
 use Rattle.ndc_model.specs.World.{World, cell_at, home_at}
-use Rattle.ndc_cells.specs.Jobs.{after_job, cells_after}
+use Rattle.ndc_model_cells.specs.Jobs.{after_job, cells_after}
 use Rattle.ndc_reset.specs.Laws.{GoesOn}
 use Rattle.ndc_reset.specs.Reset.{reset_kinds, reset_of}
 use Rattle.ndc_reset.specs.declared.plan.ResetError.{ResetError}
 use Rattle.ndc_reset.specs.declared.plan.ResetError.TheVariants as reset
 use Rattle.ndc_reset.proofs.LawProofs.{reset_goes_on}
-use Rattle.ndc_sets.specs.Branches.{workflow_tip}
-use Rattle.ndc_sets.specs.Current.{replayed_or_new, state_to}
-use Rattle.ndc_sets.specs.Learned.{IsClosed, IsPart, WaitsFor, behind, has_key, itself, learned, top}
-use Rattle.ndc_sets.specs.Paths.{events_to}
-use Rattle.ndc_sets.specs.Sets.{Has, IsSet, PointsBack, arrived, batch_at}
-use Rattle.ndc_sets.specs.Sound.{IsSound}
-use Rattle.ndc_sets.proofs.ArrivalLemmas.{arrival_keeps_sets, is_there, newly_waited, stays, was_or_new}
-use Rattle.ndc_sets.proofs.BranchLemmas.{among-has, greatest-of, has-among}
-use Rattle.ndc_sets.proofs.CurrentLaws.{workflow_is_greatest}
-use Rattle.ndc_sets.proofs.KeyLemmas.{before-from, before-irrefl, before-trans}
-use Rattle.ndc_sets.proofs.LearnedLemmas.{reaches-learned}
-use Rattle.ndc_sets.proofs.PathLemmas.{path-first}
-use Rattle.ndc_sets.proofs.SetLemmas.{found-has, found-key}
-use Rattle.ndc_sets.proofs.ViewLaws.{origins_of_the_path}
+use Rattle.ndc_model_sets.specs.Branches.{workflow_tip}
+use Rattle.ndc_model_sets.specs.Current.{replayed_or_new, state_to}
+use Rattle.ndc_model_sets.specs.Learned.{IsClosed, IsPart, WaitsFor, behind, has_key, itself, learned, top}
+use Rattle.ndc_model_sets.specs.Paths.{events_to}
+use Rattle.ndc_model_sets.specs.Sets.{Has, IsSet, PointsBack, arrived, batch_at}
+use Rattle.ndc_model_sets.specs.Sound.{IsSound}
+use Rattle.ndc_model_sets.proofs.ArrivalLemmas.{arrival_keeps_sets, is_there, newly_waited, stays, was_or_new}
+use Rattle.ndc_model_sets.proofs.BranchLemmas.{among-has, greatest-of, has-among}
+use Rattle.ndc_model_sets.proofs.CurrentLaws.{workflow_is_greatest}
+use Rattle.ndc_model_sets.proofs.KeyLemmas.{before-from, before-irrefl, before-trans}
+use Rattle.ndc_model_sets.proofs.LearnedLemmas.{reaches-learned}
+use Rattle.ndc_model_sets.proofs.PathLemmas.{path-first}
+use Rattle.ndc_model_sets.proofs.SetLemmas.{found-has, found-key}
+use Rattle.ndc_model_sets.proofs.ViewLaws.{origins_of_the_path}
 use Rattle.ndc_state.specs.Laws.{AreApart}
 use Rattle.ndc_state.specs.Replay.{history_of, replay_of}
 use Rattle.ndc_state.specs.Value.{StateValue}
 use Rattle.ndc_state.specs.Written.{events_from}
 use Rattle.ndc_state.specs.declared.rule.StateError.{StateError}
-use Rattle.ndc_fair.specs.Adding.{MayAdd}
-use Rattle.ndc_fair.specs.Entries.{AreFew, IsWrite}
-use Rattle.ndc_fair.proofs.MayLemmas.{new-above, tip-part, tip-state, part-sound}
-use Rattle.ndc_fair.proofs.ResetLemmas.{IsReset, behind-write, close-write, one-write, reset-is}
+use Rattle.ndc_laws_reached.specs.Adding.{MayAdd}
+use Rattle.ndc_laws_reached.specs.Entries.{AreFew, IsWrite}
+use Rattle.ndc_laws_reached.proofs.MayLemmas.{new-above, tip-part, tip-state, part-sound}
+use Rattle.ndc_laws_reached.proofs.ResetLemmas.{IsReset, behind-write, close-write, one-write, reset-is}
 
 -- a batch of a key that nothing in a closed set has makes nothing else of it learned
 module _ (all held : List Batch) (new : Batch) (closed : IsClosed all) (set : IsSet held) (part : IsPart held all) (fresh : batch_at new.key all ≡ None) (back : PointsBack new) where

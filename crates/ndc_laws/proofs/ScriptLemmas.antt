@@ -2,18 +2,18 @@
 use Rattle.std.proofs.Common.{◌≡◌, ◌≢◌, ℕ, List, [], ◌∷◌, ◌++◌, map, Ok, append-nil, append_assoc, refl, sym, ◌∙◌, subst, ap}
 use Rattle.std.specs.List.{AllByRecursion, IsAmong}
 use Rattle.std.proofs.lemmas.List.Concat.{flat_map-append}
-use Rattle.ndc_act.specs.WellFormed.{IsWellFormed, IsWellFormedAct, IsWellFormedHeader}
-use Rattle.ndc_act.specs.declared.script.Act.{Act}
-use Rattle.ndc_act.specs.declared.script.Act.TheVariants as act
-use Rattle.ndc_act.specs.declared.script.BurstJob.{BurstJob}
-use Rattle.ndc_act.specs.declared.script.Header.{Header}
-use Rattle.ndc_act.specs.declared.script.Line.{Line}
-use Rattle.ndc_cells.specs.Writing.{may_write}
+use Rattle.ndc_script_types.specs.WellFormed.{IsWellFormed, IsWellFormedAct, IsWellFormedHeader}
+use Rattle.ndc_script_types.specs.declared.script.Act.{Act}
+use Rattle.ndc_script_types.specs.declared.script.Act.TheVariants as act
+use Rattle.ndc_script_types.specs.declared.script.BurstJob.{BurstJob}
+use Rattle.ndc_script_types.specs.declared.script.Header.{Header}
+use Rattle.ndc_script_types.specs.declared.script.Line.{Line}
+use Rattle.ndc_model_cells.specs.Writing.{may_write}
 use Rattle.ndc_domain.specs.declared.clusters.ClusterNo.{ClusterNo}
 use Rattle.ndc_event.specs.declared.batch.Batch.{Batch}
 use Rattle.ndc_event.specs.declared.name.Name.{Name}
-use Rattle.ndc_fair.specs.Sometime.{IsReachedSometime}
-use Rattle.ndc_fair.proofs.GrowLemmas.{grows-none}
+use Rattle.ndc_laws_reached.specs.Sometime.{IsReachedSometime}
+use Rattle.ndc_laws_reached.proofs.GrowLemmas.{grows-none}
 use Rattle.ndc_laws.specs.Grown.{TablesGrow, world_after}
 use Rattle.ndc_laws.proofs.EndedLemmas.{nothing-more, stays-ended}
 use Rattle.ndc_laws.proofs.GrowLemmas.{stay-grow, tables-then}
@@ -29,7 +29,7 @@ use Rattle.ndc_model.specs.Fair.{written_of}
 use Rattle.ndc_model.specs.Laws.{script_of}
 use Rattle.ndc_model.specs.Lines.{act_step, job_line, lines_of_act, plain_lines, ran_from}
 use Rattle.ndc_model.specs.World.{World, cell_of, cluster_at, home_at, opening_world}
-use Rattle.ndc_sets.specs.Sets.{Has}
+use Rattle.ndc_model_sets.specs.Sets.{Has}
 
 -- lines behind others run in the world that these left
 after-both : (header : Header) (one two : List Line) (w : World) → world_after header (one ++ two) w ≡ world_after header two (world_after header one w)

@@ -1,16 +1,16 @@
 -- Settlement lets tables grow.
 use Rattle.std.proofs.Common.{List, sym, subst, not}
 use Rattle.std.specs.List.{fold}
-use Rattle.ndc_act.specs.WellFormed.{IsCluster}
-use Rattle.ndc_act.specs.declared.script.Header.{Header}
-use Rattle.ndc_cells.specs.Writing.{same_cluster}
+use Rattle.ndc_script_types.specs.WellFormed.{IsCluster}
+use Rattle.ndc_script_types.specs.declared.script.Header.{Header}
+use Rattle.ndc_model_cells.specs.Writing.{same_cluster}
 use Rattle.ndc_domain.specs.Clusters.{count_of}
 use Rattle.ndc_domain.specs.Merge.{merged}
 use Rattle.ndc_domain.specs.Records.{IsTable}
 use Rattle.ndc_domain.specs.declared.clusters.ClusterNo.{ClusterNo}
 use Rattle.ndc_domain.specs.declared.record.DomainRecord.{DomainRecord}
 use Rattle.ndc_domain.proofs.BothTables.{IsTable-merged}
-use Rattle.ndc_fair.proofs.GrowLemmas.{grows-none}
+use Rattle.ndc_laws_reached.proofs.GrowLemmas.{grows-none}
 use Rattle.ndc_laws.specs.Grown.{TablesGrow}
 use Rattle.ndc_laws.proofs.GrowLemmas.{merge-grows, stay-grow, table-put-grows, tables-then}
 use Rattle.ndc_laws.proofs.StayLemmas.{AreTables, TablesStay, bootstrap-stay, due-stay, reapplied-stay, renewed-stay}
@@ -21,7 +21,7 @@ use Rattle.ndc_model.specs.World.{Cluster, World, all_clusters, cluster_at, new_
 use Rattle.ndc_model.proofs.FairLemmas.{clusters-among}
 use Rattle.ndc_model.proofs.ListLemmas.{fold-keeps}
 use Rattle.ndc_model.proofs.WorldLemmas.{set-cases}
-use Rattle.ndc_sets.proofs.Lists.{Among, filter-among}
+use Rattle.ndc_model_sets.proofs.Lists.{Among, filter-among}
 
 -- tables are as they should be and have grown since the beginning, and what was written since has no lower version than records had
 record AreGrown (header : Header) (w v : World) : Type 0 where

@@ -1,14 +1,14 @@
 -- Settlement and resending of scripts.
 use Rattle.std.proofs.Common.{◌<◌, ◌+◌, ℕ, List, ◌∷◌, ◌++◌}
-use Rattle.ndc_act.specs.WellFormed.{IsWellFormed, IsWellFormedHeader}
-use Rattle.ndc_act.specs.declared.script.Act.TheVariants as act
-use Rattle.ndc_act.specs.declared.script.Header.{Header}
-use Rattle.ndc_act.specs.declared.script.Line.{Line}
+use Rattle.ndc_script_types.specs.WellFormed.{IsWellFormed, IsWellFormedHeader}
+use Rattle.ndc_script_types.specs.declared.script.Act.TheVariants as act
+use Rattle.ndc_script_types.specs.declared.script.Header.{Header}
+use Rattle.ndc_script_types.specs.declared.script.Line.{Line}
 use Rattle.ndc_domain.specs.declared.clusters.ClusterNo.{ClusterNo}
-use Rattle.ndc_fair.proofs.ResendLemmas.{resent_whole}
-use Rattle.ndc_fair.specs.Settled.{IsSettled}
-use Rattle.ndc_fair.proofs.SettledLemmas.{settlement_settled}
-use Rattle.ndc_fair.proofs.WorkflowApplyLemmas.{applying-kept}
+use Rattle.ndc_laws_reached.proofs.ResendLemmas.{resent_whole}
+use Rattle.ndc_laws_reached.specs.Settled.{IsSettled}
+use Rattle.ndc_laws_reached.proofs.SettledLemmas.{settlement_settled}
+use Rattle.ndc_laws_reached.proofs.WorkflowApplyLemmas.{applying-kept}
 use Rattle.ndc_laws.specs.Promised.{NothingPutOff, line, world_before}
 use Rattle.ndc_laws.proofs.LinesBefore.{runs-reached}
 use Rattle.ndc_laws.proofs.SettlesLemmas.{applying-settles}

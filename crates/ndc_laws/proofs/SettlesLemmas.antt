@@ -1,24 +1,24 @@
 -- Reapplication by a writer that has learned all settles the workflow.
 use Rattle.std.proofs.Common.{◌≡◌, ◌<◌, ◌≤◌, ◌+◌, ◌*◌, ℕ, Bool, true, false, List, [], ◌∷◌, ◌++◌, map, ◌⊎◌, inl, inr, Option, Some, None, Ok, refl, sym, ◌∙◌, subst, ap, arith, true≢false, if◌then◌else◌}
 use Rattle.std.specs.List.{cons_option}
-use Rattle.ndc_act.specs.WellFormed.{IsCluster, IsName}
-use Rattle.ndc_act.specs.declared.script.Header.{Header}
-use Rattle.ndc_cells.specs.Cells.{Cell, arrived_of, learned_of}
-use Rattle.ndc_cells.specs.Places.{is_of}
-use Rattle.ndc_cells.specs.Shards.{shard_of}
-use Rattle.ndc_cells.specs.Writing.{Entry, alone, batch_below, may_write, next_key, reapplication_below, reapplication_by, reapplication_of, with_all_written, with_written}
-use Rattle.ndc_cells.proofs.PlaceLemmas.{written_arrives}
+use Rattle.ndc_script_types.specs.WellFormed.{IsCluster, IsName}
+use Rattle.ndc_script_types.specs.declared.script.Header.{Header}
+use Rattle.ndc_model_cells.specs.Cells.{Cell, arrived_of, learned_of}
+use Rattle.ndc_model_cells.specs.Places.{is_of}
+use Rattle.ndc_model_cells.specs.Shards.{shard_of}
+use Rattle.ndc_model_cells.specs.Writing.{Entry, alone, batch_below, may_write, next_key, reapplication_below, reapplication_by, reapplication_of, with_all_written, with_written}
+use Rattle.ndc_model_cells.proofs.PlaceLemmas.{written_arrives}
 use Rattle.ndc_domain.specs.declared.clusters.ClusterNo.{ClusterNo}
 use Rattle.ndc_event.specs.declared.batch.Batch.{Batch}
 use Rattle.ndc_event.specs.declared.key.RunId.{RunId}
 use Rattle.ndc_event.specs.declared.kind.EventKind.{EventKind}
-use Rattle.ndc_fair.proofs.WrittenLemmas.{cell-is, names-of, own-names}
-use Rattle.ndc_fair.specs.Writing.{applied_in, count_in, with_cell}
-use Rattle.ndc_fair.specs.Settled.{ApplyingSettles, IsOwnSettled}
-use Rattle.ndc_fair.proofs.JoinedLemmas.{first-back}
-use Rattle.ndc_fair.proofs.LandLemmas.{cell-here}
-use Rattle.ndc_fair.proofs.MoveLemmas.{Leaves, entry-leaves, same-world}
-use Rattle.ndc_fair.proofs.WriterLemmas.{WritesWith, are-few, may-add, may-parts}
+use Rattle.ndc_laws_reached.proofs.WrittenLemmas.{cell-is, names-of, own-names}
+use Rattle.ndc_laws_reached.specs.Writing.{applied_in, count_in, with_cell}
+use Rattle.ndc_laws_reached.specs.Settled.{ApplyingSettles, IsOwnSettled}
+use Rattle.ndc_laws_reached.proofs.JoinedLemmas.{first-back}
+use Rattle.ndc_laws_reached.proofs.LandLemmas.{cell-here}
+use Rattle.ndc_laws_reached.proofs.MoveLemmas.{Leaves, entry-leaves, same-world}
+use Rattle.ndc_laws_reached.proofs.WriterLemmas.{WritesWith, are-few, may-add, may-parts}
 use Rattle.ndc_laws.proofs.AncestorLemmas.{arrived-part, arrived-set}
 use Rattle.ndc_laws.proofs.StrayLemmas.{no-stray}
 use Rattle.ndc_model.specs.Facts.{IsReached}
@@ -27,24 +27,24 @@ use Rattle.ndc_model.specs.Moves.{all_written}
 use Rattle.ndc_model.specs.World.{World, cell_at, cell_of, home_at}
 use Rattle.ndc_reapply.specs.Reapplied.{copy_of, reapplied}
 use Rattle.ndc_reapply.specs.declared.stray.Stray.{Stray}
-use Rattle.ndc_sets.specs.Branches.{workflow_tip}
-use Rattle.ndc_sets.specs.Current.{HasNoStray, NoneWhereOpen, state_to, strays}
-use Rattle.ndc_sets.specs.Learned.{learned}
-use Rattle.ndc_sets.specs.Origins.{origins_in, signal_of, signals_in}
-use Rattle.ndc_sets.specs.Sets.{Has, arrived}
-use Rattle.ndc_sets.specs.Sound.{IsSound}
-use Rattle.ndc_sets.proofs.ArrivalLemmas.{equal_sets}
-use Rattle.ndc_sets.proofs.BranchLemmas.{has-among}
-use Rattle.ndc_sets.proofs.ForkLemmas.{among-left, among-right}
-use Rattle.ndc_sets.proofs.LearnedLemmas.{closed_whole, learned-reaches, reaches-has}
-use Rattle.ndc_sets.proofs.Lists.{Among, all-among, among-map, filter-among}
+use Rattle.ndc_model_sets.specs.Branches.{workflow_tip}
+use Rattle.ndc_model_sets.specs.Current.{HasNoStray, NoneWhereOpen, state_to, strays}
+use Rattle.ndc_model_sets.specs.Learned.{learned}
+use Rattle.ndc_model_sets.specs.Origins.{origins_in, signal_of, signals_in}
+use Rattle.ndc_model_sets.specs.Sets.{Has, arrived}
+use Rattle.ndc_model_sets.specs.Sound.{IsSound}
+use Rattle.ndc_model_sets.proofs.ArrivalLemmas.{equal_sets}
+use Rattle.ndc_model_sets.proofs.BranchLemmas.{has-among}
+use Rattle.ndc_model_sets.proofs.ForkLemmas.{among-left, among-right}
+use Rattle.ndc_model_sets.proofs.LearnedLemmas.{closed_whole, learned-reaches, reaches-has}
+use Rattle.ndc_model_sets.proofs.Lists.{Among, all-among, among-map, filter-among}
 use Rattle.ndc_state.specs.Value.{StateValue}
 use Rattle.ndc_state.specs.Written.{events_from, failover_close, wake}
 use Rattle.ndc_text.specs.Ranges.{InRange}
-use Rattle.ndc_fair.specs.Adding.{MayAdd}
-use Rattle.ndc_fair.specs.Entries.{AreFew, IsWrite}
-use Rattle.ndc_fair.proofs.MayLemmas.{new-above, tip-all}
-use Rattle.ndc_fair.proofs.ReapplyLemmas.{reapplication-writes}
+use Rattle.ndc_laws_reached.specs.Adding.{MayAdd}
+use Rattle.ndc_laws_reached.specs.Entries.{AreFew, IsWrite}
+use Rattle.ndc_laws_reached.proofs.MayLemmas.{new-above, tip-all}
+use Rattle.ndc_laws_reached.proofs.ReapplyLemmas.{reapplication-writes}
 
 -- where there is none, there is none where the run is open
 none-at-all : (o : Option Batch) (batches : List Batch) (list : List Stray) → list ≡ [] → NoneWhereOpen o batches list

@@ -2,10 +2,10 @@
 use Rattle.std.proofs.Common.{◌≡◌, ℕ, Bool, true, false, List, [], ◌∷◌, ◌++◌, Option, Some, None, Result, Ok, Err, slice_index_or, if◌then◌else◌, refl, sym, ◌∙◌, ap}
 use Rattle.std.specs.Prelude.{codes, remove, slice_get}
 use Rattle.std.specs.List.{filter_map}
-use Rattle.ndc_act.specs.WellFormed.{IsCluster}
-use Rattle.ndc_act.specs.declared.script.Header.{Header}
-use Rattle.ndc_cells.specs.declared.job.ShardJob.{ShardJob}
-use Rattle.ndc_cells.specs.declared.message.Message.{Message}
+use Rattle.ndc_script_types.specs.WellFormed.{IsCluster}
+use Rattle.ndc_script_types.specs.declared.script.Header.{Header}
+use Rattle.ndc_model_cells.specs.declared.job.ShardJob.{ShardJob}
+use Rattle.ndc_model_cells.specs.declared.message.Message.{Message}
 use Rattle.ndc_command.specs.declared.command.Command.{Command}
 use Rattle.ndc_command.specs.declared.refusal.CommandError.{CommandError}
 use Rattle.ndc_domain.specs.Records.{IsTable}

@@ -10,26 +10,26 @@ use Rattle.ndc_event.specs.declared.batch.Batch.{Batch}
 use Rattle.ndc_event.specs.declared.batch.Event.{Event}
 use Rattle.ndc_event.specs.declared.key.Origin.{Origin}
 use Rattle.ndc_event.specs.declared.key.RunId.{RunId}
-use Rattle.ndc_fair.proofs.StrayLemmas.{signal-batch}
+use Rattle.ndc_laws_reached.proofs.StrayLemmas.{signal-batch}
 use Rattle.ndc_model.proofs.ListLemmas.{any-one}
 use Rattle.ndc_reapply.specs.Strays.{origins_of, strays_of}
 use Rattle.ndc_reapply.specs.declared.stray.Stray.{Stray}
 use Rattle.ndc_reapply.proofs.LawProofs.{unsettled_origins}
 use Rattle.ndc_reapply.proofs.OrderLemmas.{same_origin-is, same_origin-self}
-use Rattle.ndc_sets.specs.Branches.{current_tip, current_tips, greatest_key, is_current_run, is_run_of, runs, same_run, workflow_tip}
-use Rattle.ndc_sets.specs.Current.{current_state, is_zombie, origins_at, replayed_or_new, settled, settled_by, settled_by_runs, state_at, status_of, strays}
-use Rattle.ndc_sets.specs.Learned.{IsPart, has_key}
-use Rattle.ndc_sets.specs.Origins.{origins_in, signal_of, signals, signals_in}
-use Rattle.ndc_sets.specs.Paths.{events_to, path_to}
-use Rattle.ndc_sets.specs.Sets.{Has, arrived, batch_at, earlier_of}
-use Rattle.ndc_sets.specs.Sound.{IsSound}
-use Rattle.ndc_sets.proofs.ArrivalLemmas.{is_there, stays, was_or_new}
-use Rattle.ndc_sets.proofs.BranchLemmas.{IsUpTo, among-has, greatest-among, greatest-of, greatest-top, has-among, run-same, same-batch, same-run}
-use Rattle.ndc_sets.proofs.CurrentLaws.{current-has, workflow_is_greatest}
-use Rattle.ndc_sets.proofs.CurrentLemmas.{IsGreatestOf, current-greatest, of_run, run-greatest}
-use Rattle.ndc_sets.proofs.ForkLemmas.{among-left, among-right}
-use Rattle.ndc_sets.proofs.Lists.{Among, among-filter, among-map, filter-among, filter_map-among, list_any-one, map-among}
-use Rattle.ndc_sets.proofs.WritePaths.{path_behind_parent, paths_stay}
+use Rattle.ndc_model_sets.specs.Branches.{current_tip, current_tips, greatest_key, is_current_run, is_run_of, runs, same_run, workflow_tip}
+use Rattle.ndc_model_sets.specs.Current.{current_state, is_zombie, origins_at, replayed_or_new, settled, settled_by, settled_by_runs, state_at, status_of, strays}
+use Rattle.ndc_model_sets.specs.Learned.{IsPart, has_key}
+use Rattle.ndc_model_sets.specs.Origins.{origins_in, signal_of, signals, signals_in}
+use Rattle.ndc_model_sets.specs.Paths.{events_to, path_to}
+use Rattle.ndc_model_sets.specs.Sets.{Has, arrived, batch_at, earlier_of}
+use Rattle.ndc_model_sets.specs.Sound.{IsSound}
+use Rattle.ndc_model_sets.proofs.ArrivalLemmas.{is_there, stays, was_or_new}
+use Rattle.ndc_model_sets.proofs.BranchLemmas.{IsUpTo, among-has, greatest-among, greatest-of, greatest-top, has-among, run-same, same-batch, same-run}
+use Rattle.ndc_model_sets.proofs.CurrentLaws.{current-has, workflow_is_greatest}
+use Rattle.ndc_model_sets.proofs.CurrentLemmas.{IsGreatestOf, current-greatest, of_run, run-greatest}
+use Rattle.ndc_model_sets.proofs.ForkLemmas.{among-left, among-right}
+use Rattle.ndc_model_sets.proofs.Lists.{Among, among-filter, among-map, filter-among, filter_map-among, list_any-one, map-among}
+use Rattle.ndc_model_sets.proofs.WritePaths.{path_behind_parent, paths_stay}
 use Rattle.ndc_state.specs.Origins.{is_among, same_origin}
 use Rattle.ndc_state.specs.Replay.{history_of, replay_of}
 

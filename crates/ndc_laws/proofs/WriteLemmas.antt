@@ -2,11 +2,11 @@
 use Rattle.std.proofs.Common.{◌≡◌, ℕ, Bool, true, false, List, [], ◌∷◌, ◌++◌, ◌⊎◌, inl, inr, Option, Some, None, Result, Ok, Err, if◌then◌else◌, refl, sym, ◌∙◌, subst, ap, arith}
 use Rattle.std.specs.List.{AllByRecursion, filter_map, flat_map}
 use Rattle.std.specs.Prelude.{codes, is_some, remove, slice_get}
-use Rattle.ndc_act.specs.declared.script.Header.{Header}
-use Rattle.ndc_cells.specs.Cells.{Cell, both}
-use Rattle.ndc_cells.specs.Jobs.{cell_for, cells_after}
-use Rattle.ndc_cells.specs.declared.job.ShardJob.{ShardJob}
-use Rattle.ndc_cells.specs.declared.message.Message.{Message}
+use Rattle.ndc_script_types.specs.declared.script.Header.{Header}
+use Rattle.ndc_model_cells.specs.Cells.{Cell, both}
+use Rattle.ndc_model_cells.specs.Jobs.{cell_for, cells_after}
+use Rattle.ndc_model_cells.specs.declared.job.ShardJob.{ShardJob}
+use Rattle.ndc_model_cells.specs.declared.message.Message.{Message}
 use Rattle.ndc_command.specs.declared.command.Command.{Command}
 use Rattle.ndc_command.specs.declared.refusal.CommandError.{CommandError}
 use Rattle.ndc_domain.specs.Merge.{merged}
@@ -16,8 +16,8 @@ use Rattle.ndc_domain.specs.declared.record.DomainRecord.{DomainRecord}
 use Rattle.ndc_domain.specs.declared.record.JoinError.{JoinError}
 use Rattle.ndc_event.specs.declared.batch.Batch.{Batch}
 use Rattle.ndc_event.specs.declared.name.Name.{Name}
-use Rattle.ndc_fair.proofs.ManyLemmas.{among-flat}
-use Rattle.ndc_fair.proofs.WrittenLemmas.{flat-among}
+use Rattle.ndc_laws_reached.proofs.ManyLemmas.{among-flat}
+use Rattle.ndc_laws_reached.proofs.WrittenLemmas.{flat-among}
 use Rattle.ndc_laws.specs.Grown.{TablesGrow}
 use Rattle.ndc_laws.proofs.AboveLemmas.{HoldsOfWritten, IsAbove, cells-kept}
 use Rattle.ndc_laws.proofs.GrowLemmas.{stay-grow}
@@ -42,7 +42,7 @@ use Rattle.ndc_model.proofs.ListLemmas.{all-weaker}
 use Rattle.ndc_model.proofs.WorldLemmas.{cells-cases, set-cases}
 use Rattle.ndc_progress.specs.Reports.{held, stale_by}
 use Rattle.ndc_progress.specs.declared.report.ActivityRef.{ActivityRef}
-use Rattle.ndc_sets.proofs.Lists.{Among, all-among, all-from}
+use Rattle.ndc_model_sets.proofs.Lists.{Among, all-among, all-from}
 
 -- a batch was written in the cell of a cluster for a shard, or has no lower version than the cluster's record
 abbrev pub WasOrIsAbove : World → ClusterNo → ℕ → Batch → Type 0

@@ -1,10 +1,10 @@
 -- Tables that have grown from one world to another.
 use Rattle.std.specs.Prelude.{List}
-use Rattle.ndc_act.specs.WellFormed.{IsWellFormedAct}
-use Rattle.ndc_act.specs.declared.script.Header.{Header}
-use Rattle.ndc_act.specs.declared.script.Line.{Line}
+use Rattle.ndc_script_types.specs.WellFormed.{IsWellFormedAct}
+use Rattle.ndc_script_types.specs.declared.script.Header.{Header}
+use Rattle.ndc_script_types.specs.declared.script.Line.{Line}
 use Rattle.ndc_domain.specs.declared.clusters.ClusterNo.{ClusterNo}
-use Rattle.ndc_fair.specs.Tables.{TableGrows}
+use Rattle.ndc_laws_reached.specs.Tables.{TableGrows}
 use Rattle.ndc_model.specs.Lines.{ran_from, world_behind}
 use Rattle.ndc_model.specs.World.{World, cluster_at}
 

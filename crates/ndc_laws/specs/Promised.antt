@@ -1,20 +1,20 @@
 -- What is promised of every world of a script.
 use Rattle.std.specs.Prelude.{◌≡◌, ◌↔◌, ℕ, ◌<◌, true, false, is_some, List, [], ◌∷◌, codes, Some, None, Ok}
 use Rattle.std.specs.List.{IsAmong}
-use Rattle.ndc_act.specs.WellFormed.{IsCluster, IsWellFormedAct}
-use Rattle.ndc_act.specs.declared.script.Act.{Act}
-use Rattle.ndc_act.specs.declared.script.Act.TheVariants as act
-use Rattle.ndc_act.specs.declared.script.Header.{Header}
-use Rattle.ndc_act.specs.declared.script.Line.{Line}
-use Rattle.ndc_cells.specs.Arrival.{has_arrived}
-use Rattle.ndc_cells.specs.Cells.{Cell, put_off_in}
-use Rattle.ndc_cells.specs.Places.{batch_there}
+use Rattle.ndc_script_types.specs.WellFormed.{IsCluster, IsWellFormedAct}
+use Rattle.ndc_script_types.specs.declared.script.Act.{Act}
+use Rattle.ndc_script_types.specs.declared.script.Act.TheVariants as act
+use Rattle.ndc_script_types.specs.declared.script.Header.{Header}
+use Rattle.ndc_script_types.specs.declared.script.Line.{Line}
+use Rattle.ndc_model_cells.specs.Arrival.{has_arrived}
+use Rattle.ndc_model_cells.specs.Cells.{Cell, put_off_in}
+use Rattle.ndc_model_cells.specs.Places.{batch_there}
 use Rattle.ndc_domain.specs.declared.clusters.ClusterNo.{ClusterNo}
 use Rattle.ndc_event.specs.declared.batch.Batch.{Batch}
 use Rattle.ndc_event.specs.declared.key.BatchKey.{BatchKey}
 use Rattle.ndc_event.specs.declared.key.RunId.{RunId}
 use Rattle.ndc_event.specs.declared.name.Name.{Name}
-use Rattle.ndc_fair.specs.OneWriter.{EachHasOneCurrent}
+use Rattle.ndc_laws_reached.specs.OneWriter.{EachHasOneCurrent}
 use Rattle.ndc_letters.specs.Letters.{place_of_letter}
 use Rattle.ndc_letters.specs.declared.letter.Letter.{Letter}
 use Rattle.ndc_model.specs.Facts.{IsReached}
@@ -27,14 +27,14 @@ use Rattle.ndc_model.specs.World.{World, cell_at, cell_of, cluster_at, opening_w
 use Rattle.ndc_progress.specs.declared.report.Report.{Report}
 use Rattle.ndc_reset.specs.Laws.{GoesOn}
 use Rattle.ndc_reset.specs.Reset.{reset_kinds}
-use Rattle.ndc_sets.specs.Branches.{current_tip, workflow_tip}
-use Rattle.ndc_sets.specs.Current.{state_to}
-use Rattle.ndc_sets.specs.Learned.{IsPart, WaitsFor}
-use Rattle.ndc_sets.specs.Paths.{events_to}
-use Rattle.ndc_sets.specs.Origins.{origins_in}
-use Rattle.ndc_sets.specs.Sets.{batch_at, earlier, Has}
-use Rattle.ndc_sets.specs.Sound.{OriginsDiffer}
-use Rattle.ndc_sets.specs.View.{view_of}
+use Rattle.ndc_model_sets.specs.Branches.{current_tip, workflow_tip}
+use Rattle.ndc_model_sets.specs.Current.{state_to}
+use Rattle.ndc_model_sets.specs.Learned.{IsPart, WaitsFor}
+use Rattle.ndc_model_sets.specs.Paths.{events_to}
+use Rattle.ndc_model_sets.specs.Origins.{origins_in}
+use Rattle.ndc_model_sets.specs.Sets.{batch_at, earlier, Has}
+use Rattle.ndc_model_sets.specs.Sound.{OriginsDiffer}
+use Rattle.ndc_model_sets.specs.View.{view_of}
 use Rattle.ndc_state.specs.Laws.{AreApart}
 use Rattle.ndc_state.specs.Replay.{replay_of}
 use Rattle.ndc_state.specs.Written.{events_from}

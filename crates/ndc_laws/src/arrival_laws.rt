@@ -1,11 +1,11 @@
 // What messages are answered that arrive, as a law.
 ghost use Rattle.std.specs.Prelude.{◌≡◌, ◌↔◌, ℕ, ◌<◌, true, false};
-ghost use Rattle.ndc_act.specs.WellFormed.{IsCluster};
-ghost use Rattle.ndc_act.specs.declared.script.Header.{Header as Head};
-ghost use Rattle.ndc_cells.specs.declared.job.Arrived.TheVariants.{Known, PutOff};
-ghost use Rattle.ndc_cells.specs.declared.message.Message.{Message as Sent};
-ghost use Rattle.ndc_cells.specs.Arrival.{arrival_of, arrived_at, has_arrived};
-ghost use Rattle.ndc_cells.specs.Cells.{Cell, arrived_of};
+ghost use Rattle.ndc_script_types.specs.WellFormed.{IsCluster};
+ghost use Rattle.ndc_script_types.specs.declared.script.Header.{Header as Head};
+ghost use Rattle.ndc_model_cells.specs.declared.job.Arrived.TheVariants.{Known, PutOff};
+ghost use Rattle.ndc_model_cells.specs.declared.message.Message.{Message as Sent};
+ghost use Rattle.ndc_model_cells.specs.Arrival.{arrival_of, arrived_at, has_arrived};
+ghost use Rattle.ndc_model_cells.specs.Cells.{Cell, arrived_of};
 ghost use Rattle.ndc_domain.specs.declared.clusters.ClusterNo.{ClusterNo as Number};
 ghost use Rattle.ndc_event.specs.declared.key.BatchKey.{BatchKey};
 ghost use Rattle.ndc_laws.specs.Promised.{FirstMissing, LacksAncestor};

@@ -1,10 +1,10 @@
 // What handovers have ended, as laws.
 ghost use Rattle.std.specs.List.{AllByRecursion, IsAmong};
 ghost use Rattle.std.specs.Prelude.{◌≡◌, ◌≢◌, ℕ, ◌+◌, ◌≤◌, List, ◌++◌, length, Ok};
-ghost use Rattle.ndc_act.specs.WellFormed.{IsWellFormed, IsWellFormedHeader};
-ghost use Rattle.ndc_act.specs.declared.script.Header.{Header as Head};
-ghost use Rattle.ndc_act.specs.declared.script.Line.{Line as ScriptLine};
-ghost use Rattle.ndc_cells.specs.Writing.{may_write};
+ghost use Rattle.ndc_script_types.specs.WellFormed.{IsWellFormed, IsWellFormedHeader};
+ghost use Rattle.ndc_script_types.specs.declared.script.Header.{Header as Head};
+ghost use Rattle.ndc_script_types.specs.declared.script.Line.{Line as ScriptLine};
+ghost use Rattle.ndc_model_cells.specs.Writing.{may_write};
 ghost use Rattle.ndc_domain.specs.declared.clusters.ClusterNo.{ClusterNo as Number};
 ghost use Rattle.ndc_event.specs.declared.batch.Batch.{Batch as OneBatch};
 ghost use Rattle.ndc_event.specs.declared.name.Name.{Name as Text};
@@ -15,7 +15,7 @@ ghost use Rattle.ndc_model.specs.Facts.{IsReached};
 ghost use Rattle.ndc_model.specs.Fair.{written_of};
 ghost use Rattle.ndc_model.specs.Laws.{script_of};
 ghost use Rattle.ndc_model.specs.World.{World, cell_of, home_at};
-ghost use Rattle.ndc_sets.specs.Sets.{Has};
+ghost use Rattle.ndc_model_sets.specs.Sets.{Has};
 
 /// Where a handover is open in a reached world, no cluster may write to its domain with the old version in any world
 /// that further well-formed lines lead to, also once the handover is completed.

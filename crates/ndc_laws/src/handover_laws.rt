@@ -1,9 +1,9 @@
 // The end of a handover, as laws.
 ghost use Rattle.std.specs.List.{IsAmong};
 ghost use Rattle.std.specs.Prelude.{◌≡◌, ◌≢◌, ℕ, ◌≤◌, Some, Ok};
-ghost use Rattle.ndc_act.specs.WellFormed.{IsWellFormedHeader};
-ghost use Rattle.ndc_act.specs.declared.script.Header.{Header as Head};
-ghost use Rattle.ndc_cells.specs.Writing.{may_write};
+ghost use Rattle.ndc_script_types.specs.WellFormed.{IsWellFormedHeader};
+ghost use Rattle.ndc_script_types.specs.declared.script.Header.{Header as Head};
+ghost use Rattle.ndc_model_cells.specs.Writing.{may_write};
 ghost use Rattle.ndc_domain.specs.declared.clusters.ClusterNo.{ClusterNo as Number};
 ghost use Rattle.ndc_event.specs.declared.batch.Batch.{Batch};
 ghost use Rattle.ndc_event.specs.declared.name.Name.{Name as Text};
@@ -13,8 +13,8 @@ ghost use Rattle.ndc_model.specs.Fair.{written_of};
 ghost use Rattle.ndc_model.specs.Handovers.{handover_to, ready_in};
 ghost use Rattle.ndc_model.specs.Reading.{learned_at};
 ghost use Rattle.ndc_model.specs.World.{World, cell_of, home_at};
-ghost use Rattle.ndc_sets.specs.Branches.{current_tip};
-ghost use Rattle.ndc_sets.specs.Sets.{Has};
+ghost use Rattle.ndc_model_sets.specs.Branches.{current_tip};
+ghost use Rattle.ndc_model_sets.specs.Sets.{Has};
 
 /// Where `complete` ends a handover to its cluster, this has learned every batch of the domain that was written with the
 /// old version. In each run that has such a batch, where no batch of the workflow has a greater version, the current

@@ -1,10 +1,10 @@
 // Damaged messages, as laws.
 ghost use Rattle.std.specs.List.{AllByRecursion};
 ghost use Rattle.std.specs.Prelude.{◌≡◌, ℕ, ◌<◌, ◌≤◌, length, slice_get, [], ◌∷◌, ◌++◌, codes, Some};
-ghost use Rattle.ndc_act.specs.WellFormed.{AreTwoClusters, IsCluster, IsWellFormedHeader};
-ghost use Rattle.ndc_act.specs.declared.script.Act.TheVariants as act;
-ghost use Rattle.ndc_act.specs.declared.script.Header.{Header as Head};
-ghost use Rattle.ndc_cells.specs.declared.message.Message.{Message as Sent};
+ghost use Rattle.ndc_script_types.specs.WellFormed.{AreTwoClusters, IsCluster, IsWellFormedHeader};
+ghost use Rattle.ndc_script_types.specs.declared.script.Act.TheVariants as act;
+ghost use Rattle.ndc_script_types.specs.declared.script.Header.{Header as Head};
+ghost use Rattle.ndc_model_cells.specs.declared.message.Message.{Message as Sent};
 ghost use Rattle.ndc_domain.specs.declared.clusters.ClusterNo.{ClusterNo as Number};
 ghost use Rattle.ndc_laws.specs.Promised.{HasArrivedFor};
 ghost use Rattle.ndc_letters.specs.Letters.{letter_of};

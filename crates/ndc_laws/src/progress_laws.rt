@@ -1,9 +1,9 @@
 // Progress reports, as laws.
 ghost use Rattle.std.specs.List.{AllByRecursion};
 ghost use Rattle.std.specs.Prelude.{◌≡◌, ℕ, ◌++◌};
-ghost use Rattle.ndc_act.specs.WellFormed.{IsCluster, IsWellFormed};
-ghost use Rattle.ndc_act.specs.declared.script.Header.{Header as Head};
-ghost use Rattle.ndc_act.specs.declared.script.Script.{Script as Whole};
+ghost use Rattle.ndc_script_types.specs.WellFormed.{IsCluster, IsWellFormed};
+ghost use Rattle.ndc_script_types.specs.declared.script.Header.{Header as Head};
+ghost use Rattle.ndc_script_types.specs.declared.script.Script.{Script as Whole};
 ghost use Rattle.ndc_domain.specs.declared.clusters.ClusterNo.{ClusterNo as Number};
 ghost use Rattle.ndc_laws.specs.Promised.{HaveTheSameReports};
 ghost use Rattle.ndc_model.specs.Facts.{IsReached, ReportsAgree};

@@ -1,9 +1,9 @@
 // Resets, as a law.
 ghost use Rattle.std.specs.Prelude.{◌≡◌, ℕ, ◌<◌, List, Ok};
-ghost use Rattle.ndc_act.specs.WellFormed.{IsWellFormedHeader, IsWorkflowAt};
-ghost use Rattle.ndc_act.specs.declared.script.Act.TheVariants as act;
-ghost use Rattle.ndc_act.specs.declared.script.Header.{Header as Head};
-ghost use Rattle.ndc_cells.specs.Writing.{Entry, reset_at};
+ghost use Rattle.ndc_script_types.specs.WellFormed.{IsWellFormedHeader, IsWorkflowAt};
+ghost use Rattle.ndc_script_types.specs.declared.script.Act.TheVariants as act;
+ghost use Rattle.ndc_script_types.specs.declared.script.Header.{Header as Head};
+ghost use Rattle.ndc_model_cells.specs.Writing.{Entry, reset_at};
 ghost use Rattle.ndc_domain.specs.declared.clusters.ClusterNo.{ClusterNo as Number};
 ghost use Rattle.ndc_event.specs.declared.name.Name.{Name as Text};
 ghost use Rattle.ndc_laws.specs.Promised.{IsResetFrom};

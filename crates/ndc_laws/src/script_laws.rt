@@ -1,12 +1,12 @@
 // All worlds of a script, as laws.
 ghost use Rattle.std.specs.List.{AllByRecursion};
 ghost use Rattle.std.specs.Prelude.{ℕ, ◌+◌, ◌<◌, List, ◌∷◌, ◌++◌};
-ghost use Rattle.ndc_act.specs.WellFormed.{IsWellFormed, IsWellFormedAct, IsWellFormedHeader};
-ghost use Rattle.ndc_act.specs.declared.script.Act.{Act as Asked};
-ghost use Rattle.ndc_act.specs.declared.script.Header.{Header as Head};
-ghost use Rattle.ndc_act.specs.declared.script.Line.{Line as ScriptLine};
-ghost use Rattle.ndc_act.specs.declared.script.Script.{Script as Whole};
-ghost use Rattle.ndc_fair.specs.Sometime.{IsReachedSometime};
+ghost use Rattle.ndc_script_types.specs.WellFormed.{IsWellFormed, IsWellFormedAct, IsWellFormedHeader};
+ghost use Rattle.ndc_script_types.specs.declared.script.Act.{Act as Asked};
+ghost use Rattle.ndc_script_types.specs.declared.script.Header.{Header as Head};
+ghost use Rattle.ndc_script_types.specs.declared.script.Line.{Line as ScriptLine};
+ghost use Rattle.ndc_script_types.specs.declared.script.Script.{Script as Whole};
+ghost use Rattle.ndc_laws_reached.specs.Sometime.{IsReachedSometime};
 ghost use Rattle.ndc_laws.specs.Promised.{IsAsPromised, RunsReached};
 ghost use Rattle.ndc_model.specs.Facts.{IsReached};
 ghost use Rattle.ndc_model.specs.Laws.{script_of};

@@ -1,11 +1,11 @@
 // What a settlement and a resend leave, as laws.
 ghost use Rattle.std.specs.Prelude.{ℕ, ◌<◌, List, ◌∷◌, ◌++◌};
-ghost use Rattle.ndc_act.specs.WellFormed.{IsWellFormed, IsWellFormedHeader};
-ghost use Rattle.ndc_act.specs.declared.script.Act.TheVariants as act;
-ghost use Rattle.ndc_act.specs.declared.script.Header.{Header as Head};
-ghost use Rattle.ndc_act.specs.declared.script.Line.{Line as ScriptLine};
+ghost use Rattle.ndc_script_types.specs.WellFormed.{IsWellFormed, IsWellFormedHeader};
+ghost use Rattle.ndc_script_types.specs.declared.script.Act.TheVariants as act;
+ghost use Rattle.ndc_script_types.specs.declared.script.Header.{Header as Head};
+ghost use Rattle.ndc_script_types.specs.declared.script.Line.{Line as ScriptLine};
 ghost use Rattle.ndc_domain.specs.declared.clusters.ClusterNo.{ClusterNo as Number};
-ghost use Rattle.ndc_fair.specs.Settled.{ApplyingSettles, IsSettled};
+ghost use Rattle.ndc_laws_reached.specs.Settled.{ApplyingSettles, IsSettled};
 ghost use Rattle.ndc_laws.specs.Promised.{NothingPutOff, line, world_before};
 ghost use Rattle.ndc_model.specs.Facts.{IsReached};
 ghost use Rattle.ndc_model.specs.Laws.{script_of};

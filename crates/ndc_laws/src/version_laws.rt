@@ -1,10 +1,10 @@
 // Versions of domain records in fair worlds, as laws.
 ghost use Rattle.std.specs.List.{AllByRecursion};
 ghost use Rattle.std.specs.Prelude.{ℕ, ◌+◌, ◌≤◌, List, ◌++◌, length};
-ghost use Rattle.ndc_act.specs.WellFormed.{IsWellFormed, IsWellFormedAct, IsWellFormedHeader};
-ghost use Rattle.ndc_act.specs.declared.script.Act.{Act as Asked};
-ghost use Rattle.ndc_act.specs.declared.script.Header.{Header as Head};
-ghost use Rattle.ndc_act.specs.declared.script.Line.{Line as ScriptLine};
+ghost use Rattle.ndc_script_types.specs.WellFormed.{IsWellFormed, IsWellFormedAct, IsWellFormedHeader};
+ghost use Rattle.ndc_script_types.specs.declared.script.Act.{Act as Asked};
+ghost use Rattle.ndc_script_types.specs.declared.script.Header.{Header as Head};
+ghost use Rattle.ndc_script_types.specs.declared.script.Line.{Line as ScriptLine};
 ghost use Rattle.ndc_laws.specs.Grown.{IsWellFormedLine, TablesGrow, world_after};
 ghost use Rattle.ndc_laws.specs.Promised.{world_before};
 ghost use Rattle.ndc_model.specs.Facts.{IsReached};

@@ -1,15 +1,15 @@
 // What clusters show in every world that is as it should be, as laws.
 ghost use Rattle.std.specs.Prelude.{◌↔◌, ℕ, ◌<◌};
-ghost use Rattle.ndc_act.specs.WellFormed.{IsCluster, IsWellFormedHeader};
-ghost use Rattle.ndc_act.specs.declared.script.Header.{Header as Head};
+ghost use Rattle.ndc_script_types.specs.WellFormed.{IsCluster, IsWellFormedHeader};
+ghost use Rattle.ndc_script_types.specs.declared.script.Header.{Header as Head};
 ghost use Rattle.ndc_domain.specs.declared.clusters.ClusterNo.{ClusterNo as Number};
 ghost use Rattle.ndc_event.specs.declared.name.Name.{Name as Text};
-ghost use Rattle.ndc_fair.specs.OneWriter.{EachHasOneCurrent};
+ghost use Rattle.ndc_laws_reached.specs.OneWriter.{EachHasOneCurrent};
 ghost use Rattle.ndc_laws.specs.Promised.{AnswerAlike, ComparesSame, LearnedTheSame, StatesAreReplays, TipsDiffer, WaitsForAncestors};
 ghost use Rattle.ndc_model.specs.Facts.{IsReached};
 ghost use Rattle.ndc_model.specs.Reading.{learned_at};
 ghost use Rattle.ndc_model.specs.World.{World, cell_at};
-ghost use Rattle.ndc_sets.specs.Sound.{OriginsDiffer};
+ghost use Rattle.ndc_model_sets.specs.Sound.{OriginsDiffer};
 
 /// Clusters that have learned the same batches of a workflow have equal dumps of it, and answer `history`, `branches`,
 /// `current`, `state` and `dump` alike.

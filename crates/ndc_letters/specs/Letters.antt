@@ -1,7 +1,7 @@
 -- Letters: what came of messages, and whether it is whole.
 use Rattle.std.specs.Prelude.{ℕ, Bool, true, false, List, [], ◌∷◌, ◌++◌, take, Result, Ok, Err, if◌then◌else◌}
-use Rattle.ndc_cells.specs.Places.{is_at}
-use Rattle.ndc_cells.specs.declared.place.Place.{Place}
+use Rattle.ndc_model_cells.specs.Places.{is_at}
+use Rattle.ndc_model_cells.specs.declared.place.Place.{Place}
 use Rattle.ndc_domain.specs.declared.clusters.ClusterNo.{ClusterNo}
 use Rattle.ndc_event.specs.declared.batch.Batch.{Batch}
 use Rattle.ndc_letters.specs.declared.letter.Letter.{Letter}

@@ -1,5 +1,5 @@
 ghost use Rattle.std.specs.Prelude.{◌≡◌, IfOk};
-ghost use Rattle.ndc_cells.specs.Places.{is_at};
+ghost use Rattle.ndc_model_cells.specs.Places.{is_at};
 ghost use Rattle.ndc_letters.specs.Letters.{place_of_letter, taken_of};
 
 use crate::letter::Letter;

@@ -11,23 +11,23 @@ use Rattle.ndc_domain.specs.declared.clusters.ClusterNo.{ClusterNo}
 use Rattle.ndc_domain.specs.declared.record.DomainRecord.{DomainRecord}
 use Rattle.ndc_event.specs.declared.batch.Batch.{Batch}
 use Rattle.ndc_event.specs.declared.name.Name.{Name}
-use Rattle.ndc_act.specs.Below.{clusters_below}
-use Rattle.ndc_act.specs.WellFormed.{AreTwoClusters}
-use Rattle.ndc_act.specs.declared.script.Header.{Header}
-use Rattle.ndc_sets.specs.Sets.{Has}
-use Rattle.ndc_sets.specs.Sound.{IsSound}
+use Rattle.ndc_script_types.specs.Below.{clusters_below}
+use Rattle.ndc_script_types.specs.WellFormed.{AreTwoClusters}
+use Rattle.ndc_script_types.specs.declared.script.Header.{Header}
+use Rattle.ndc_model_sets.specs.Sets.{Has}
+use Rattle.ndc_model_sets.specs.Sound.{IsSound}
 use Rattle.ndc_text.specs.Ranges.{InRange}
 use Rattle.ndc_model.proofs.ListLemmas.{all-flat, all-map, all-weaker}
-use Rattle.ndc_sets.proofs.ForkLemmas.{among-cases}
-use Rattle.ndc_sets.proofs.Lists.{Among, all-from, filter-among, map-among}
-use Rattle.ndc_cells.specs.declared.place.Place.{Place}
-use Rattle.ndc_cells.specs.Cells.{Cell, both, empty_cell}
-use Rattle.ndc_cells.specs.Places.{in_order, is_of, place_of}
-use Rattle.ndc_cells.specs.Writing.{same_cluster}
+use Rattle.ndc_model_sets.proofs.ForkLemmas.{among-cases}
+use Rattle.ndc_model_sets.proofs.Lists.{Among, all-from, filter-among, map-among}
+use Rattle.ndc_model_cells.specs.declared.place.Place.{Place}
+use Rattle.ndc_model_cells.specs.Cells.{Cell, both, empty_cell}
+use Rattle.ndc_model_cells.specs.Places.{in_order, is_of, place_of}
+use Rattle.ndc_model_cells.specs.Writing.{same_cluster}
 use Rattle.ndc_progress.specs.declared.report.Report.{Report}
 use Rattle.ndc_model.specs.Facts.{IsLetterFit, IsReached, ReportsAgree}
 use Rattle.ndc_model.specs.Fair.{AreMessagesTrue, AreNumbersSmall, ArrivalsWereWritten, CopiesNameOriginals, EachRecord, IsArrivedFit, IsFair, IsLaneTrue, IsOwn, IsShaped, LanesAreTrue, MembersAlone, MessagesAreTrue, NumbersAreSmall, RecordsAgree, WritersUseOwnVersions, WritingIsSound, is_named, places_written, written_of}
-use Rattle.ndc_cells.specs.Shards.{shard_of}
+use Rattle.ndc_model_cells.specs.Shards.{shard_of}
 use Rattle.ndc_model.specs.Moves.{all_written}
 use Rattle.ndc_model.specs.Queues.{Lane, names_cluster, new_lane}
 use Rattle.ndc_model.specs.World.{Cluster, Link, cell_at, cluster_at, all_clusters, lane_in, new_cluster, new_link, opening_world, others_of, queue_at, trimmed_at}

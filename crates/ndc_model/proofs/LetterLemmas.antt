@@ -6,14 +6,14 @@ use Rattle.std.proofs.lemmas.List.{take-append-drop, take_all}
 use Rattle.std.proofs.lemmas.Slice.Eq.{bytes_eq-Decides}
 use Rattle.ndc_event.specs.Batch.{fault_of}
 use Rattle.ndc_event.specs.declared.batch.Batch.{Batch}
-use Rattle.ndc_sets.proofs.KeyLemmas.{key_eq-self}
+use Rattle.ndc_model_sets.proofs.KeyLemmas.{key_eq-self}
 use Rattle.ndc_text.proofs.Exact.{found, no_front, text_again}
 use Rattle.ndc_text.specs.Ranges.{InRange}
 use Rattle.ndc_text.specs.Read.{read_of}
 use Rattle.ndc_text.specs.Text.{batch_text}
 use Rattle.ndc_text.specs.declared.error.TextError.{TextError}
 use Rattle.ndc_text.specs.declared.form.TextForm.TheVariants.{Two}
-use Rattle.ndc_cells.specs.Places.{is_at, place_of}
+use Rattle.ndc_model_cells.specs.Places.{is_at, place_of}
 use Rattle.ndc_domain.specs.declared.clusters.ClusterNo.{ClusterNo}
 use Rattle.ndc_letters.specs.Letters.{is_whole, letter_of, taken_as, taken_of, was_whole}
 use Rattle.ndc_letters.specs.declared.letters.Taken.TheVariants.{Aside, Whole}

@@ -5,8 +5,8 @@ use Rattle.std.proofs.lemmas.List.{length-take}
 use Rattle.std.proofs.lemmas.List.Sums.{prefix_len-le-length}
 use Rattle.ndc_domain.specs.declared.clusters.ClusterNo.{ClusterNo}
 use Rattle.ndc_domain.specs.declared.record.DomainRecord.{DomainRecord}
-use Rattle.ndc_cells.specs.declared.message.Message.{Message}
-use Rattle.ndc_cells.specs.Cells.{Cell}
+use Rattle.ndc_model_cells.specs.declared.message.Message.{Message}
+use Rattle.ndc_model_cells.specs.Cells.{Cell}
 use Rattle.ndc_model.specs.Queues.{Lane, taken, after_pull, needs_nothing, after_renewal, after_rewind}
 use Rattle.ndc_queue.specs.Levels.{AreLevels}
 

@@ -1,8 +1,9 @@
-pub mod ListLemmas
-pub mod LevelLemmas
-pub mod WorldLemmas
-pub mod StepLemmas
-pub mod ScriptLemmas
+pub mod AlikeLemmas
+pub mod DumpLemmas
 pub mod FairLemmas
 pub mod LetterLemmas
-pub mod AlikeLemmas
+pub mod LevelLemmas
+pub mod ListLemmas
+pub mod ScriptLemmas
+pub mod StepLemmas
+pub mod WorldLemmas

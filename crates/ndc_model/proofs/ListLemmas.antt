@@ -5,7 +5,7 @@ use Rattle.std.specs.Prelude.{find, unwrap_or, IsSomeAnd}
 use Rattle.std.proofs.Math.Nat.{min-le_left, min-le_right}
 use Rattle.ndc_model.specs.Moves.{map_from}
 use Rattle.ndc_model.specs.World.{changed_first}
-use Rattle.ndc_sets.proofs.Lists.{Among, filter-cases}
+use Rattle.ndc_model_sets.proofs.Lists.{Among, filter-cases}
 
 pub all-append : {X : Type 0} (P : X → Type 0) (xs ys : List X) → AllByRecursion P xs → AllByRecursion P ys → AllByRecursion P (xs ++ ys)
 all-append P [] ys p q = q

@@ -1,8 +1,8 @@
 -- Scripts in two parts.
 use Rattle.std.proofs.Common.{◌≡◌, List, [], ◌∷◌, ◌++◌, append-nil, refl, ap, sym, ◌∙◌}
 use Rattle.std.proofs.lemmas.Grind.{flat_map-append}
-use Rattle.ndc_act.specs.declared.script.Header.{Header}
-use Rattle.ndc_act.specs.declared.script.Line.{Line}
+use Rattle.ndc_script_types.specs.declared.script.Header.{Header}
+use Rattle.ndc_script_types.specs.declared.script.Line.{Line}
 use Rattle.ndc_model.specs.Laws.{script_of}
 use Rattle.ndc_model.specs.Lines.{act_step, answer_text, answers_of, lines_of_act, plain_lines, ran_from, ran_of, seen_in, world_behind}
 use Rattle.ndc_model.specs.Report.{report_of}

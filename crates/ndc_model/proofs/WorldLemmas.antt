@@ -2,15 +2,15 @@
 use Rattle.std.proofs.Common.{◌≡◌, ℕ, zero, suc, Bool, true, false, ◌&&◌, List, [], ◌∷◌, ◌++◌, slice_index_or, slice_set, Option, Some, None, IfSome, Result, Ok, Err, refl, ap, sym, ◌∙◌, if◌then◌else◌}
 use Rattle.std.specs.List.{AllByRecursion}
 use Rattle.std.specs.Str.{bytes_eq}
-use Rattle.ndc_cells.specs.declared.job.Job.TheVariants as job
-use Rattle.ndc_cells.specs.declared.job.ShardJob.{ShardJob}
-use Rattle.ndc_cells.specs.declared.message.Message.{Message}
-use Rattle.ndc_cells.specs.Cells.{Cell, empty_cell, learned_of}
-use Rattle.ndc_cells.specs.Jobs.{after_job, cell_for, cells_after, written_at}
-use Rattle.ndc_cells.specs.Places.{is_of}
-use Rattle.ndc_cells.specs.Shards.{shard_of}
-use Rattle.ndc_cells.specs.Writing.{Entry, Home, alone, as_command_error, batch_below, carried_by, closing_entries, command_of, entry_of, first_batch, goes_on_as, is_close_full, key_behind, may_write, next_key, reset_at, reset_below, reset_close, reset_key, reset_refused, state_under, with_all_written, with_written}
-use Rattle.ndc_cells.proofs.CellLemmas.{others_learned, others_learned_by}
+use Rattle.ndc_model_cells.specs.declared.job.Job.TheVariants as job
+use Rattle.ndc_model_cells.specs.declared.job.ShardJob.{ShardJob}
+use Rattle.ndc_model_cells.specs.declared.message.Message.{Message}
+use Rattle.ndc_model_cells.specs.Cells.{Cell, empty_cell, learned_of}
+use Rattle.ndc_model_cells.specs.Jobs.{after_job, cell_for, cells_after, written_at}
+use Rattle.ndc_model_cells.specs.Places.{is_of}
+use Rattle.ndc_model_cells.specs.Shards.{shard_of}
+use Rattle.ndc_model_cells.specs.Writing.{Entry, Home, alone, as_command_error, batch_below, carried_by, closing_entries, command_of, entry_of, first_batch, goes_on_as, is_close_full, key_behind, may_write, next_key, reset_at, reset_below, reset_close, reset_key, reset_refused, state_under, with_all_written, with_written}
+use Rattle.ndc_model_cells.proofs.CellLemmas.{others_learned, others_learned_by}
 use Rattle.ndc_command.specs.declared.command.Command.{Command}
 use Rattle.ndc_command.specs.declared.refusal.CommandError.{CommandError}
 use Rattle.ndc_command.specs.declared.refusal.CommandError.TheVariants.{Refused}
@@ -25,10 +25,10 @@ use Rattle.ndc_event.specs.declared.key.BatchKey.{BatchKey}
 use Rattle.ndc_event.specs.declared.kind.EventKind.{EventKind}
 use Rattle.ndc_event.specs.declared.name.Name.{Name}
 use Rattle.ndc_reset.specs.Reset.{reset_of}
-use Rattle.ndc_act.specs.declared.script.Header.{Header}
-use Rattle.ndc_sets.specs.Branches.{workflow_tip}
-use Rattle.ndc_sets.specs.Current.{state_to}
-use Rattle.ndc_sets.specs.Paths.{events_to}
+use Rattle.ndc_script_types.specs.declared.script.Header.{Header}
+use Rattle.ndc_model_sets.specs.Branches.{workflow_tip}
+use Rattle.ndc_model_sets.specs.Current.{state_to}
+use Rattle.ndc_model_sets.specs.Paths.{events_to}
 use Rattle.ndc_state.specs.Value.{StateValue}
 use Rattle.ndc_model.specs.Moves.{Trace, arrives, from_world, jobs_done}
 use Rattle.ndc_model.specs.Steps.{command_step, reset_step}

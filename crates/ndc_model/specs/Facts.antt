@@ -7,11 +7,11 @@ use Rattle.std.specs.Str.{bytes_eq}
 use Rattle.ndc_domain.specs.Clusters.{writer_of}
 use Rattle.ndc_domain.specs.Records.{record_of}
 use Rattle.ndc_domain.specs.declared.clusters.ClusterNo.{ClusterNo}
-use Rattle.ndc_act.specs.WellFormed.{AreTwoClusters, IsCluster}
-use Rattle.ndc_act.specs.declared.script.Header.{Header}
-use Rattle.ndc_cells.specs.declared.message.Message.{Message}
-use Rattle.ndc_cells.specs.Places.{is_at}
-use Rattle.ndc_cells.specs.Shards.{shard_of}
+use Rattle.ndc_script_types.specs.WellFormed.{AreTwoClusters, IsCluster}
+use Rattle.ndc_script_types.specs.declared.script.Header.{Header}
+use Rattle.ndc_model_cells.specs.declared.message.Message.{Message}
+use Rattle.ndc_model_cells.specs.Places.{is_at}
+use Rattle.ndc_model_cells.specs.Shards.{shard_of}
 use Rattle.ndc_model.specs.Fair.{HasRecordFrom, IsFair, IsShaped, is_named, written_of}
 use Rattle.ndc_graceful.specs.declared.handover.Handover.{Handover}
 use Rattle.ndc_letters.specs.declared.letter.Letter.{Letter}

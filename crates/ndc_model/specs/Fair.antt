@@ -8,17 +8,17 @@ use Rattle.ndc_domain.specs.declared.clusters.ClusterNo.{ClusterNo}
 use Rattle.ndc_domain.specs.declared.record.DomainRecord.{DomainRecord}
 use Rattle.ndc_event.specs.declared.batch.Batch.{Batch}
 use Rattle.ndc_event.specs.declared.name.Name.{Name}
-use Rattle.ndc_act.specs.WellFormed.{AreTwoClusters, IsCluster}
-use Rattle.ndc_act.specs.declared.script.Header.{Header}
-use Rattle.ndc_sets.specs.Sets.{Has}
-use Rattle.ndc_sets.specs.Sound.{CopiesNamed, IsSound}
-use Rattle.ndc_cells.specs.declared.message.Message.{Message}
-use Rattle.ndc_cells.specs.declared.place.Place.{Place}
-use Rattle.ndc_cells.specs.Arrival.{has_arrived}
-use Rattle.ndc_cells.specs.Cells.{Cell, both, carries, learned_of, own_message, put_off_in}
-use Rattle.ndc_cells.specs.Places.{AreInOrder, batch_there, is_of, place_of}
-use Rattle.ndc_cells.specs.Shards.{shard_of}
-use Rattle.ndc_cells.specs.Writing.{goes_on_as}
+use Rattle.ndc_script_types.specs.WellFormed.{AreTwoClusters, IsCluster}
+use Rattle.ndc_script_types.specs.declared.script.Header.{Header}
+use Rattle.ndc_model_sets.specs.Sets.{Has}
+use Rattle.ndc_model_sets.specs.Sound.{CopiesNamed, IsSound}
+use Rattle.ndc_model_cells.specs.declared.message.Message.{Message}
+use Rattle.ndc_model_cells.specs.declared.place.Place.{Place}
+use Rattle.ndc_model_cells.specs.Arrival.{has_arrived}
+use Rattle.ndc_model_cells.specs.Cells.{Cell, both, carries, learned_of, own_message, put_off_in}
+use Rattle.ndc_model_cells.specs.Places.{AreInOrder, batch_there, is_of, place_of}
+use Rattle.ndc_model_cells.specs.Shards.{shard_of}
+use Rattle.ndc_model_cells.specs.Writing.{goes_on_as}
 use Rattle.ndc_model.specs.Moves.{all_written, messages_among}
 use Rattle.ndc_model.specs.Queues.{Lane, names_cluster, needs_nothing}
 use Rattle.ndc_index.specs.Texts.{count_kinds, is_original}

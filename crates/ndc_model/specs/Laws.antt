@@ -1,11 +1,11 @@
 -- What holds of every line and every script.
 use Rattle.std.specs.Prelude.{◌≡◌, ℕ, Bool, true, false, List, [], take, length, codes}
 use Rattle.std.specs.Str.{bytes_eq}
-use Rattle.ndc_act.specs.declared.script.Act.{Act}
-use Rattle.ndc_act.specs.declared.script.Act.TheVariants as act
-use Rattle.ndc_act.specs.declared.script.Header.{Header}
-use Rattle.ndc_act.specs.declared.script.Line.{Line}
-use Rattle.ndc_act.specs.declared.script.Script.{Script}
+use Rattle.ndc_script_types.specs.declared.script.Act.{Act}
+use Rattle.ndc_script_types.specs.declared.script.Act.TheVariants as act
+use Rattle.ndc_script_types.specs.declared.script.Header.{Header}
+use Rattle.ndc_script_types.specs.declared.script.Line.{Line}
+use Rattle.ndc_script_types.specs.declared.script.Script.{Script}
 use Rattle.ndc_model.specs.Steps.{Stepped}
 use Rattle.ndc_model.specs.World.{World}
 

@@ -1,25 +1,24 @@
 -- How messages move: pulls, work, resending, bootstrap, settlement.
-use Rattle.std.specs.Prelude.{ℕ, suc, ◌&&◌, not, List, [], ◌∷◌, ◌++◌, map, drop, slice_set, Option, Some, None, if◌then◌else◌, max}
-use Rattle.std.specs.List.{filter, filter_map, flat_map, fold, list_any}
-use Rattle.std.specs.Str.{bytes_eq}
-use Rattle.ndc_cells.specs.declared.job.Job.TheVariants.{Arrive, Reapply}
-use Rattle.ndc_cells.specs.declared.job.Job.{Job}
-use Rattle.ndc_cells.specs.declared.job.JobReply.{JobReply}
-use Rattle.ndc_cells.specs.declared.job.ShardJob.{ShardJob}
-use Rattle.ndc_cells.specs.declared.message.Message.{Message}
-use Rattle.ndc_cells.specs.Arrival.{has_arrived}
-use Rattle.ndc_cells.specs.Cells.{Cell, ancestry, both, is_learned_in, learned_message, own_message, put_off_in}
-use Rattle.ndc_cells.specs.Jobs.{cells_after, replies_to}
-use Rattle.ndc_cells.specs.Places.{in_order, is_of}
-use Rattle.ndc_cells.specs.Writing.{same_cluster}
+use Rattle.std.specs.Prelude.{ℕ, suc, not, List, [], ◌∷◌, ◌++◌, map, drop, slice_set, Option, Some, None, if◌then◌else◌, max}
+use Rattle.std.specs.List.{filter, filter_map, flat_map, fold}
+use Rattle.ndc_model_cells.specs.declared.job.Job.TheVariants.{Arrive, Reapply}
+use Rattle.ndc_model_cells.specs.declared.job.Job.{Job}
+use Rattle.ndc_model_cells.specs.declared.job.JobReply.{JobReply}
+use Rattle.ndc_model_cells.specs.declared.job.ShardJob.{ShardJob}
+use Rattle.ndc_model_cells.specs.declared.message.Message.{Message}
+use Rattle.ndc_model_cells.specs.Arrival.{has_arrived}
+use Rattle.ndc_model_cells.specs.Cells.{Cell, ancestry, both, own_message, put_off_in}
+use Rattle.ndc_model_cells.specs.Jobs.{cells_after, replies_to}
+use Rattle.ndc_model_cells.specs.Places.{in_order, is_of}
+use Rattle.ndc_model_cells.specs.Writing.{same_cluster}
 use Rattle.ndc_domain.specs.declared.clusters.ClusterNo.{ClusterNo}
 use Rattle.ndc_domain.specs.Merge.{merged}
 use Rattle.ndc_event.specs.declared.batch.Batch.{Batch}
-use Rattle.ndc_event.specs.declared.name.Name.{Name}
-use Rattle.ndc_act.specs.declared.script.Header.{Header}
+use Rattle.ndc_script_types.specs.declared.script.Header.{Header}
 use Rattle.ndc_queue.specs.Levels.{trim_level}
 use Rattle.ndc_model.specs.Queues.{Lane, after_pull, after_renewal, after_rewind, is_addressed}
 use Rattle.ndc_model.specs.World.{Link, World, all_clusters, cell_at, cluster_at, home_at, lane_at, lane_in, link_at, others_of, queue_at, shards_of, trimmed_at, with_cells, with_lane, with_link, with_table}
+use Rattle.ndc_model_cells.specs.Domains.{learned_of_domains}
 
 -- a list changed item by item, each by its place, counted from this one
 abbrev pub map_from : {X Y : Type 0} → (ℕ → X → Y) → ℕ → List X → List Y
@@ -170,11 +169,6 @@ sent_again header reader w shard = messages_among (all_written header shard w) (
 unfoldable pub resent : Header → ClusterNo → World → Trace
 resent header reader w =
     quietly (λ v. renewed v reader) (jobs_done header reader (all_arrive (sent_again header reader w) (shards_of header)) (from_world w))
-
--- the messages of what a cell has learned of these domains, in order of place
-abbrev pub learned_of_domains : List Name → Cell → List Message
-learned_of_domains domains cell =
-    filter_map (learned_message cell) (filter (λ b. is_learned_in cell b && list_any (λ domain. bytes_eq domain b.domain) domains) cell.arrived)
 
 -- a reader takes from a source what this has learned of the domains of which it is a member late; then none is late, and its levels are renewed
 unfoldable pub bootstrapped : Header → ClusterNo → Trace → ClusterNo → Trace

@@ -9,14 +9,14 @@ use Rattle.ndc_event.specs.Outcome.{◌>>=◌}
 use Rattle.ndc_event.specs.declared.batch.Batch.{Batch}
 use Rattle.ndc_event.specs.declared.batch.Event.{Event}
 use Rattle.ndc_event.specs.declared.name.Name.{Name}
-use Rattle.ndc_act.specs.declared.script.Header.{Header}
-use Rattle.ndc_sets.specs.Branches.{workflow_tip}
-use Rattle.ndc_sets.specs.Current.{state_to}
-use Rattle.ndc_sets.specs.Paths.{events_to}
+use Rattle.ndc_script_types.specs.declared.script.Header.{Header}
+use Rattle.ndc_model_sets.specs.Branches.{workflow_tip}
+use Rattle.ndc_model_sets.specs.Current.{state_to}
+use Rattle.ndc_model_sets.specs.Paths.{events_to}
 use Rattle.ndc_state.specs.Pendings.{pending_of}
 use Rattle.ndc_state.specs.Value.{StateValue}
 use Rattle.ndc_state.specs.declared.pendings.Pending.{Pending}
-use Rattle.ndc_cells.specs.Cells.{Cell, learned_of}
+use Rattle.ndc_model_cells.specs.Cells.{Cell, learned_of}
 use Rattle.ndc_progress.specs.declared.report.ActivityRef.{ActivityRef}
 use Rattle.ndc_progress.specs.declared.report.Report.{Report}
 use Rattle.ndc_progress.specs.Reports.{held, merge_count, next_beat, next_report, stale_by}
@@ -24,7 +24,7 @@ use Rattle.ndc_model.specs.Reading.{learned_at, read_answer, tip_answer}
 use Rattle.ndc_model.specs.Steps.{Stepped, answered, error_answer}
 use Rattle.ndc_model.specs.Texts.{ok, refused}
 use Rattle.ndc_model.specs.World.{World, cell_of, cluster_at, home_at, with_cluster}
-use Rattle.ndc_cells.specs.Writing.{Home, as_command_error, may_write}
+use Rattle.ndc_model_cells.specs.Writing.{Home, as_command_error, may_write}
 
 -- the reports of a cluster become others
 abbrev pub with_reports : ClusterNo → List Report → World → World

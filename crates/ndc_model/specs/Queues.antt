@@ -1,8 +1,8 @@
 -- Lanes: what readers have of queues.
 use Rattle.std.specs.Prelude.{ℕ, ◌+◌, Bool, false, not, ◌||◌, List, [], ◌++◌, length, drop, Option, Some, None}
 use Rattle.std.specs.List.{filter, prefix_len}
-use Rattle.ndc_cells.specs.declared.message.Message.{Message}
-use Rattle.ndc_cells.specs.Cells.{Cell, is_message_learned}
+use Rattle.ndc_model_cells.specs.declared.message.Message.{Message}
+use Rattle.ndc_model_cells.specs.Cells.{Cell, is_message_learned}
 use Rattle.ndc_domain.specs.Members.{has_member}
 use Rattle.ndc_domain.specs.Records.{record_of}
 use Rattle.ndc_domain.specs.declared.clusters.ClusterNo.{ClusterNo}

@@ -5,15 +5,15 @@ use Rattle.std.specs.Str.{bytes_eq}
 use Rattle.ndc_domain.specs.declared.clusters.ClusterNo.{ClusterNo}
 use Rattle.ndc_event.specs.declared.batch.Batch.{Batch}
 use Rattle.ndc_event.specs.declared.name.Name.{Name}
-use Rattle.ndc_act.specs.declared.script.Header.{Header}
-use Rattle.ndc_sets.specs.Branches.{workflow_tip}
-use Rattle.ndc_sets.specs.Current.{run_status, state_to}
-use Rattle.ndc_sets.specs.Paths.{events_to}
-use Rattle.ndc_sets.specs.View.{view_of}
+use Rattle.ndc_script_types.specs.declared.script.Header.{Header}
+use Rattle.ndc_model_sets.specs.Branches.{workflow_tip}
+use Rattle.ndc_model_sets.specs.Current.{run_status, state_to}
+use Rattle.ndc_model_sets.specs.Paths.{events_to}
+use Rattle.ndc_model_sets.specs.View.{view_of}
 use Rattle.ndc_state.specs.Text.{state_text}
 use Rattle.ndc_event.specs.Key.{run_text}
 use Rattle.ndc_text.specs.Views.{dump_text, key_text, run_lines, status_text}
-use Rattle.ndc_cells.specs.Cells.{learned_of}
+use Rattle.ndc_model_cells.specs.Cells.{learned_of}
 use Rattle.ndc_model.specs.Texts.{event_line, ok, refused}
 use Rattle.ndc_model.specs.World.{World, cell_of}
 

@@ -1,6 +1,6 @@
 -- The report of a script: the answers of its lines, and a line for each indexer that is asked for.
 use Rattle.std.specs.Prelude.{ℕ, List, ◌++◌}
-use Rattle.ndc_act.specs.declared.script.Script.{Script}
+use Rattle.ndc_script_types.specs.declared.script.Script.{Script}
 use Rattle.ndc_index.specs.Lines.{Asked, index_lines}
 use Rattle.ndc_model.specs.Lines.{answers_of, ran_of, seen_in}
 

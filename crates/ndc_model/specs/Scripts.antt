@@ -10,12 +10,12 @@ use Rattle.ndc_event.specs.Key.{run_of, run_text}
 use Rattle.ndc_event.specs.declared.batch.Batch.{Batch}
 use Rattle.ndc_event.specs.declared.key.BatchKey.{BatchKey}
 use Rattle.ndc_history.specs.declared.item.Item.{Item}
-use Rattle.ndc_act.specs.declared.script.Act.{Act}
-use Rattle.ndc_act.specs.declared.script.Act.TheVariants as act
-use Rattle.ndc_act.specs.declared.script.BurstJob.{BurstJob}
-use Rattle.ndc_act.specs.declared.script.Header.{Header}
-use Rattle.ndc_act.specs.declared.script.Line.{Line}
-use Rattle.ndc_sets.specs.Worked.{begun, item, key, signal as signal_kind, signaled}
+use Rattle.ndc_script_types.specs.declared.script.Act.{Act}
+use Rattle.ndc_script_types.specs.declared.script.Act.TheVariants as act
+use Rattle.ndc_script_types.specs.declared.script.BurstJob.{BurstJob}
+use Rattle.ndc_script_types.specs.declared.script.Header.{Header}
+use Rattle.ndc_script_types.specs.declared.script.Line.{Line}
+use Rattle.ndc_model_sets.specs.Worked.{begun, item, key, signal as signal_kind, signaled}
 use Rattle.ndc_state.specs.Pendings.{scheduled_by}
 use Rattle.ndc_state.specs.Text.{pending_text}
 use Rattle.ndc_text.specs.Text.{batch_text}

@@ -5,16 +5,16 @@ use Rattle.ndc_domain.specs.declared.clusters.ClusterNo.{ClusterNo}
 use Rattle.ndc_event.specs.declared.batch.Batch.{Batch}
 use Rattle.ndc_event.specs.declared.key.BatchKey.{BatchKey}
 use Rattle.ndc_history.specs.declared.item.Item.{Item}
-use Rattle.ndc_act.specs.declared.script.Header.{Header}
-use Rattle.ndc_sets.specs.Paths.{first_id, last_item_of, path_to}
+use Rattle.ndc_script_types.specs.declared.script.Header.{Header}
+use Rattle.ndc_model_sets.specs.Paths.{first_id, last_item_of, path_to}
 use Rattle.ndc_state.specs.Replay.{history_of}
 use Rattle.ndc_text.specs.Views.{item_text, key_text}
-use Rattle.ndc_cells.specs.declared.message.Message.{Message}
-use Rattle.ndc_cells.specs.Cells.{Cell, arrived_of, is_learned_in, missing_of, put_off_in}
-use Rattle.ndc_cells.specs.Places.{is_of}
+use Rattle.ndc_model_cells.specs.declared.message.Message.{Message}
+use Rattle.ndc_model_cells.specs.Cells.{Cell, arrived_of, is_learned_in, missing_of, put_off_in}
+use Rattle.ndc_model_cells.specs.Places.{is_of}
 use Rattle.ndc_model.specs.Moves.{Note, after_settlement, all_written, bootstrapped, from_world, map_from, pulled_all, pulled_shard, resent, trimmed_all, trimmed_level, worked}
 use Rattle.ndc_queue.specs.Lists.{after_loss, after_move, after_repeat}
-use Rattle.ndc_resend.specs.Gaps.{item_or_zero}
+use Rattle.ndc_history.specs.Common.{item_or_zero}
 use Rattle.ndc_model.specs.Queues.{Lane, put_in_flight}
 use Rattle.ndc_model.specs.Steps.{Stepped, answered, applied_by, arrived_by, known_by, learned_by, moved, put_off_by, total}
 use Rattle.ndc_model.specs.Texts.{ok, refused}

@@ -1,25 +1,25 @@
 -- What a line leaves, answers and makes learned; lines that write.
 use Rattle.std.specs.Prelude.{ℕ, List, [], ◌∷◌, map, length, sum, decimal, option_to_list}
 use Rattle.std.specs.List.{flat_map}
-use Rattle.ndc_cells.specs.declared.job.Arrived.{Arrived}
-use Rattle.ndc_cells.specs.declared.job.Arrived.TheVariants.{Known, Learned, PutOff}
-use Rattle.ndc_cells.specs.declared.job.Job.{Job}
-use Rattle.ndc_cells.specs.declared.job.Job.TheVariants as job
-use Rattle.ndc_cells.specs.declared.job.Outcome.{Outcome}
-use Rattle.ndc_cells.specs.declared.job.Outcome.TheVariants as outcome
-use Rattle.ndc_cells.specs.declared.job.ShardJob.{ShardJob}
-use Rattle.ndc_cells.specs.declared.job.Written.{Written}
-use Rattle.ndc_cells.specs.declared.message.Message.{Message}
-use Rattle.ndc_cells.specs.Cells.{both}
-use Rattle.ndc_cells.specs.Jobs.{outcome_of}
-use Rattle.ndc_cells.specs.Shards.{shard_of}
+use Rattle.ndc_model_cells.specs.declared.job.Arrived.{Arrived}
+use Rattle.ndc_model_cells.specs.declared.job.Arrived.TheVariants.{Known, Learned, PutOff}
+use Rattle.ndc_model_cells.specs.declared.job.Job.{Job}
+use Rattle.ndc_model_cells.specs.declared.job.Job.TheVariants as job
+use Rattle.ndc_model_cells.specs.declared.job.Outcome.{Outcome}
+use Rattle.ndc_model_cells.specs.declared.job.Outcome.TheVariants as outcome
+use Rattle.ndc_model_cells.specs.declared.job.ShardJob.{ShardJob}
+use Rattle.ndc_model_cells.specs.declared.job.Written.{Written}
+use Rattle.ndc_model_cells.specs.declared.message.Message.{Message}
+use Rattle.ndc_model_cells.specs.Cells.{both}
+use Rattle.ndc_model_cells.specs.Jobs.{outcome_of}
+use Rattle.ndc_model_cells.specs.Shards.{shard_of}
 use Rattle.ndc_command.specs.declared.command.Command.{Command}
 use Rattle.ndc_command.specs.declared.refusal.CommandError.{CommandError}
 use Rattle.ndc_command.specs.declared.refusal.CommandError.TheVariants.{Refused, Memory}
 use Rattle.ndc_domain.specs.declared.clusters.ClusterNo.{ClusterNo}
 use Rattle.ndc_event.specs.declared.batch.Batch.{Batch}
 use Rattle.ndc_event.specs.declared.name.Name.{Name}
-use Rattle.ndc_act.specs.declared.script.Header.{Header}
+use Rattle.ndc_script_types.specs.declared.script.Header.{Header}
 use Rattle.ndc_text.specs.Views.{key_text}
 use Rattle.ndc_index.specs.declared.seen.Seen.{Seen}
 use Rattle.ndc_model.specs.Moves.{Note, Trace, from_world, jobs_done}

@@ -12,7 +12,7 @@ use Rattle.ndc_domain.specs.declared.record.JoinError.{JoinError}
 use Rattle.ndc_domain.specs.declared.record.JoinError.TheVariants as join
 use Rattle.ndc_domain.specs.declared.record.RetainError.{RetainError}
 use Rattle.ndc_domain.specs.declared.record.RetainError.TheVariants as retain
-use Rattle.ndc_act.specs.declared.script.Header.{Header}
+use Rattle.ndc_script_types.specs.declared.script.Header.{Header}
 use Rattle.ndc_text.specs.Views.{with_commas}
 use Rattle.ndc_model.specs.Steps.{Stepped, answered}
 use Rattle.ndc_model.specs.Texts.{ok, refused}

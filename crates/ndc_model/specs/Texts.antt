@@ -5,7 +5,7 @@ use Rattle.ndc_command.specs.declared.refusal.Refusal.{Refusal}
 use Rattle.ndc_command.specs.declared.refusal.Refusal.TheVariants.{UnknownDomain, NotActive, Behind, NoWorkflow, AlreadyRunning, Closed, NoDecision, DecisionNotStarted, DecisionStarted, NoSuchActivity, ActivityNotStarted, ActivityStarted, DuplicateActivity, NoSuchTimer, DuplicateTimer, NoSuchChild, ChildNotStarted, ChildStarted, DuplicateChild, HistoryFull, NoSuchPoint}
 use Rattle.ndc_event.specs.Kind.{kind_name}
 use Rattle.ndc_event.specs.declared.batch.Event.{Event}
-use Rattle.ndc_sets.specs.Paths.{item_of}
+use Rattle.ndc_model_sets.specs.Paths.{item_of}
 use Rattle.ndc_text.specs.Views.{item_text}
 
 -- words behind a space each

@@ -1,9 +1,9 @@
 -- Small worked worlds: a workflow at cluster A, and at cluster B after a failover.
 use Rattle.std.specs.Prelude.{ℕ, [], ◌∷◌, codes, remove}
-use Rattle.ndc_cells.specs.Worked.{alpha, home}
+use Rattle.ndc_model_cells.specs.Worked.{alpha, home}
 use Rattle.ndc_command.specs.declared.command.Command.TheVariants.{Start, Signal}
 use Rattle.ndc_domain.specs.Clusters.{cluster_no}
-use Rattle.ndc_act.specs.declared.script.Header.{Header}
+use Rattle.ndc_script_types.specs.declared.script.Header.{Header}
 use Rattle.ndc_model.specs.Moves.{pulled_all, worked}
 use Rattle.ndc_model.specs.Steps.{command_step}
 use Rattle.ndc_model.specs.World.{World, flight_at, opening_world, with_flight, with_table}

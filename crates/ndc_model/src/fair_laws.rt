@@ -1,5 +1,5 @@
 // Fair worlds, as laws.
-ghost use Rattle.ndc_act.specs.declared.script.Header.{Header as Head};
+ghost use Rattle.ndc_script_types.specs.declared.script.Header.{Header as Head};
 ghost use Rattle.ndc_model.specs.Facts.{IsReached};
 ghost use Rattle.ndc_model.specs.World.{opening_world};
 

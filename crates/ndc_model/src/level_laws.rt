@@ -2,8 +2,8 @@
 ghost use Rattle.std.specs.Prelude.{ℕ, List, Option};
 ghost use Rattle.ndc_domain.specs.declared.clusters.ClusterNo.{ClusterNo as Number};
 ghost use Rattle.ndc_domain.specs.declared.record.DomainRecord.{DomainRecord as Record};
-ghost use Rattle.ndc_cells.specs.declared.message.Message.{Message};
-ghost use Rattle.ndc_cells.specs.Cells.{Cell};
+ghost use Rattle.ndc_model_cells.specs.declared.message.Message.{Message};
+ghost use Rattle.ndc_model_cells.specs.Cells.{Cell};
 ghost use Rattle.ndc_model.specs.Queues.{Lane, after_pull, after_renewal, after_rewind};
 ghost use Rattle.ndc_queue.specs.Levels.{AreLevels};
 

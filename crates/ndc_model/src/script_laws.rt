@@ -2,10 +2,10 @@
 ghost use Rattle.std.specs.Prelude.{◌≡◌, ◌++◌, [], ◌∷◌, true, false, codes, List};
 ghost use Rattle.ndc_event.specs.declared.name.Name.{Name as Text};
 ghost use Rattle.ndc_domain.specs.declared.clusters.ClusterNo.{ClusterNo as Number};
-ghost use Rattle.ndc_act.specs.declared.script.Act.{Act as Asked};
-ghost use Rattle.ndc_act.specs.declared.script.Act.TheVariants as act;
-ghost use Rattle.ndc_act.specs.declared.script.Header.{Header as Head};
-ghost use Rattle.ndc_act.specs.declared.script.Line.{Line as ScriptLine};
+ghost use Rattle.ndc_script_types.specs.declared.script.Act.{Act as Asked};
+ghost use Rattle.ndc_script_types.specs.declared.script.Act.TheVariants as act;
+ghost use Rattle.ndc_script_types.specs.declared.script.Header.{Header as Head};
+ghost use Rattle.ndc_script_types.specs.declared.script.Line.{Line as ScriptLine};
 ghost use Rattle.ndc_model.specs.Handovers.{without_handover};
 ghost use Rattle.ndc_model.specs.Laws.{ChangesNothing, is_overtaken, is_reading, is_refusal, script_of};
 ghost use Rattle.ndc_model.specs.Lines.{act_step, answers_of, plain_lines, ran_from, ran_of, seen_in, world_behind};

@@ -1,6 +1,6 @@
 -- A queue of which the first entries were dropped.
 use Rattle.std.specs.Prelude.{ℕ, ◌+◌, List, [], ◌∷◌, ◌++◌, length}
-use Rattle.ndc_cells.specs.declared.message.Message.{Message}
+use Rattle.ndc_model_cells.specs.declared.message.Message.{Message}
 use Rattle.ndc_queue.specs.Lists.{first_from, kept_from}
 
 -- a queue: how many of its first entries were dropped, and the entries that are kept

@@ -1,6 +1,6 @@
 ghost use Rattle.std.specs.Prelude.{◌≡◌};
 
-use ndc_cells::Message;
+use ndc_model_cells::Message;
 use std::alloc::{AllocError, AllocFailed, Global};
 use std::marker::Model;
 use std::mem;
@@ -50,7 +50,7 @@ pub struct Flight {
 
 impl Model for Flight {
     ghost use Rattle.std.specs.Prelude.{List};
-    ghost use Rattle.ndc_cells.specs.declared.message.Message.{Message};
+    ghost use Rattle.ndc_model_cells.specs.declared.message.Message.{Message};
 
     ghost Value = { List Message };
 

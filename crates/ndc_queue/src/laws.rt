@@ -1,5 +1,5 @@
 ghost use Rattle.std.specs.Prelude.{◌≡◌, ◌≤◌, ℕ, List, Some, drop, take};
-ghost use Rattle.ndc_cells.specs.declared.message.Message.{Message};
+ghost use Rattle.ndc_model_cells.specs.declared.message.Message.{Message};
 ghost use Rattle.ndc_queue.specs.Lists.{entries_from, first_from, kept_from};
 
 /// What is kept of a queue is the queue from the number of dropped entries on, also when it is trimmed.

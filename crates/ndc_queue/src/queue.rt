@@ -1,6 +1,6 @@
 ghost use Rattle.std.specs.Prelude.{◌≡◌, ◌≤◌, drop, length, take, IfOk};
 
-use ndc_cells::Message;
+use ndc_model_cells::Message;
 use std::alloc::{AllocError, Global};
 use std::marker::Model;
 

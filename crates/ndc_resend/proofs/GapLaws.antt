@@ -2,15 +2,16 @@
 use Rattle.std.proofs.Common.{◌≡◌, List, ◌++◌, None, ap}
 use Rattle.ndc_event.specs.declared.batch.Batch.{Batch}
 use Rattle.ndc_history.specs.declared.item.Item.{Item}
-use Rattle.ndc_resend.specs.Gaps.{gap_of, item_or_zero}
+use Rattle.ndc_resend.specs.Gaps.{gap_of}
+use Rattle.ndc_history.specs.Common.{item_or_zero}
 use Rattle.ndc_resend.specs.declared.gap.Gap.{Gap}
-use Rattle.ndc_sets.specs.Branches.{histories}
-use Rattle.ndc_sets.specs.Learned.{IsClosed, IsPart}
-use Rattle.ndc_sets.specs.Paths.{events_to, last_item_of, path_to, versions_of}
-use Rattle.ndc_sets.specs.Sets.{Has, IsSet, batch_at}
-use Rattle.ndc_sets.specs.Sound.{IsSound}
+use Rattle.ndc_model_sets.specs.Branches.{histories}
+use Rattle.ndc_model_sets.specs.Learned.{IsClosed, IsPart}
+use Rattle.ndc_model_sets.specs.Paths.{events_to, last_item_of, path_to, versions_of}
+use Rattle.ndc_model_sets.specs.Sets.{Has, IsSet, batch_at}
+use Rattle.ndc_model_sets.specs.Sound.{IsSound}
 use Rattle.ndc_state.specs.Replay.{history_of}
-use Rattle.ndc_sets.proofs.GapLaws.{gap_names_the_last_learned}
+use Rattle.ndc_model_sets.proofs.GapLaws.{gap_names_the_last_learned}
 
 -- the gap between two ends
 abbrev between : Item → Item → Gap

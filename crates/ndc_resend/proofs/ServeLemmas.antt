@@ -6,15 +6,16 @@ use Rattle.std.proofs.lemmas.List.Elements.{filter-append}
 use Rattle.ndc_event.specs.Batch.{follow_from}
 use Rattle.ndc_event.specs.declared.batch.Batch.{Batch}
 use Rattle.ndc_event.specs.declared.batch.Event.{Event}
-use Rattle.ndc_resend.specs.Gaps.{is_between, item_or_zero, served}
+use Rattle.ndc_resend.specs.Gaps.{is_between, served}
+use Rattle.ndc_history.specs.Common.{item_or_zero}
 use Rattle.ndc_resend.specs.declared.gap.Gap.{Gap}
-use Rattle.ndc_sets.specs.Paths.{IsPath, first, below, first_id, last_from, last_id, last_item_of, path_to}
-use Rattle.ndc_sets.specs.Sets.{Has}
-use Rattle.ndc_sets.specs.Sound.{IsSound}
+use Rattle.ndc_model_sets.specs.Paths.{IsPath, first, below, first_id, last_from, last_id, last_item_of, path_to}
+use Rattle.ndc_model_sets.specs.Sets.{Has}
+use Rattle.ndc_model_sets.specs.Sound.{IsSound}
 use Rattle.ndc_state.specs.Replay.{history_of}
-use Rattle.ndc_sets.proofs.FaultLemmas.{passes}
-use Rattle.ndc_sets.proofs.PathIds.{ends, ends-last, follow-front, follow-rest, history-append, path-events}
-use Rattle.ndc_sets.proofs.PathLemmas.{path_is}
+use Rattle.ndc_model_sets.proofs.FaultLemmas.{passes}
+use Rattle.ndc_model_sets.proofs.PathIds.{ends, ends-last, follow-front, follow-rest, history-append, path-events}
+use Rattle.ndc_model_sets.proofs.PathLemmas.{path_is}
 
 -- the last of events, by its place
 last-place : (e : Event) (es : List Event) → slice_get (e ∷ es) (length es) ≡ Some (last_from e es)

@@ -1,16 +1,11 @@
 -- Gaps: between the best item that local histories have in common with a remote one, and the first event of a batch.
-use Rattle.std.specs.Prelude.{Bool, ◌&&◌, nat_lt, List, Option, Some, None}
+use Rattle.std.specs.Prelude.{Bool, ◌&&◌, nat_lt, List}
 use Rattle.std.specs.List.{filter}
 use Rattle.ndc_event.specs.declared.batch.Batch.{Batch}
-use Rattle.ndc_history.specs.Common.{best_from}
+use Rattle.ndc_history.specs.Common.{best_from, item_or_zero}
 use Rattle.ndc_history.specs.declared.item.Item.{Item}
 use Rattle.ndc_resend.specs.declared.gap.Gap.{Gap}
-use Rattle.ndc_sets.specs.Paths.{best_item, first_id, last_id}
-
--- an item, or the one before all
-abbrev pub item_or_zero : Option Item → Item
-item_or_zero None = record { id = 0; version = 0 }
-item_or_zero (Some item) = item
+use Rattle.ndc_model_sets.specs.Paths.{best_item, first_id, last_id}
 
 -- the gap before an event: behind the best item that the local histories have in common with the remote one
 abbrev pub gap_of : List (List Item) → List Item → Item → Gap

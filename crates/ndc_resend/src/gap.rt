@@ -1,6 +1,6 @@
 ghost use Rattle.std.specs.Prelude.{◌≡◌, IfOk};
 ghost use Rattle.ndc_resend.specs.Gaps.{is_between, served};
-ghost use Rattle.ndc_sets.specs.Paths.{first_id, last_id};
+ghost use Rattle.ndc_model_sets.specs.Paths.{first_id, last_id};
 
 use ndc_event::{Batch, Event};
 use ndc_history::{Item, VersionHistory, best_common};

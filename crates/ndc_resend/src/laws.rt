@@ -1,12 +1,13 @@
 ghost use Rattle.std.specs.Prelude.{◌≡◌, List, [], ◌∷◌, ◌++◌, None};
 ghost use Rattle.ndc_event.specs.declared.batch.Batch.{Batch};
 ghost use Rattle.ndc_history.specs.declared.item.Item.{Item};
-ghost use Rattle.ndc_resend.specs.Gaps.{gap_of, item_or_zero, served};
-ghost use Rattle.ndc_sets.specs.Branches.{histories};
-ghost use Rattle.ndc_sets.specs.Learned.{IsClosed, IsPart};
-ghost use Rattle.ndc_sets.specs.Paths.{events_to, first_id, last_item_of, path_to, versions_of};
-ghost use Rattle.ndc_sets.specs.Sets.{Has, IsSet, batch_at};
-ghost use Rattle.ndc_sets.specs.Sound.{IsSound};
+ghost use Rattle.ndc_resend.specs.Gaps.{gap_of, served};
+ghost use Rattle.ndc_history.specs.Common.{item_or_zero};
+ghost use Rattle.ndc_model_sets.specs.Branches.{histories};
+ghost use Rattle.ndc_model_sets.specs.Learned.{IsClosed, IsPart};
+ghost use Rattle.ndc_model_sets.specs.Paths.{events_to, first_id, last_item_of, path_to, versions_of};
+ghost use Rattle.ndc_model_sets.specs.Sets.{Has, IsSet, batch_at};
+ghost use Rattle.ndc_model_sets.specs.Sound.{IsSound};
 ghost use Rattle.ndc_state.specs.Replay.{history_of};
 
 /// Of a batch of a sound set whose path begins with learned batches and goes on with others, the gap begins behind the

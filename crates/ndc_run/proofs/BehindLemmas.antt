@@ -9,11 +9,11 @@ use Rattle.ndc_event.specs.declared.key.RunId.{RunId}
 use Rattle.ndc_rebuild.specs.Kept.{Kept, bare, kept_at, reaches, behind_kept, or_earlier, last_kept, batches_behind, events_behind}
 use Rattle.ndc_state.specs.Replay.{history_of}
 use Rattle.ndc_state.specs.Value.{StateValue}
-use Rattle.ndc_sets.specs.Current.{state_to}
-use Rattle.ndc_sets.specs.Paths.{IsPath, first, below, path_to, events_to}
-use Rattle.ndc_sets.specs.Sets.{Has}
-use Rattle.ndc_sets.proofs.PathIds.{history-push}
-use Rattle.ndc_sets.proofs.PathLemmas.{one-path}
+use Rattle.ndc_model_sets.specs.Current.{state_to}
+use Rattle.ndc_model_sets.specs.Paths.{IsPath, first, below, path_to, events_to}
+use Rattle.ndc_model_sets.specs.Sets.{Has}
+use Rattle.ndc_model_sets.proofs.PathIds.{history-push}
+use Rattle.ndc_model_sets.proofs.PathLemmas.{one-path}
 use Rattle.ndc_tree.proofs.PathLemmas.{path_is}
 use Rattle.ndc_run.specs.Run.{IsRun, IsKept}
 

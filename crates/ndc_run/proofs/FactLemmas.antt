@@ -9,13 +9,13 @@ use Rattle.ndc_state.specs.Laws.{IsOpenFit}
 use Rattle.ndc_state.specs.Replay.{replay_of}
 use Rattle.ndc_state.specs.Value.{new_state}
 use Rattle.ndc_state.proofs.LawProofs.{open_fit}
-use Rattle.ndc_sets.proofs.ViewLaws.{replay-signals}
-use Rattle.ndc_sets.specs.Branches.{current_tip}
-use Rattle.ndc_sets.specs.Current.{current_state, state_at, state_to, origins_at}
-use Rattle.ndc_sets.specs.Paths.{last_id, events_to, path_to}
-use Rattle.ndc_sets.specs.Sets.{Has}
-use Rattle.ndc_sets.specs.Sound.{PathsReplay, VersionsAreChains}
-use Rattle.ndc_sets.proofs.PathIds.{ends, AreEventsTo, path-events}
+use Rattle.ndc_model_sets.proofs.ViewLaws.{replay-signals}
+use Rattle.ndc_model_sets.specs.Branches.{current_tip}
+use Rattle.ndc_model_sets.specs.Current.{current_state, state_at, state_to, origins_at}
+use Rattle.ndc_model_sets.specs.Paths.{last_id, events_to, path_to}
+use Rattle.ndc_model_sets.specs.Sets.{Has}
+use Rattle.ndc_model_sets.specs.Sound.{PathsReplay, VersionsAreChains}
+use Rattle.ndc_model_sets.proofs.PathIds.{ends, AreEventsTo, path-events}
 use Rattle.ndc_tree.proofs.PathLemmas.{path_is, versions_are_chains}
 use Rattle.ndc_run.specs.Run.{IsRun}
 use Rattle.ndc_run.proofs.LearnLemmas.{tip-has}

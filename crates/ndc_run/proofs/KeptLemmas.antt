@@ -8,13 +8,13 @@ use Rattle.ndc_event.specs.declared.key.RunId.{RunId}
 use Rattle.ndc_rebuild.specs.Kept.{Kept, bare, kept_at, reaches, with_kept, without_kept, FitsPath}
 use Rattle.ndc_state.specs.Replay.{history_of, replay, replay_of}
 use Rattle.ndc_state.specs.Value.{StateValue}
-use Rattle.ndc_sets.specs.Current.{state_to}
-use Rattle.ndc_sets.specs.Paths.{IsPath, first, below, path_to, events_to}
-use Rattle.ndc_sets.specs.Sets.{batch_at, Has, arrived}
-use Rattle.ndc_sets.proofs.ArrivalLemmas.{was_or_new}
-use Rattle.ndc_sets.proofs.KeyLemmas.{key_eq-self, same-keys}
-use Rattle.ndc_sets.proofs.PathLemmas.{one-path, path-has}
-use Rattle.ndc_sets.proofs.SetLemmas.{found-key, found-has, has-found}
+use Rattle.ndc_model_sets.specs.Current.{state_to}
+use Rattle.ndc_model_sets.specs.Paths.{IsPath, first, below, path_to, events_to}
+use Rattle.ndc_model_sets.specs.Sets.{batch_at, Has, arrived}
+use Rattle.ndc_model_sets.proofs.ArrivalLemmas.{was_or_new}
+use Rattle.ndc_model_sets.proofs.KeyLemmas.{key_eq-self, same-keys}
+use Rattle.ndc_model_sets.proofs.PathLemmas.{one-path, path-has}
+use Rattle.ndc_model_sets.proofs.SetLemmas.{found-key, found-has, has-found}
 use Rattle.ndc_tree.specs.Tree.{Joins}
 use Rattle.ndc_tree.proofs.PathLemmas.{path_is}
 use Rattle.ndc_run.specs.Run.{IsRun, IsKept, to_keep, state_before}

@@ -15,19 +15,20 @@ use Rattle.ndc_state.specs.declared.rule.StateError.TheVariants as state
 use Rattle.ndc_state.specs.Counted.{counted}
 use Rattle.ndc_state.specs.Replay.{replay, replay_of, CountsWithin}
 use Rattle.ndc_state.specs.Value.{StateValue}
-use Rattle.ndc_sets.specs.Branches.{current_tip}
-use Rattle.ndc_sets.specs.Current.{state_to, state_at, current_state}
-use Rattle.ndc_sets.specs.Paths.{is_wanted, path_to, events_to}
-use Rattle.ndc_sets.proofs.ForkLemmas.{path-run}
-use Rattle.ndc_sets.proofs.KeyLemmas.{same-keys}
-use Rattle.ndc_sets.proofs.Lists.{Among}
-use Rattle.ndc_sets.specs.Sets.{batch_at, Has, arrived}
-use Rattle.ndc_sets.proofs.SetLemmas.{found-key, found-has, has-found}
+use Rattle.ndc_model_sets.specs.Branches.{current_tip}
+use Rattle.ndc_model_sets.specs.Current.{state_to, state_at, current_state}
+use Rattle.ndc_model_sets.specs.Paths.{is_wanted, path_to, events_to}
+use Rattle.ndc_model_sets.proofs.ForkLemmas.{path-run}
+use Rattle.ndc_model_sets.proofs.KeyLemmas.{same-keys}
+use Rattle.ndc_model_sets.proofs.Lists.{Among}
+use Rattle.ndc_model_sets.specs.Sets.{batch_at, Has, arrived}
+use Rattle.ndc_model_sets.proofs.SetLemmas.{found-key, found-has, has-found}
 use Rattle.ndc_tree.specs.declared.answer.Inserted.{Inserted}
 use Rattle.ndc_tree.specs.declared.answer.Inserted.TheVariants.{Known, Extended, Forked}
 use Rattle.ndc_tree.specs.declared.answer.TreeError.{TreeError}
-use Rattle.ndc_tree.specs.Reading.{current_key}
-use Rattle.ndc_tree.specs.Tips.{is_key_among, tip_keys}
+use Rattle.ndc_model_sets.specs.Reading.{current_key}
+use Rattle.ndc_model_sets.specs.Keys.{is_key_among, is_key}
+use Rattle.ndc_tree.specs.Tips.{tip_keys}
 use Rattle.ndc_tree.specs.Tree.{TreeValue, IsTree, Joins}
 use Rattle.ndc_tree.proofs.PathLemmas.{path_is}
 use Rattle.ndc_tree.proofs.TipLemmas.{fresh-no-tip}
@@ -38,7 +39,7 @@ use Rattle.ndc_run.specs.declared.answer.RunError.TheVariants.{MissingParent, No
 use Rattle.ndc_run.specs.declared.run.Branch.{Branch}
 use Rattle.ndc_run.specs.declared.run.Run.TheInside.{Inside}
 use Rattle.ndc_run.specs.Leading.{leading_of, beside_of}
-use Rattle.ndc_run.specs.Learning.{of_state_error, or_error, state_with, passes_by, joined, is_known, is_key, leads_over, current_path, BeginsWith}
+use Rattle.ndc_run.specs.Learning.{of_state_error, or_error, state_with, passes_by, joined, is_known, leads_over, current_path, BeginsWith}
 use Rattle.ndc_run.specs.Run.{IsRun, IsKept, state_before}
 use Rattle.ndc_run.specs.RunFields.{IsBeside, IsRunInside}
 use Rattle.ndc_run.proofs.BehindLemmas.{few-behind}

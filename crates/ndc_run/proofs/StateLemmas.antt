@@ -12,14 +12,14 @@ use Rattle.ndc_state.specs.Replay.{history_of, replay, replay_of}
 use Rattle.ndc_state.specs.Value.{StateValue, new_state}
 use Rattle.ndc_state.proofs.LawProofs.{counts_from_one}
 use Rattle.ndc_state.proofs.ReplayLemmas.{replay-append}
-use Rattle.ndc_sets.specs.Current.{replayed_or_new, state_to}
-use Rattle.ndc_sets.specs.Learned.{IsPart, has_key}
-use Rattle.ndc_sets.specs.Paths.{path_to, events_to}
-use Rattle.ndc_sets.specs.Sets.{batch_at, Has, arrived}
-use Rattle.ndc_sets.proofs.ArrivalLemmas.{is_there, stays, was_or_new}
-use Rattle.ndc_sets.proofs.PathIds.{history-push}
-use Rattle.ndc_sets.proofs.PathLemmas.{path-below, path-first}
-use Rattle.ndc_sets.proofs.SetLemmas.{found-key, found-has}
+use Rattle.ndc_model_sets.specs.Current.{replayed_or_new, state_to}
+use Rattle.ndc_model_sets.specs.Learned.{IsPart, has_key}
+use Rattle.ndc_model_sets.specs.Paths.{path_to, events_to}
+use Rattle.ndc_model_sets.specs.Sets.{batch_at, Has, arrived}
+use Rattle.ndc_model_sets.proofs.ArrivalLemmas.{is_there, stays, was_or_new}
+use Rattle.ndc_model_sets.proofs.PathIds.{history-push}
+use Rattle.ndc_model_sets.proofs.PathLemmas.{path-below, path-first}
+use Rattle.ndc_model_sets.proofs.SetLemmas.{found-key, found-has}
 use Rattle.ndc_tree.specs.Tree.{IsTree, Joins}
 use Rattle.ndc_tree.proofs.GrowLemmas.{grown_is_tree}
 use Rattle.ndc_tree.proofs.PathLemmas.{paths_stay}

@@ -6,21 +6,21 @@ use Rattle.ndc_event.specs.Key.{key_lt, key_eq}
 use Rattle.ndc_event.specs.declared.batch.Batch.{Batch}
 use Rattle.ndc_event.specs.declared.key.BatchKey.{BatchKey}
 use Rattle.ndc_event.specs.declared.key.RunId.{RunId}
-use Rattle.ndc_sets.specs.Branches.{has_child, current_tip, later}
-use Rattle.ndc_sets.specs.Learned.{IsPart}
-use Rattle.ndc_sets.specs.Paths.{is_wanted, path_to}
-use Rattle.ndc_sets.specs.Sets.{batch_at, Has, arrived}
-use Rattle.ndc_sets.proofs.ArrivalLemmas.{is_there, stays, was_or_new}
-use Rattle.ndc_sets.proofs.BranchLemmas.{has-among, among-has, greatest-of}
-use Rattle.ndc_sets.proofs.CurrentLemmas.{key-wanted, wanted-key, path-child}
-use Rattle.ndc_sets.proofs.ForkLemmas.{among-left}
-use Rattle.ndc_sets.proofs.KeyLemmas.{before-irrefl, before-total, before-trans, same-keys}
-use Rattle.ndc_sets.proofs.PathLemmas.{path-below, parent-back}
-use Rattle.ndc_sets.proofs.Lists.{Among}
-use Rattle.ndc_sets.proofs.SetLemmas.{has-found}
-use Rattle.ndc_sets.proofs.SoundLemmas.{faultless-back}
-use Rattle.ndc_tree.specs.Last.{last_batch}
-use Rattle.ndc_tree.specs.Reading.{path_of, current_key}
+use Rattle.ndc_model_sets.specs.Branches.{has_child, current_tip, later}
+use Rattle.ndc_model_sets.specs.Learned.{IsPart}
+use Rattle.ndc_model_sets.specs.Paths.{is_wanted, path_to}
+use Rattle.ndc_model_sets.specs.Sets.{batch_at, Has, arrived}
+use Rattle.ndc_model_sets.proofs.ArrivalLemmas.{is_there, stays, was_or_new}
+use Rattle.ndc_model_sets.proofs.BranchLemmas.{has-among, among-has, greatest-of}
+use Rattle.ndc_model_sets.proofs.CurrentLemmas.{key-wanted, wanted-key, path-child}
+use Rattle.ndc_model_sets.proofs.ForkLemmas.{among-left}
+use Rattle.ndc_model_sets.proofs.KeyLemmas.{before-irrefl, before-total, before-trans, same-keys}
+use Rattle.ndc_model_sets.proofs.PathLemmas.{path-below, parent-back}
+use Rattle.ndc_model_sets.proofs.Lists.{Among}
+use Rattle.ndc_model_sets.proofs.SetLemmas.{has-found}
+use Rattle.ndc_model_sets.proofs.SoundLemmas.{faultless-back}
+use Rattle.ndc_model_sets.specs.Last.{last_batch}
+use Rattle.ndc_model_sets.specs.Reading.{path_of, current_key}
 use Rattle.ndc_tree.specs.Tree.{IsTree, Joins}
 use Rattle.ndc_tree.proofs.GrowLemmas.{grown_is_tree}
 use Rattle.ndc_tree.proofs.LastLemmas.{none-last, last-has, up-to-last, last-childless, current_is_last, current_is_greatest}

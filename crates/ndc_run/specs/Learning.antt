@@ -1,29 +1,30 @@
 -- What becomes of a batch that is handed to a run.
 use Rattle.std.specs.Prelude.{◌≡◌, Bool, true, false, not, ◌&&◌, List, ◌++◌, Option, Some, None, Result, Ok, Err, if◌then◌else◌}
-use Rattle.ndc_event.specs.Key.{key_lt, key_eq}
+use Rattle.ndc_event.specs.Key.{key_lt}
 use Rattle.ndc_event.specs.Outcome.{◌>>=◌}
 use Rattle.ndc_event.specs.declared.batch.Batch.{Batch}
 use Rattle.ndc_event.specs.declared.key.BatchKey.{BatchKey}
 use Rattle.ndc_event.specs.declared.key.RunId.{RunId}
 use Rattle.ndc_state.specs.declared.rule.StateError.{StateError}
-use Rattle.ndc_state.specs.declared.rule.StateError.TheVariants as state
 use Rattle.ndc_state.specs.Replay.{replay_of}
 use Rattle.ndc_state.specs.Value.{StateValue}
-use Rattle.ndc_sets.specs.Branches.{current_tip}
-use Rattle.ndc_sets.specs.Current.{state_to}
-use Rattle.ndc_sets.specs.Paths.{is_wanted, events_to}
-use Rattle.ndc_sets.specs.Sets.{arrived}
+use Rattle.ndc_model_sets.specs.Branches.{current_tip}
+use Rattle.ndc_model_sets.specs.Current.{state_to}
+use Rattle.ndc_model_sets.specs.Paths.{is_wanted, events_to}
+use Rattle.ndc_model_sets.specs.Sets.{arrived}
 use Rattle.ndc_tree.specs.declared.answer.Inserted.{Inserted}
 use Rattle.ndc_tree.specs.declared.answer.Inserted.TheVariants.{Known}
 use Rattle.ndc_tree.specs.declared.answer.TreeError.{TreeError}
-use Rattle.ndc_tree.specs.declared.answer.TreeError.TheVariants as tree
 use Rattle.ndc_tree.specs.Inserting.{inserted}
-use Rattle.ndc_tree.specs.Reading.{path_of}
-use Rattle.ndc_tree.specs.Tips.{tip_keys, is_key_among}
+use Rattle.ndc_model_sets.specs.Reading.{path_of}
+use Rattle.ndc_tree.specs.Tips.{tip_keys}
+use Rattle.ndc_model_sets.specs.Keys.{is_key_among}
 use Rattle.ndc_run.specs.declared.answer.Learned.{Learned}
 use Rattle.ndc_run.specs.declared.answer.Learned.TheVariants.{New}
 use Rattle.ndc_run.specs.declared.answer.RunError.{RunError}
 use Rattle.ndc_run.specs.declared.answer.RunError.TheVariants.{MissingParent, NotWellFormed, Invalid, Memory}
+use Rattle.ndc_state.specs.declared.rule.StateError.TheVariants as state
+use Rattle.ndc_tree.specs.declared.answer.TreeError.TheVariants as tree
 
 -- an error of a state, as one of a run
 abbrev pub of_state_error : StateError → RunError
@@ -62,11 +63,6 @@ learned run batches b = or_error of_tree_error (inserted run batches b) >>= (λ 
 abbrev pub is_known : Inserted → Bool
 is_known Known = true
 is_known _ = false
-
--- whether the key is this one, where there is one
-abbrev pub is_key : BatchKey → Option BatchKey → Bool
-is_key key None = false
-is_key key (Some other) = key_eq key other
 
 -- whether the key comes behind this one, where there is one
 abbrev pub leads_over : BatchKey → Option BatchKey → Bool

@@ -6,9 +6,9 @@ use Rattle.ndc_event.specs.declared.key.RunId.{RunId}
 use Rattle.ndc_rebuild.specs.Kept.{Kept, bare, kept_at, reaches}
 use Rattle.ndc_state.specs.Replay.{replay_of}
 use Rattle.ndc_state.specs.Value.{StateValue, new_state}
-use Rattle.ndc_sets.specs.Current.{state_to}
-use Rattle.ndc_sets.specs.Paths.{events_to}
-use Rattle.ndc_sets.specs.Sets.{batch_at, Has}
+use Rattle.ndc_model_sets.specs.Current.{state_to}
+use Rattle.ndc_model_sets.specs.Paths.{events_to}
+use Rattle.ndc_model_sets.specs.Sets.{batch_at, Has}
 use Rattle.ndc_tree.specs.Tree.{IsTree}
 
 -- every path of a run replays

@@ -3,8 +3,8 @@ use Rattle.std.specs.Prelude.{◌≡◌, true, Option, Some, None, is_some}
 use Rattle.ndc_event.specs.declared.batch.Batch.{Batch}
 use Rattle.ndc_event.specs.declared.key.RunId.{RunId}
 use Rattle.std.specs.Prelude.{List}
-use Rattle.ndc_sets.specs.Current.{current_state, state_to}
-use Rattle.ndc_sets.specs.Sets.{batch_at}
+use Rattle.ndc_model_sets.specs.Current.{current_state, state_to}
+use Rattle.ndc_model_sets.specs.Sets.{batch_at}
 use Rattle.ndc_tree.specs.Tree.{TreeValue}
 use Rattle.ndc_run.specs.declared.run.Branch.{Branch}
 use Rattle.ndc_run.specs.declared.run.Run.TheInside.{Inside}

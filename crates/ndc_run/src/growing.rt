@@ -3,7 +3,7 @@ ghost use Rattle.ndc_event.specs.Outcome.{Gives};
 ghost use Rattle.ndc_rebuild.specs.Kept.{kept_at, with_kept};
 ghost use Rattle.ndc_run.specs.Learning.{of_state_error, or_error};
 ghost use Rattle.ndc_run.specs.declared.answer.RunError.TheVariants.{Memory};
-ghost use Rattle.ndc_sets.specs.Sets.{arrived};
+ghost use Rattle.ndc_model_sets.specs.Sets.{arrived};
 ghost use Rattle.ndc_state.specs.Counted.{counted};
 ghost use Rattle.ndc_state.specs.Replay.{replay, CountsWithin};
 ghost use Rattle.ndc_tree.specs.Tree.{Joins};

@@ -3,10 +3,10 @@ ghost use Rattle.std.specs.Prelude.{◌≡◌, ◌+◌, List, Some};
 ghost use Rattle.ndc_event.specs.declared.batch.Batch.{Batch};
 ghost use Rattle.ndc_event.specs.declared.key.RunId.{RunId as RunKey};
 ghost use Rattle.ndc_run.specs.Run.{IsRun};
-ghost use Rattle.ndc_sets.specs.Branches.{current_tip};
-ghost use Rattle.ndc_sets.specs.Current.{current_state, origins_at};
-ghost use Rattle.ndc_sets.specs.Paths.{last_id};
-ghost use Rattle.ndc_sets.specs.Sound.{PathsReplay, VersionsAreChains};
+ghost use Rattle.ndc_model_sets.specs.Branches.{current_tip};
+ghost use Rattle.ndc_model_sets.specs.Current.{current_state, origins_at};
+ghost use Rattle.ndc_model_sets.specs.Paths.{last_id};
+ghost use Rattle.ndc_model_sets.specs.Sound.{PathsReplay, VersionsAreChains};
 ghost use Rattle.ndc_state.specs.Laws.{IsOpenFit};
 
 /// In a run the batches of one version form a chain, and every path replays.

@@ -1,5 +1,6 @@
 ghost use Rattle.std.specs.Prelude.{◌≡◌};
-ghost use Rattle.ndc_run.specs.Learning.{is_known, is_key, leads_over};
+ghost use Rattle.ndc_run.specs.Learning.{is_known, leads_over};
+ghost use Rattle.ndc_model_sets.specs.Keys.{is_key};
 ghost use Rattle.ndc_run.specs.Leading.{leading_of, beside_of};
 
 use crate::answer::{Learned, RunError};
@@ -57,17 +58,18 @@ impl Run {
     ghost use Rattle.ndc_event.specs.Batch.{fault_of};
     ghost use Rattle.ndc_event.specs.Outcome.{Gives};
     ghost use Rattle.ndc_event.specs.declared.key.BatchKey.{BatchKey as Key};
-    ghost use Rattle.ndc_run.specs.Learning.{learned, joined, is_key, current_path, BeginsWith, tip_state};
+    ghost use Rattle.ndc_run.specs.Learning.{learned, joined, current_path, BeginsWith, tip_state};
+    ghost use Rattle.ndc_model_sets.specs.Keys.{is_key};
     ghost use Rattle.ndc_run.specs.Run.{IsRun};
     ghost use Rattle.ndc_run.specs.declared.answer.Learned.TheVariants.{New, Known};
     ghost use Rattle.ndc_run.specs.declared.answer.RunError.TheVariants.{MissingParent, NotWellFormed, Memory};
-    ghost use Rattle.ndc_sets.specs.Branches.{current_tip};
-    ghost use Rattle.ndc_sets.specs.Current.{current_state, state_to};
-    ghost use Rattle.ndc_sets.specs.Paths.{path_to};
-    ghost use Rattle.ndc_sets.specs.Sets.{arrived, batch_at, Has};
+    ghost use Rattle.ndc_model_sets.specs.Branches.{current_tip};
+    ghost use Rattle.ndc_model_sets.specs.Current.{current_state, state_to};
+    ghost use Rattle.ndc_model_sets.specs.Paths.{path_to};
+    ghost use Rattle.ndc_model_sets.specs.Sets.{arrived, batch_at, Has};
     ghost use Rattle.ndc_state.specs.Counted.{counted};
     ghost use Rattle.ndc_state.specs.Replay.{CountsWithin};
-    ghost use Rattle.ndc_tree.specs.Reading.{current_key};
+    ghost use Rattle.ndc_model_sets.specs.Reading.{current_key};
     ghost use Rattle.ndc_tree.specs.Tree.{Joins};
 
     /// The run without a batch.

@@ -6,7 +6,7 @@ use Rattle.std.proofs.lemmas.Fmt.{decimal_nonempty, length-decimal-le}
 use Rattle.std.proofs.lemmas.List.{length-append}
 use Rattle.std.proofs.lemmas.List.Folds.{list_all-append}
 use Rattle.ndc_event.specs.Name.{is_name, is_name_byte}
-use Rattle.ndc_act.specs.declared.script.Line.{Line}
+use Rattle.ndc_script_types.specs.declared.script.Line.{Line}
 use Rattle.ndc_script.specs.Generate.{line_at, next_state, drawn, generated_act, drawn_lines}
 use Rattle.ndc_script.proofs.PrintedAreLines.{digits_are_names}
 use Rattle.ndc_script.proofs.PrintedNumbers.{digits-decimal}

@@ -10,14 +10,14 @@ use Rattle.ndc_domain.specs.Clusters.{cluster_no}
 use Rattle.ndc_domain.specs.Flags.{where_AreMembers}
 use Rattle.ndc_domain.specs.Members.{members_of, numbers, numbers_where}
 use Rattle.ndc_domain.proofs.Faults.{built_is_sound}
-use Rattle.ndc_act.specs.declared.script.Act.TheVariants as act
-use Rattle.ndc_act.specs.declared.script.Line.{Line}
-use Rattle.ndc_act.specs.Below.{clusters_below}
+use Rattle.ndc_script_types.specs.declared.script.Act.TheVariants as act
+use Rattle.ndc_script_types.specs.declared.script.Line.{Line}
+use Rattle.ndc_script_types.specs.Below.{clusters_below}
 use Rattle.ndc_script.specs.Generate.{generated_header, next_state, drawn, drawn_cluster, drawn_domain, drawn_number, drawn_workflow, drawn_target, drawn_other, drawn_command, drawn_move, generated_act, line_at, registering, telling, starting, drawn_lines, generated_lines, generated_script}
-use Rattle.ndc_act.specs.WellFormed.{IsWellFormedHeader, IsName, IsCluster, AreTwoClusters, IsWellFormedAction, IsWellFormedCommand, IsWellFormedAct, IsWellFormed}
-use Rattle.ndc_act.specs.Print.{lines_within, header_lines, body_lines, script_lines}
+use Rattle.ndc_script_types.specs.WellFormed.{IsWellFormedHeader, IsName, IsCluster, AreTwoClusters, IsWellFormedAction, IsWellFormedCommand, IsWellFormedAct, IsWellFormed}
+use Rattle.ndc_script_types.specs.Print.{lines_within, header_lines, body_lines, script_lines}
 use Rattle.ndc_script.proofs.Generated.{front-decimal}
-use Rattle.ndc_act.proofs.Counts.{read_count, body_printed}
+use Rattle.ndc_script_types.proofs.Counts.{read_count, body_printed}
 use Rattle.ndc_script.proofs.PrintedAreLines.{name-decimal}
 
 header_fits : IsWellFormedHeader generated_header

@@ -6,20 +6,20 @@ use Rattle.std.proofs.lemmas.Slice.Eq.{bytes_eq-Decides}
 use Rattle.ndc_command.specs.declared.command.Command.{Command}
 use Rattle.ndc_domain.specs.Clusters.{name_of}
 use Rattle.ndc_domain.specs.declared.clusters.ClusterNo.{ClusterNo}
-use Rattle.ndc_act.specs.declared.script.Act.{Act}
-use Rattle.ndc_act.specs.declared.script.Act.TheVariants as act
-use Rattle.ndc_act.specs.declared.script.BurstJob.{BurstJob}
-use Rattle.ndc_act.specs.declared.script.Header.{Header}
-use Rattle.ndc_words.specs.declared.text.Reading.TheVariants.{Readable}
-use Rattle.ndc_words.specs.declared.verb.Verb.{Verb}
-use Rattle.ndc_words.specs.Text.{KeptLine}
-use Rattle.ndc_read.specs.Body.{job_at, job_line, job_by, words_job, is_end, jobs_of, burst_line, act_by, verb_act, words_act}
-use Rattle.ndc_read.specs.Commands.{command_line}
-use Rattle.ndc_read.specs.Register.{register_line, register_with}
-use Rattle.ndc_read.specs.Lines.{cluster_line, pair_line, domain_line, retain_line, target_line, handover_line, levels_line, place_line, pull_line, places_with, places_line, settle_line, workflow_line, compare_line, reset_line, beat_with, beat_line, progress_line}
-use Rattle.ndc_act.specs.Print.{command_words, job_words, act_words, lines_behind, jobs_from, act_numbered}
-use Rattle.ndc_words.specs.Verbs.{verb_to_b, verb_c, verb_d, verb_to_h, verb_to_m, verb_to_q, verb_r, verb_s, verb_from_t, verb_of}
-use Rattle.ndc_act.specs.WellFormed.{IsWellFormedHeader, IsWorkflowAt, IsWellFormedCommand, IsWellFormedJob, IsWellFormedAct}
+use Rattle.ndc_script_types.specs.declared.script.Act.{Act}
+use Rattle.ndc_script_types.specs.declared.script.Act.TheVariants as act
+use Rattle.ndc_script_types.specs.declared.script.BurstJob.{BurstJob}
+use Rattle.ndc_script_types.specs.declared.script.Header.{Header}
+use Rattle.ndc_script_words.specs.declared.text.Reading.TheVariants.{Readable}
+use Rattle.ndc_script_words.specs.declared.verb.Verb.{Verb}
+use Rattle.ndc_script_words.specs.Text.{KeptLine}
+use Rattle.ndc_script_read.specs.Body.{job_at, job_line, job_by, words_job, is_end, jobs_of, burst_line, act_by, verb_act, words_act}
+use Rattle.ndc_script_read.specs.Commands.{command_line}
+use Rattle.ndc_script_read.specs.Register.{register_line, register_with}
+use Rattle.ndc_script_read.specs.Lines.{cluster_line, pair_line, domain_line, retain_line, target_line, handover_line, levels_line, place_line, pull_line, places_with, places_line, settle_line, workflow_line, compare_line, reset_line, beat_with, beat_line, progress_line}
+use Rattle.ndc_script_types.specs.Print.{command_words, job_words, act_words, lines_behind, jobs_from, act_numbered}
+use Rattle.ndc_script_words.specs.Verbs.{verb_to_b, verb_c, verb_d, verb_to_h, verb_to_m, verb_to_q, verb_r, verb_s, verb_from_t, verb_of}
+use Rattle.ndc_script_types.specs.WellFormed.{IsWellFormedHeader, IsWorkflowAt, IsWellFormedCommand, IsWellFormedJob, IsWellFormedAct}
 use Rattle.ndc_script.proofs.PrintedCommands.{operands, command_words-is, verb_of-first_word, command-again}
 use Rattle.ndc_script.proofs.PrintedLines.{kept_numbered}
 use Rattle.ndc_script.proofs.PrintedMembers.{known-name, member_words-again}

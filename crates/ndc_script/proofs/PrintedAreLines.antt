@@ -14,15 +14,15 @@ use Rattle.ndc_command.specs.declared.command.Command.TheVariants as command
 use Rattle.ndc_domain.specs.Clusters.{count_of, name_of}
 use Rattle.ndc_domain.specs.Members.{members_of}
 use Rattle.ndc_domain.specs.declared.clusters.ClusterNo.{ClusterNo}
-use Rattle.ndc_act.specs.declared.script.Act.{Act}
-use Rattle.ndc_act.specs.declared.script.Act.TheVariants as act
-use Rattle.ndc_act.specs.declared.script.BurstJob.{BurstJob}
-use Rattle.ndc_act.specs.declared.script.Header.{Header}
-use Rattle.ndc_act.specs.declared.script.Line.{Line}
-use Rattle.ndc_words.specs.Number.{is_digit}
-use Rattle.ndc_act.specs.Below.{clusters_below}
-use Rattle.ndc_act.specs.WellFormed.{IsWellFormedHeader, IsName, IsCluster, IsWellFormedAction, IsWellFormedCommand, IsWellFormedJob, IsWellFormedAct}
-use Rattle.ndc_act.specs.Print.{cluster_line_of, header_lines, action_words, command_words, job_words, member_name, act_words, lines_behind, act_lines, body_lines}
+use Rattle.ndc_script_types.specs.declared.script.Act.{Act}
+use Rattle.ndc_script_types.specs.declared.script.Act.TheVariants as act
+use Rattle.ndc_script_types.specs.declared.script.BurstJob.{BurstJob}
+use Rattle.ndc_script_types.specs.declared.script.Header.{Header}
+use Rattle.ndc_script_types.specs.declared.script.Line.{Line}
+use Rattle.ndc_script_words.specs.Number.{is_digit}
+use Rattle.ndc_script_types.specs.Below.{clusters_below}
+use Rattle.ndc_script_types.specs.WellFormed.{IsWellFormedHeader, IsName, IsCluster, IsWellFormedAction, IsWellFormedCommand, IsWellFormedJob, IsWellFormedAct}
+use Rattle.ndc_script_types.specs.Print.{cluster_line_of, header_lines, action_words, command_words, job_words, member_name, act_words, lines_behind, act_lines, body_lines}
 use Rattle.ndc_script.proofs.PrintedLines.{is_line, AreLines}
 use Rattle.ndc_script.proofs.PrintedNumbers.{digits-decimal}
 

@@ -6,18 +6,18 @@ use Rattle.ndc_event.specs.Outcome.{◌>>=◌}
 use Rattle.ndc_command.specs.declared.command.Command.{Command}
 use Rattle.ndc_command.specs.declared.command.Command.TheVariants as command
 use Rattle.ndc_domain.specs.Clusters.{name_of}
-use Rattle.ndc_act.specs.declared.script.Act.{Act}
-use Rattle.ndc_act.specs.declared.script.Act.TheVariants as act
-use Rattle.ndc_act.specs.declared.script.BurstJob.{BurstJob}
-use Rattle.ndc_act.specs.declared.script.Header.{Header}
-use Rattle.ndc_act.specs.declared.script.Line.{Line}
-use Rattle.ndc_act.specs.declared.script.ScriptError.{ScriptError}
-use Rattle.ndc_words.specs.declared.text.Reading.TheVariants.{Readable}
-use Rattle.ndc_words.specs.Text.{KeptLine}
-use Rattle.ndc_words.specs.Header.{is_cluster_line}
-use Rattle.ndc_read.specs.Body.{body_behind}
-use Rattle.ndc_act.specs.WellFormed.{IsWellFormedHeader, IsWellFormedAct}
-use Rattle.ndc_act.specs.Print.{lines_within, command_words, job_words, act_words, lines_behind, act_lines, body_lines, jobs_from, act_numbered, numbered_from}
+use Rattle.ndc_script_types.specs.declared.script.Act.{Act}
+use Rattle.ndc_script_types.specs.declared.script.Act.TheVariants as act
+use Rattle.ndc_script_types.specs.declared.script.BurstJob.{BurstJob}
+use Rattle.ndc_script_types.specs.declared.script.Header.{Header}
+use Rattle.ndc_script_types.specs.declared.script.Line.{Line}
+use Rattle.ndc_script_types.specs.declared.script.ScriptError.{ScriptError}
+use Rattle.ndc_script_words.specs.declared.text.Reading.TheVariants.{Readable}
+use Rattle.ndc_script_words.specs.Text.{KeptLine}
+use Rattle.ndc_script_words.specs.Header.{is_cluster_line}
+use Rattle.ndc_script_read.specs.Body.{body_behind}
+use Rattle.ndc_script_types.specs.WellFormed.{IsWellFormedHeader, IsWellFormedAct}
+use Rattle.ndc_script_types.specs.Print.{lines_within, command_words, job_words, act_words, lines_behind, act_lines, body_lines, jobs_from, act_numbered, numbered_from}
 use Rattle.ndc_script.proofs.PrintedActs.{act-again}
 use Rattle.ndc_script.proofs.PrintedCommands.{command_words-is, first_word, operands}
 use Rattle.ndc_script.proofs.PrintedHeader.{NoClusterLines}

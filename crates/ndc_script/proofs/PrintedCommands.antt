@@ -8,17 +8,17 @@ use Rattle.ndc_command.specs.declared.command.Action.{Action}
 use Rattle.ndc_command.specs.declared.command.Action.TheVariants as action
 use Rattle.ndc_command.specs.declared.command.Command.{Command}
 use Rattle.ndc_command.specs.declared.command.Command.TheVariants as command
-use Rattle.ndc_act.specs.declared.script.ScriptError.{ScriptError}
-use Rattle.ndc_words.specs.declared.verb.BareCommand.TheVariants as bare
-use Rattle.ndc_words.specs.declared.verb.CommandVerb.{CommandVerb}
-use Rattle.ndc_words.specs.declared.verb.CommandVerb.TheVariants as verb
-use Rattle.ndc_words.specs.declared.verb.NamedCommand.TheVariants as named_verb
-use Rattle.ndc_words.specs.declared.verb.PairedCommand.TheVariants as paired_verb
-use Rattle.ndc_words.specs.declared.verb.Verb.TheVariants as line_verb
-use Rattle.ndc_read.specs.Commands.{named_group, paired_group, closing_group, canceled_group, group_of, actions_behind, bare_of, named_of, paired_of, respond_of, command_of}
-use Rattle.ndc_act.specs.Print.{action_words, command_words}
-use Rattle.ndc_words.specs.Verbs.{verb_to_b, verb_c, verb_d, verb_to_h, verb_to_m, verb_to_q, verb_r, verb_s, verb_from_t, verb_of, closing_verb, action_verb}
-use Rattle.ndc_act.specs.WellFormed.{IsWellFormedAction, IsWellFormedCommand, closes, closes_last}
+use Rattle.ndc_script_types.specs.declared.script.ScriptError.{ScriptError}
+use Rattle.ndc_script_words.specs.declared.verb.BareCommand.TheVariants as bare
+use Rattle.ndc_script_words.specs.declared.verb.CommandVerb.{CommandVerb}
+use Rattle.ndc_script_words.specs.declared.verb.CommandVerb.TheVariants as verb
+use Rattle.ndc_script_words.specs.declared.verb.NamedCommand.TheVariants as named_verb
+use Rattle.ndc_script_words.specs.declared.verb.PairedCommand.TheVariants as paired_verb
+use Rattle.ndc_script_words.specs.declared.verb.Verb.TheVariants as line_verb
+use Rattle.ndc_script_read.specs.Commands.{named_group, paired_group, closing_group, canceled_group, group_of, actions_behind, bare_of, named_of, paired_of, respond_of, command_of}
+use Rattle.ndc_script_types.specs.Print.{action_words, command_words}
+use Rattle.ndc_script_words.specs.Verbs.{verb_to_b, verb_c, verb_d, verb_to_h, verb_to_m, verb_to_q, verb_r, verb_s, verb_from_t, verb_of, closing_verb, action_verb}
+use Rattle.ndc_script_types.specs.WellFormed.{IsWellFormedAction, IsWellFormedCommand, closes, closes_last}
 use Rattle.ndc_script.proofs.PrintedOperands.{named-name}
 
 -- the first word of a command line

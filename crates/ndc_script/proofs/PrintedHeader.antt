@@ -8,13 +8,13 @@ use Rattle.ndc_event.specs.Name.{is_name, name_of, is_name_byte}
 use Rattle.ndc_domain.specs.Clusters.{clusters_of}
 use Rattle.ndc_domain.proofs.Faults.{sound_is_built}
 use Rattle.ndc_domain.proofs.Writers.{not_true}
-use Rattle.ndc_act.specs.declared.script.Header.{Header}
-use Rattle.ndc_words.specs.declared.text.Reading.TheVariants.{Readable}
-use Rattle.ndc_words.specs.Text.{KeptLine}
-use Rattle.ndc_words.specs.Number.{number_of}
-use Rattle.ndc_words.specs.Header.{Setting, within, number_read, setting_of, increment_at, cluster_words, member_of, members_of, before_members, behind_members, is_cluster_line, body_lines, clusters_read, header_of, named_initial}
-use Rattle.ndc_act.specs.WellFormed.{IsWellFormedHeader}
-use Rattle.ndc_act.specs.Print.{cluster_line_of, header_lines}
+use Rattle.ndc_script_types.specs.declared.script.Header.{Header}
+use Rattle.ndc_script_words.specs.declared.text.Reading.TheVariants.{Readable}
+use Rattle.ndc_script_words.specs.Text.{KeptLine}
+use Rattle.ndc_script_words.specs.Number.{number_of}
+use Rattle.ndc_script_words.specs.Header.{Setting, within, number_read, setting_of, increment_at, cluster_words, member_of, members_of, before_members, behind_members, is_cluster_line, body_lines, clusters_read, header_of, named_initial}
+use Rattle.ndc_script_types.specs.WellFormed.{IsWellFormedHeader}
+use Rattle.ndc_script_types.specs.Print.{cluster_line_of, header_lines}
 use Rattle.ndc_script.proofs.PrintedNumbers.{number_of-decimal}
 use Rattle.ndc_script.proofs.PrintedLines.{kept_numbered}
 use Rattle.ndc_script.proofs.PrintedWords.{differs, name_parts}

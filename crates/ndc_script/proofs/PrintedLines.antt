@@ -3,9 +3,9 @@ use Rattle.std.proofs.Common.{◌≡◌, ℕ, ◌+◌, ◌≤◌, Bool, true, fa
 use Rattle.std.specs.List.{list_all, cons_option}
 use Rattle.std.proofs.lemmas.Bool.{le-leb, and_parts, and_from}
 use Rattle.ndc_event.specs.Name.{is_name}
-use Rattle.ndc_words.specs.declared.text.Reading.TheVariants.{Readable, Unreadable, PastLimit}
-use Rattle.ndc_words.specs.Text.{KeptLine, words_of, is_line_byte, is_short, is_comment, is_skipped, reading_of, kept_line, kept_from, text_lines}
-use Rattle.ndc_act.specs.Print.{spaced, lines_text}
+use Rattle.ndc_script_words.specs.declared.text.Reading.TheVariants.{Readable, Unreadable, PastLimit}
+use Rattle.ndc_script_words.specs.Text.{KeptLine, words_of, is_line_byte, is_short, is_comment, is_skipped, reading_of, kept_line, kept_from, text_lines}
+use Rattle.ndc_script_types.specs.Print.{spaced, lines_text}
 use Rattle.ndc_script.proofs.PrintedWords.{AreNames, name_parts, words_of-spaced, line_bytes-spaced, text_lines-line}
 
 -- words that make a line: there are some, all are names, and the first begins no comment

@@ -8,11 +8,11 @@ use Rattle.ndc_domain.specs.Clusters.{AreClusters, count_of, cluster_no, name_of
 use Rattle.ndc_domain.specs.Members.{AreMembers, has_member, members_of, numbers, numbers_where}
 use Rattle.ndc_domain.specs.declared.clusters.ClusterNo.{ClusterNo}
 use Rattle.ndc_domain.proofs.Writers.{not_true, found_by_name}
-use Rattle.ndc_act.specs.Below.{clusters_below}
-use Rattle.ndc_act.specs.declared.script.Header.{Header}
-use Rattle.ndc_words.specs.Operands.{known, cluster_or_unknown}
-use Rattle.ndc_read.specs.Register.{all_differ, clusters_named, clusters_for, members_named}
-use Rattle.ndc_act.specs.Print.{member_name, member_words}
+use Rattle.ndc_script_types.specs.Below.{clusters_below}
+use Rattle.ndc_script_types.specs.declared.script.Header.{Header}
+use Rattle.ndc_script_words.specs.Operands.{known, cluster_or_unknown}
+use Rattle.ndc_script_read.specs.Register.{all_differ, clusters_named, clusters_for, members_named}
+use Rattle.ndc_script_types.specs.Print.{member_name, member_words}
 use Rattle.std.proofs.lemmas.Slice.Eq.{bytes_eq-Decides}
 
 -- a cluster's name is that of the cluster again

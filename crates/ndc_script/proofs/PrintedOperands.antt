@@ -2,9 +2,9 @@
 use Rattle.std.proofs.Common.{◌≡◌, ℕ, ◌-◌, ◌<◌, ◌≤◌, List, Ok, decimal, refl, ap, arith}
 use Rattle.ndc_domain.specs.Clusters.{AreClusters, name_of}
 use Rattle.ndc_domain.specs.declared.clusters.ClusterNo.{ClusterNo}
-use Rattle.ndc_act.specs.declared.script.Header.{Header}
-use Rattle.ndc_words.specs.Operands.{named, name_or_bad, numbered, number_or_bad, shard_of, place_of, both_known, two_clusters, workflow_at}
-use Rattle.ndc_act.specs.WellFormed.{IsWellFormedHeader, IsName, IsCluster, IsPlace, AreTwoClusters, IsWorkflowAt}
+use Rattle.ndc_script_types.specs.declared.script.Header.{Header}
+use Rattle.ndc_script_words.specs.Operands.{named, name_or_bad, numbered, number_or_bad, shard_of, place_of, both_known, two_clusters, workflow_at}
+use Rattle.ndc_script_types.specs.WellFormed.{IsWellFormedHeader, IsName, IsCluster, IsPlace, AreTwoClusters, IsWorkflowAt}
 use Rattle.ndc_script.proofs.PrintedHeader.{name_of-name, within-decimal}
 use Rattle.ndc_script.proofs.PrintedMembers.{known-name, names_differ}
 use Rattle.ndc_script.proofs.PrintedWords.{differs}

@@ -7,15 +7,15 @@ use Rattle.std.proofs.lemmas.List.{length-map}
 use Rattle.std.proofs.lemmas.List.Elements.{recursion_from_All}
 use Rattle.std.proofs.lemmas.List.Folds.{list_all-append}
 use Rattle.ndc_event.specs.Outcome.{◌>>=◌}
-use Rattle.ndc_act.specs.declared.script.Header.{Header}
-use Rattle.ndc_act.specs.declared.script.Line.{Line}
-use Rattle.ndc_act.specs.declared.script.Script.{Script}
-use Rattle.ndc_act.specs.declared.script.ScriptError.{ScriptError}
-use Rattle.ndc_words.specs.Text.{kept_of, line_after}
-use Rattle.ndc_words.specs.Header.{HeaderRead, header_of}
-use Rattle.ndc_read.specs.Body.{body_of, script_in, script_of}
-use Rattle.ndc_act.specs.Print.{line_text, lines_text, cluster_line_of, header_lines, act_lines, body_lines, script_lines, script_text, numbered_from, renumbered}
-use Rattle.ndc_act.specs.WellFormed.{IsWellFormedAct, IsWellFormed}
+use Rattle.ndc_script_types.specs.declared.script.Header.{Header}
+use Rattle.ndc_script_types.specs.declared.script.Line.{Line}
+use Rattle.ndc_script_types.specs.declared.script.Script.{Script}
+use Rattle.ndc_script_types.specs.declared.script.ScriptError.{ScriptError}
+use Rattle.ndc_script_words.specs.Text.{kept_of, line_after}
+use Rattle.ndc_script_words.specs.Header.{HeaderRead, header_of}
+use Rattle.ndc_script_read.specs.Body.{body_of, script_in, script_of}
+use Rattle.ndc_script_types.specs.Print.{line_text, lines_text, cluster_line_of, header_lines, act_lines, body_lines, script_lines, script_text, numbered_from, renumbered}
+use Rattle.ndc_script_types.specs.WellFormed.{IsWellFormedAct, IsWellFormed}
 use Rattle.ndc_script.proofs.PrintedAreLines.{body-lines, header-lines}
 use Rattle.ndc_script.proofs.PrintedBody.{body_of-lines, no_cluster_lines}
 use Rattle.ndc_script.proofs.PrintedHeader.{header_of-lines}

@@ -8,8 +8,8 @@ use Rattle.std.proofs.lemmas.List.Folds.{list_all-append}
 use Rattle.std.proofs.lemmas.List.Splits.{slice_split_none, slice_split_at}
 use Rattle.ndc_domain.proofs.Writers.{not_true}
 use Rattle.ndc_event.specs.Name.{is_name, is_name_byte}
-use Rattle.ndc_words.specs.Text.{words_of, is_line_byte, text_lines}
-use Rattle.ndc_act.specs.Print.{spaced}
+use Rattle.ndc_script_words.specs.Text.{words_of, is_line_byte, text_lines}
+use Rattle.ndc_script_types.specs.Print.{spaced}
 
 -- the three parts of a name
 pub name_parts : (word : List ℕ) → is_name word ≡ true → (1 ≤ length word) × (length word ≤ 200) × (list_all is_name_byte word ≡ true)

@@ -6,12 +6,12 @@ use Rattle.ndc_command.specs.declared.command.Command.TheVariants as command
 use Rattle.ndc_domain.specs.Clusters.{cluster_no}
 use Rattle.ndc_domain.specs.Members.{members_of}
 use Rattle.ndc_domain.specs.declared.clusters.ClusterNo.{ClusterNo}
-use Rattle.ndc_act.specs.declared.script.Act.{Act}
-use Rattle.ndc_act.specs.declared.script.Act.TheVariants as act
-use Rattle.ndc_act.specs.declared.script.Header.{Header}
-use Rattle.ndc_act.specs.declared.script.Line.{Line}
-use Rattle.ndc_act.specs.declared.script.Script.{Script}
-use Rattle.ndc_act.specs.Below.{clusters_below}
+use Rattle.ndc_script_types.specs.declared.script.Act.{Act}
+use Rattle.ndc_script_types.specs.declared.script.Act.TheVariants as act
+use Rattle.ndc_script_types.specs.declared.script.Header.{Header}
+use Rattle.ndc_script_types.specs.declared.script.Line.{Line}
+use Rattle.ndc_script_types.specs.declared.script.Script.{Script}
+use Rattle.ndc_script_types.specs.Below.{clusters_below}
 
 -- the clusters A, B and C, eight shards, and 1,000 events on a branch
 abbrev pub generated_header : Header

@@ -2,14 +2,14 @@ ghost use Rattle.std.specs.Prelude.{◌≡◌, ◌+◌, ◌++◌, ◌∷◌, [],
 ghost use Rattle.std.specs.List.{list_all};
 ghost use Rattle.ndc_domain.specs.Members.{members_of};
 ghost use Rattle.ndc_event.specs.Name.{is_name, is_name_byte};
-ghost use Rattle.ndc_act.specs.Below.{clusters_below};
-ghost use Rattle.ndc_act.specs.WellFormed.{IsWellFormed};
+ghost use Rattle.ndc_script_types.specs.Below.{clusters_below};
+ghost use Rattle.ndc_script_types.specs.WellFormed.{IsWellFormed};
 ghost use Rattle.ndc_script.specs.Generate.{generated_header, next_state, drawn, drawn_cluster, drawn_domain, drawn_number, drawn_workflow, drawn_target, drawn_other, drawn_command, drawn_move, generated_act, line_at, registering, telling, starting, first_lines, drawn_lines, generated_lines, generated_script};
 
-use ndc_act::{Act, Header, Line, Lines, Script, clusters_below};
 use ndc_command::{Action, Actions, Command};
 use ndc_domain::{ClusterNo, Clusters, Members};
 use ndc_event::{Name, NameError};
+use ndc_script_types::{Act, Header, Line, Lines, Script, clusters_below};
 use std::alloc::{AllocError, Global};
 
 /// The name of these bytes, which are one.

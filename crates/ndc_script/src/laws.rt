@@ -1,10 +1,10 @@
 //! Laws of the script language.
 ghost use Rattle.std.specs.Prelude.{◌≡◌, ◌≤◌, ℕ, Ok};
-ghost use Rattle.ndc_act.specs.declared.script.Script.{Script};
-ghost use Rattle.ndc_read.specs.Body.{script_of};
+ghost use Rattle.ndc_script_types.specs.declared.script.Script.{Script};
+ghost use Rattle.ndc_script_read.specs.Body.{script_of};
 ghost use Rattle.ndc_script.specs.Generate.{generated_script};
-ghost use Rattle.ndc_act.specs.Print.{script_text, renumbered};
-ghost use Rattle.ndc_act.specs.WellFormed.{IsWellFormed};
+ghost use Rattle.ndc_script_types.specs.Print.{script_text, renumbered};
+ghost use Rattle.ndc_script_types.specs.WellFormed.{IsWellFormed};
 
 /// A well-formed script is read again from what is printed of it: the same
 /// script, with the numbers that its lines, and those of its bursts, have in print.

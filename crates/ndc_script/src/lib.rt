@@ -5,6 +5,8 @@ mod generating;
 pub mod laws;
 
 pub use generating::generate;
-pub use ndc_act::{Act, BurstJob, Header, Jobs, Line, Lines, Script, ScriptCause, ScriptError};
-pub use ndc_print::print;
-pub use ndc_read::parse;
+pub use ndc_script_print::print;
+pub use ndc_script_read::parse;
+pub use ndc_script_types::{
+    Act, BurstJob, Header, Jobs, Line, Lines, Script, ScriptCause, ScriptError,
+};

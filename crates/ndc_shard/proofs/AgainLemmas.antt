@@ -1,26 +1,26 @@
 -- What reapplication writes may be written, and where it is not due nothing is written.
 use Rattle.std.proofs.Common.{◌≡◌, ◌≤◌, ◌^◌, ℕ, Bool, true, false, List, [], ◌∷◌, Option, Some, None, Result, Ok, Err, IfOk, IfSome, if◌then◌else◌, refl, sym, ◌∙◌, subst, ap}
 use Rattle.std.specs.Prelude.{is_some, option_to_list}
-use Rattle.ndc_cells.specs.declared.message.Message.{Message}
-use Rattle.ndc_cells.specs.Cells.{Cell, learned_of}
-use Rattle.ndc_cells.specs.Writing.{Entry, Home, alone, batch_below, greatest_version, may_write, may_write_by, next_key, reapplication_below, reapplication_by, reapplication_of}
+use Rattle.ndc_model_cells.specs.declared.message.Message.{Message}
+use Rattle.ndc_model_cells.specs.Cells.{Cell, learned_of}
+use Rattle.ndc_model_cells.specs.Writing.{Entry, Home, alone, batch_below, greatest_version, may_write, may_write_by, next_key, reapplication_below, reapplication_by, reapplication_of}
 use Rattle.ndc_command.specs.declared.refusal.Refusal.{Refusal}
 use Rattle.ndc_domain.specs.Records.{record_of}
-use Rattle.ndc_entries.proofs.IdLemmas.{reapplied-ids}
-use Rattle.ndc_entries.proofs.LawProofs.{reapplication-behind, tip-has, writes_ahead}
+use Rattle.ndc_shard_entries.proofs.IdLemmas.{reapplied-ids}
+use Rattle.ndc_shard_entries.proofs.LawProofs.{reapplication-behind, tip-has, writes_ahead}
 use Rattle.ndc_event.specs.declared.batch.Batch.{Batch}
 use Rattle.ndc_event.specs.declared.name.Name.{Name}
 use Rattle.ndc_reapply.specs.Reapplied.{reapplied}
 use Rattle.ndc_reapply.specs.declared.stray.Stray.{Stray}
-use Rattle.ndc_sets.specs.Branches.{workflow_tip}
-use Rattle.ndc_sets.specs.Current.{state_to, strays}
-use Rattle.ndc_sets.specs.Sound.{IsSound}
+use Rattle.ndc_model_sets.specs.Branches.{workflow_tip}
+use Rattle.ndc_model_sets.specs.Current.{state_to, strays}
+use Rattle.ndc_model_sets.specs.Sound.{IsSound}
 use Rattle.ndc_state.specs.Value.{StateValue}
-use Rattle.ndc_workflow.specs.Allowed.{HasRoom, MayWriteAll}
-use Rattle.ndc_workflow.specs.Learnable.{carrying}
-use Rattle.ndc_workflow.specs.Workflow.{workflow_of}
-use Rattle.ndc_workflows.specs.Due.{AreDue}
-use Rattle.ndc_workflows.specs.Writing.{MayBeWritten}
+use Rattle.ndc_model_cells.specs.Allowed.{HasRoom, MayWriteAll}
+use Rattle.ndc_model_cells.specs.Messages.{carrying}
+use Rattle.ndc_model_cells.specs.Workflow.{workflow_of}
+use Rattle.ndc_shard_workflows.specs.Due.{AreDue}
+use Rattle.ndc_shard_workflows.specs.Writing.{MayBeWritten}
 use Rattle.ndc_shard.specs.Shards.{AreWritable, IsFit, having_written}
 use Rattle.ndc_shard.proofs.MayLemmas.{AreReached, all-may}
 

@@ -3,8 +3,8 @@ use Rattle.std.proofs.Common.{◌≡◌, ◌≤◌, ◌++◌, ◌^◌, ℕ, Bool
 use Rattle.std.specs.Prelude.{is_some}
 use Rattle.std.specs.List.{AllByRecursion}
 use Rattle.std.proofs.lemmas.List.Elements.{All-weaker}
-use Rattle.ndc_cells.specs.Cells.{Cell, learned_of}
-use Rattle.ndc_cells.specs.Writing.{Entry, Home, alone, as_command_error, batch_below, batches_in, command_entries, command_of, entry_of, first_batch, greatest_version, is_close_full, key_behind, may_write, may_write_by, next_key, reset_at, reset_below, reset_close, reset_entries, reset_refused}
+use Rattle.ndc_model_cells.specs.Cells.{Cell, learned_of}
+use Rattle.ndc_model_cells.specs.Writing.{Entry, Home, alone, as_command_error, batch_below, batches_in, command_entries, command_of, entry_of, first_batch, greatest_version, is_close_full, key_behind, may_write, may_write_by, next_key, reset_at, reset_below, reset_close, reset_entries, reset_refused}
 use Rattle.ndc_command.specs.Laws.{begins_run}
 use Rattle.ndc_command.specs.Plan.{plan_of}
 use Rattle.ndc_command.specs.declared.command.Command.{Command}
@@ -13,9 +13,9 @@ use Rattle.ndc_command.specs.declared.refusal.CommandError.TheVariants.{Refused}
 use Rattle.ndc_command.specs.declared.refusal.Refusal.{Refusal}
 use Rattle.ndc_command.specs.declared.refusal.Refusal.TheVariants as refusal
 use Rattle.ndc_domain.specs.Records.{record_of}
-use Rattle.ndc_entries.specs.Written.{AreWrittenTo, HasIdsUpTo}
-use Rattle.ndc_entries.proofs.IdLemmas.{command-ids, resets-ids}
-use Rattle.ndc_entries.proofs.LawProofs.{after-ok, command-behind, reset-behind, tip-has, writes_ahead}
+use Rattle.ndc_shard_entries.specs.Written.{AreWrittenTo, HasIdsUpTo}
+use Rattle.ndc_shard_entries.proofs.IdLemmas.{command-ids, resets-ids}
+use Rattle.ndc_shard_entries.proofs.LawProofs.{after-ok, command-behind, reset-behind, tip-has, writes_ahead}
 use Rattle.ndc_event.specs.Key.{run_of}
 use Rattle.ndc_event.specs.Outcome.{◌>>=◌}
 use Rattle.ndc_event.specs.declared.batch.Batch.{Batch}
@@ -24,14 +24,14 @@ use Rattle.ndc_event.specs.declared.key.BatchKey.{BatchKey}
 use Rattle.ndc_event.specs.declared.kind.EventKind.{EventKind}
 use Rattle.ndc_event.specs.declared.name.Name.{Name}
 use Rattle.ndc_reset.specs.Reset.{reset_of}
-use Rattle.ndc_sets.specs.Branches.{workflow_tip}
-use Rattle.ndc_sets.specs.Current.{state_to}
-use Rattle.ndc_sets.specs.Learned.{has_key}
-use Rattle.ndc_sets.specs.Paths.{events_to}
-use Rattle.ndc_sets.specs.Sound.{IsSound}
+use Rattle.ndc_model_sets.specs.Branches.{workflow_tip}
+use Rattle.ndc_model_sets.specs.Current.{state_to}
+use Rattle.ndc_model_sets.specs.Learned.{has_key}
+use Rattle.ndc_model_sets.specs.Paths.{events_to}
+use Rattle.ndc_model_sets.specs.Sound.{IsSound}
 use Rattle.ndc_state.specs.Value.{StateValue}
-use Rattle.ndc_waiting.proofs.OrderLemmas.{all-more}
-use Rattle.ndc_workflow.specs.Allowed.{MayBeAsked, MayTake}
+use Rattle.ndc_shard_waiting.proofs.OrderLemmas.{all-more}
+use Rattle.ndc_model_cells.specs.Allowed.{MayBeAsked, MayTake}
 use Rattle.ndc_shard.specs.Shards.{AreWritable, IsFit}
 use Rattle.ndc_shard.proofs.MayLemmas.{AreReached, all-may}
 

@@ -1,11 +1,11 @@
 -- One cluster: a start is written, or refused without a record; the first batch of a run arrives.
 use Rattle.std.proofs.Common.{◌≡◌, ◌≤◌, ◌^◌, ◌∙◌, ℕ, List, [], ◌∷◌, None, Ok, codes, refl, sym, subst, arith}
 use Rattle.std.proofs.lemmas.List.Elements.{All-from_recursion}
-use Rattle.ndc_cells.specs.declared.job.Job.{Job}
-use Rattle.ndc_cells.specs.declared.job.Job.TheVariants as job
-use Rattle.ndc_cells.specs.Arrival.{arrived_at}
-use Rattle.ndc_cells.specs.Cells.{Cell, empty_cell}
-use Rattle.ndc_cells.specs.Writing.{Home, command_of, may_write}
+use Rattle.ndc_model_cells.specs.declared.job.Job.{Job}
+use Rattle.ndc_model_cells.specs.declared.job.Job.TheVariants as job
+use Rattle.ndc_model_cells.specs.Arrival.{arrived_at}
+use Rattle.ndc_model_cells.specs.Cells.{Cell, empty_cell}
+use Rattle.ndc_model_cells.specs.Writing.{Home, command_of, may_write}
 use Rattle.ndc_command.specs.Plan.{plan_of, start_of, within}
 use Rattle.ndc_command.specs.Stage.{refuse}
 use Rattle.ndc_domain.specs.Clusters.{ClusterList, cluster_no}
@@ -13,9 +13,9 @@ use Rattle.ndc_domain.specs.Members.{members_of, numbers, numbers_where}
 use Rattle.ndc_domain.specs.Records.{register_of}
 use Rattle.ndc_domain.specs.declared.record.DomainRecord.{DomainRecord}
 use Rattle.ndc_event.specs.declared.batch.Event.{Event}
-use Rattle.ndc_runs.proofs.ExampleLemmas.{first-sound}
-use Rattle.ndc_sets.specs.Worked.{begun_again}
-use Rattle.ndc_workflow.specs.Allowed.{IsAllowed, MayArrive}
+use Rattle.ndc_shard_runs.proofs.ExampleLemmas.{first-sound}
+use Rattle.ndc_model_sets.specs.Worked.{begun_again}
+use Rattle.ndc_model_cells.specs.Allowed.{IsAllowed, MayArrive}
 use Rattle.ndc_shard.specs.Worked.{alpha, begun, home_with, one_cluster, start}
 
 start-may : IsAllowed (home_with (alpha ∷ [])) start empty_cell

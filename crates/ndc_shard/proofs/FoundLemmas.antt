@@ -1,7 +1,7 @@
 -- Whether a cell may write, by what is learned of the workflow.
 use Rattle.std.proofs.Common.{◌≡◌, ℕ, List, Option, Result, ◌∙◌, ap}
-use Rattle.ndc_cells.specs.Cells.{Cell, learned_of}
-use Rattle.ndc_cells.specs.Writing.{Home, may_write, may_write_by}
+use Rattle.ndc_model_cells.specs.Cells.{Cell, learned_of}
+use Rattle.ndc_model_cells.specs.Writing.{Home, may_write, may_write_by}
 use Rattle.ndc_command.specs.declared.refusal.Refusal.{Refusal}
 use Rattle.ndc_domain.specs.Clusters.{ClusterList}
 use Rattle.ndc_domain.specs.declared.clusters.ClusterNo.{ClusterNo}

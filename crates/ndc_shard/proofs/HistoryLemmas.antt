@@ -4,11 +4,11 @@ use Rattle.std.specs.Option.{option_map}
 use Rattle.ndc_event.specs.declared.batch.Batch.{Batch}
 use Rattle.ndc_event.specs.declared.key.BatchKey.{BatchKey}
 use Rattle.ndc_history.specs.declared.item.Item.{Item}
-use Rattle.ndc_entries.proofs.TipLemmas.{no-path}
-use Rattle.ndc_sets.specs.Paths.{events_to, versions_of}
-use Rattle.ndc_sets.specs.Sets.{batch_at}
+use Rattle.ndc_model_sets.proofs.NoPaths.{no-path}
+use Rattle.ndc_model_sets.specs.Paths.{events_to, versions_of}
+use Rattle.ndc_model_sets.specs.Sets.{batch_at}
 use Rattle.ndc_state.specs.Replay.{history_of}
-use Rattle.ndc_tree.specs.Reading.{history_at}
+use Rattle.ndc_model_sets.specs.Reading.{history_at}
 
 -- where the batch is not there
 pub read-none : (key : BatchKey) (batches : List Batch) (items : List Item) → None ≡ history_at key batches → items ≡ [] → items ≡ versions_of (events_to key batches)

@@ -4,33 +4,34 @@ use Rattle.std.specs.Prelude.{◌^◌, IfSome, option_to_list}
 use Rattle.std.specs.Option.{option_or}
 use Rattle.std.specs.List.{AllByRecursion}
 use Rattle.std.proofs.lemmas.List.Elements.{filter_passes, recursion_from_All}
-use Rattle.ndc_cells.specs.declared.message.Message.{Message}
-use Rattle.ndc_cells.specs.Cells.{Cell, arrived_of, both, learned_of}
-use Rattle.ndc_cells.specs.Places.{is_of}
-use Rattle.ndc_cells.specs.Writing.{Entry, with_written}
-use Rattle.ndc_cells.specs.Laws.{arrived_second}
-use Rattle.ndc_cells.proofs.PlaceLemmas.{writing_keeps, written_arrives}
-use Rattle.ndc_entries.specs.Written.{AreWrittenTo, HasIdsUpTo, IsSecond, IsWrittenTo}
-use Rattle.ndc_entries.proofs.LawProofs.{sent-message, sent-new}
+use Rattle.ndc_model_cells.specs.declared.message.Message.{Message}
+use Rattle.ndc_model_cells.specs.Cells.{Cell, arrived_of, both, learned_of}
+use Rattle.ndc_model_cells.specs.Places.{is_of}
+use Rattle.ndc_model_cells.specs.Writing.{Entry, with_written}
+use Rattle.ndc_model_cells.specs.Laws.{arrived_second}
+use Rattle.ndc_model_cells.proofs.PlaceLemmas.{writing_keeps, written_arrives}
+use Rattle.ndc_shard_entries.specs.Written.{AreWrittenTo, HasIdsUpTo, IsSecond, IsWrittenTo}
+use Rattle.ndc_shard_entries.proofs.LawProofs.{sent-message, sent-new}
 use Rattle.ndc_event.specs.declared.batch.Batch.{Batch}
 use Rattle.ndc_event.specs.declared.name.Name.{Name}
-use Rattle.ndc_sets.specs.Learned.{has_key, learned}
-use Rattle.ndc_sets.specs.Sets.{PointsBack, arrived, batch_at, earlier}
-use Rattle.ndc_sets.specs.Sound.{IsSound}
-use Rattle.ndc_waiting.specs.Learning.{with_message, with_messages}
-use Rattle.ndc_waiting.specs.Waiting.{batches_of, freed, still_put_off, IsMessage, IsNewTo}
-use Rattle.ndc_waiting.proofs.LawLemmas.{all_arrived, frees_none, others_put_off}
-use Rattle.ndc_waiting.proofs.LearnLemmas.{found-all-of, learned_is}
-use Rattle.ndc_waiting.proofs.KeptLemmas.{both-back}
-use Rattle.ndc_workflow.specs.Allowed.{MayWrite, MayWriteAll}
-use Rattle.ndc_workflow.specs.Learnable.{HasSmallIds, carrying}
-use Rattle.ndc_workflow.specs.Workflow.{WorkflowValue, IsWorkflow, workflow_of}
-use Rattle.ndc_workflow.proofs.CellLemmas.{written_same}
-use Rattle.ndc_workflow.proofs.WriteLemmas.{CanBeWritten}
-use Rattle.ndc_workflows.specs.Workflows.{IsOwn}
-use Rattle.ndc_workflows.specs.Writing.{MayBeWritten}
-use Rattle.ndc_workflows.proofs.OwnLemmas.{own-written}
-use Rattle.ndc_workflows.proofs.SameLemmas.{of-names}
+use Rattle.ndc_model_sets.specs.Learned.{has_key, learned}
+use Rattle.ndc_model_sets.specs.Sets.{PointsBack, arrived, batch_at, earlier}
+use Rattle.ndc_model_sets.specs.Sound.{IsSound}
+use Rattle.ndc_shard_waiting.specs.Learning.{with_message, with_messages}
+use Rattle.ndc_model_cells.specs.Messages.{batches_of, IsMessage, IsNewTo, HasSmallIds, carrying}
+use Rattle.ndc_shard_waiting.specs.Waiting.{freed, still_put_off}
+use Rattle.ndc_shard_waiting.proofs.LawLemmas.{all_arrived, frees_none, others_put_off}
+use Rattle.ndc_shard_waiting.proofs.LearnLemmas.{found-all-of, learned_is}
+use Rattle.ndc_shard_waiting.proofs.KeptLemmas.{both-back}
+use Rattle.ndc_model_cells.specs.Allowed.{MayWrite, MayWriteAll}
+use Rattle.ndc_model_cells.specs.Workflow.{WorkflowValue, workflow_of}
+use Rattle.ndc_shard_workflows.specs.Workflow.{IsWorkflow}
+use Rattle.ndc_shard_workflows.proofs.CellLemmas.{written_same}
+use Rattle.ndc_shard_workflows.proofs.OneWriteLemmas.{CanBeWritten}
+use Rattle.ndc_shard_workflows.specs.Workflows.{IsOwn}
+use Rattle.ndc_shard_workflows.specs.Writing.{MayBeWritten}
+use Rattle.ndc_shard_workflows.proofs.OwnLemmas.{own-written}
+use Rattle.ndc_shard_workflows.proofs.SameLemmas.{of-names}
 use Rattle.ndc_shard.specs.Shards.{AreWritable, IsFit}
 
 module _ (domain workflow : Name) (entry : Entry) (cell : Cell) (fit : IsFit domain workflow cell)

@@ -1,11 +1,11 @@
 -- What a cell has written is nothing to what arrives there.
 use Rattle.std.proofs.Common.{◌≡◌, Bool, true, false, List, refl, sym, subst}
 use Rattle.std.specs.Prelude.{if◌then◌else◌}
-use Rattle.ndc_cells.specs.declared.message.Message.{Message}
-use Rattle.ndc_cells.specs.Arrival.{arrival_of, arrived_at, cell_with, has_arrived, learned_by}
-use Rattle.ndc_cells.specs.Cells.{Cell, learned_of}
-use Rattle.ndc_sets.specs.Sound.{IsSound}
-use Rattle.ndc_workflow.specs.Allowed.{MayArrive}
+use Rattle.ndc_model_cells.specs.declared.message.Message.{Message}
+use Rattle.ndc_model_cells.specs.Arrival.{arrival_of, arrived_at, cell_with, has_arrived, learned_by}
+use Rattle.ndc_model_cells.specs.Cells.{Cell, learned_of}
+use Rattle.ndc_model_sets.specs.Sound.{IsSound}
+use Rattle.ndc_model_cells.specs.Allowed.{MayArrive}
 use Rattle.ndc_shard.specs.Shards.{having_written}
 
 module _ (sent : Message) (messages : List Message) (cell : Cell) where

@@ -2,23 +2,24 @@
 use Rattle.std.proofs.Common.{◌≡◌, List, [], ◌∷◌, ◌++◌, Option, Some, map, refl, sym, ◌∙◌, subst, ap}
 use Rattle.std.specs.Prelude.{is_some, unwrap_or}
 use Rattle.std.specs.List.{AllByRecursion}
-use Rattle.ndc_cells.specs.Cells.{Cell, arrived_of, missing_of}
-use Rattle.ndc_cells.specs.Places.{batch_there, is_of}
+use Rattle.ndc_model_cells.specs.Cells.{Cell, arrived_of, missing_of}
+use Rattle.ndc_model_cells.specs.Places.{batch_there, is_of}
 use Rattle.ndc_event.specs.Key.{key_eq}
 use Rattle.ndc_event.specs.declared.batch.Batch.{Batch}
 use Rattle.ndc_event.specs.declared.key.BatchKey.{BatchKey}
 use Rattle.ndc_event.specs.declared.name.Name.{Name}
-use Rattle.ndc_links.specs.Lacking.{all_lacking, lacking_of}
-use Rattle.ndc_links.specs.declared.reads.Lacking.{Lacking}
-use Rattle.ndc_sets.specs.Sets.{batch_at}
+use Rattle.ndc_cluster_reads.specs.Lacking.{all_lacking, lacking_of}
+use Rattle.ndc_cluster_reads.specs.declared.reads.Lacking.{Lacking}
+use Rattle.ndc_model_sets.specs.Sets.{batch_at}
 use Rattle.ndc_shard.specs.Lacking.{first_in, lacking_there}
-use Rattle.ndc_waiting.specs.Waiting.{batches_of}
-use Rattle.ndc_waiting.specs.declared.waiting.PutOff.{PutOff}
-use Rattle.ndc_waiting.proofs.FreeLemmas.{all-there}
-use Rattle.ndc_workflow.proofs.CellLemmas.{find-filter}
-use Rattle.ndc_workflow.specs.Workflow.{WorkflowValue, IsWorkflow, all_missing, has_arrived, put_off_in, workflow_of}
-use Rattle.ndc_workflow.proofs.PutOffLemmas.{put_off_waits}
-use Rattle.ndc_workflows.proofs.WaitLemmas.{off-own}
+use Rattle.ndc_model_cells.specs.Messages.{batches_of}
+use Rattle.ndc_shard_waiting.specs.declared.waiting.PutOff.{PutOff}
+use Rattle.ndc_shard_waiting.proofs.FreeLemmas.{all-there}
+use Rattle.ndc_shard_workflows.proofs.CellLemmas.{find-filter}
+use Rattle.ndc_model_cells.specs.Workflow.{WorkflowValue, workflow_of}
+use Rattle.ndc_shard_workflows.specs.Workflow.{IsWorkflow, all_missing, has_arrived, put_off_in}
+use Rattle.ndc_shard_workflows.proofs.PutOffLemmas.{put_off_waits}
+use Rattle.ndc_shard_workflows.proofs.WaitLemmas.{off-own}
 
 -- whether a batch has arrived at a place is whether it has in the place's workflow
 pub arrived-there : (d w : Name) (key : BatchKey) (cell : Cell) → has_arrived key (workflow_of d w cell) ≡ is_some (batch_there cell.arrived (record { domain = d; workflow = w; key = key }))

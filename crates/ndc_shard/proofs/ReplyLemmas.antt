@@ -1,8 +1,8 @@
 -- What a command or a reset replies, and the cell behind it.
 use Rattle.std.proofs.Common.{◌≡◌, ◌≢◌, List, Result, Ok, Err, IfErr, OnOk, refl, sym, ◌∙◌, ap}
-use Rattle.ndc_cells.specs.Cells.{Cell}
-use Rattle.ndc_cells.specs.Jobs.{written_at, written_now, written_outcome}
-use Rattle.ndc_cells.specs.Writing.{Entry}
+use Rattle.ndc_model_cells.specs.Cells.{Cell}
+use Rattle.ndc_model_cells.specs.Jobs.{written_at, written_now, written_outcome}
+use Rattle.ndc_model_cells.specs.Writing.{Entry}
 use Rattle.ndc_command.specs.declared.refusal.CommandError.{CommandError}
 use Rattle.ndc_command.specs.declared.refusal.CommandError.TheVariants.{Memory, Refused}
 use Rattle.ndc_event.specs.Outcome.{Gives}

@@ -1,11 +1,11 @@
 -- Room for numbers where a cell may be asked to write.
 use Rattle.std.proofs.Common.{◌≡◌, ◌≤◌, ◌+◌, ◌^◌, List, [], Option, Some, None, IfSome, length, sym, subst, arith}
-use Rattle.ndc_cells.specs.Writing.{greatest_task, state_under}
+use Rattle.ndc_model_cells.specs.Writing.{greatest_task, state_under}
 use Rattle.ndc_event.specs.declared.batch.Batch.{Batch}
-use Rattle.ndc_sets.specs.Branches.{workflow_tip}
-use Rattle.ndc_sets.specs.Current.{strays}
+use Rattle.ndc_model_sets.specs.Branches.{workflow_tip}
+use Rattle.ndc_model_sets.specs.Current.{strays}
 use Rattle.ndc_state.specs.Value.{StateValue}
-use Rattle.ndc_workflow.specs.Allowed.{HasRoom}
+use Rattle.ndc_model_cells.specs.Allowed.{HasRoom}
 
 pub tasks-few : (batches known : List Batch) → batches ≡ known → HasRoom known → greatest_task batches ≤ 10 ^ 12
 tasks-few batches known e room = subst (λ (l : List Batch). greatest_task l ≤ 10 ^ 12) (sym e) (let most = room.tasks in omega (arith, most))

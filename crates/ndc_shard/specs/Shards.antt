@@ -1,20 +1,21 @@
 -- Words for a shard.
 use Rattle.std.specs.Prelude.{List, [], ◌∷◌, Result, Ok, Err}
-use Rattle.ndc_cells.specs.declared.job.JobReply.{JobReply}
-use Rattle.ndc_cells.specs.declared.job.Outcome.TheVariants as outcome
-use Rattle.ndc_cells.specs.declared.message.Message.{Message}
-use Rattle.ndc_cells.specs.Cells.{Cell, IsCell, learned_of}
-use Rattle.ndc_cells.specs.Jobs.{all_batches, keys_written}
-use Rattle.ndc_cells.specs.Writing.{Entry, with_written}
+use Rattle.ndc_model_cells.specs.declared.job.JobReply.{JobReply}
+use Rattle.ndc_model_cells.specs.declared.job.Outcome.TheVariants as outcome
+use Rattle.ndc_model_cells.specs.declared.message.Message.{Message}
+use Rattle.ndc_model_cells.specs.Cells.{Cell, IsCell, learned_of}
+use Rattle.ndc_model_cells.specs.Jobs.{all_batches, keys_written}
+use Rattle.ndc_model_cells.specs.Writing.{Entry, with_written}
 use Rattle.ndc_command.specs.declared.refusal.CommandError.{CommandError}
 use Rattle.ndc_command.specs.declared.refusal.CommandError.TheVariants.{Memory, Refused}
 use Rattle.ndc_event.specs.Outcome.{◌>>=◌}
 use Rattle.ndc_event.specs.declared.batch.Batch.{Batch}
 use Rattle.ndc_event.specs.declared.name.Name.{Name}
-use Rattle.ndc_sets.specs.Sound.{IsSound}
-use Rattle.ndc_workflow.specs.Learnable.{carrying}
-use Rattle.ndc_workflow.specs.Workflow.{IsWorkflow, workflow_of}
-use Rattle.ndc_workflows.specs.Writing.{MayBeWritten}
+use Rattle.ndc_model_sets.specs.Sound.{IsSound}
+use Rattle.ndc_model_cells.specs.Messages.{carrying}
+use Rattle.ndc_shard_workflows.specs.Workflow.{IsWorkflow}
+use Rattle.ndc_model_cells.specs.Workflow.{workflow_of}
+use Rattle.ndc_shard_workflows.specs.Writing.{MayBeWritten}
 
 -- the cell that has written these messages
 abbrev pub having_written : List Message → Cell → Cell

@@ -1,14 +1,14 @@
 -- One cluster, which writes with version 1, and its record of a domain.
 use Rattle.std.specs.Prelude.{List, [], ◌∷◌, None, codes}
-use Rattle.ndc_cells.specs.declared.job.Job.{Job}
-use Rattle.ndc_cells.specs.declared.job.Job.TheVariants as job
-use Rattle.ndc_cells.specs.declared.message.Message.{Message}
-use Rattle.ndc_cells.specs.Writing.{Home}
+use Rattle.ndc_model_cells.specs.declared.job.Job.{Job}
+use Rattle.ndc_model_cells.specs.declared.job.Job.TheVariants as job
+use Rattle.ndc_model_cells.specs.declared.message.Message.{Message}
+use Rattle.ndc_model_cells.specs.Writing.{Home}
 use Rattle.ndc_command.specs.declared.command.Command.TheVariants.{Start}
 use Rattle.ndc_domain.specs.Clusters.{ClusterList, cluster_no}
 use Rattle.ndc_domain.specs.declared.record.DomainRecord.{DomainRecord}
-use Rattle.ndc_sets.specs.Worked.{begun_again}
-use Rattle.ndc_workflow.specs.Learnable.{carrying}
+use Rattle.ndc_model_sets.specs.Worked.{begun_again}
+use Rattle.ndc_model_cells.specs.Messages.{carrying}
 
 -- the cluster
 abbrev pub one_cluster : ClusterList

@@ -1,12 +1,12 @@
 ghost use Rattle.std.specs.Prelude.{◌≡◌, ◌≤◌, ◌++◌, ◌^◌, Ok, OnOk};
-ghost use Rattle.ndc_cells.specs.Writing.{as_command_error, batches_in, command_entries, greatest_task};
+ghost use Rattle.ndc_model_cells.specs.Writing.{as_command_error, batches_in, command_entries, greatest_task};
 ghost use Rattle.ndc_command.specs.declared.refusal.CommandError.TheVariants.{Memory};
 ghost use Rattle.ndc_event.specs.Outcome.{Gives};
 
 use ndc_command::{Command, CommandError, Refusal};
-use ndc_entries::{Entry, command_entry};
 use ndc_event::{Batch, Name};
-use ndc_runs::Runs;
+use ndc_shard_entries::{Entry, command_entry};
+use ndc_shard_runs::Runs;
 use std::alloc::{AllocError, Global};
 
 /// A refusal to write as that of a command.

@@ -1,26 +1,26 @@
 ghost use Rattle.std.specs.Prelude.{◌≡◌, ◌≢◌, Err, IfOk, OnOk};
-ghost use Rattle.ndc_cells.specs.Jobs.{after_job, keys_written, reply_to, workflows_of};
-ghost use Rattle.ndc_cells.specs.Writing.{command_of, reset_at};
-ghost use Rattle.ndc_cells.specs.declared.job.Job.TheVariants.{Arrive, Command as Commanded, Reapply, Reset};
+ghost use Rattle.ndc_model_cells.specs.Jobs.{after_job, keys_written, reply_to, workflows_of};
+ghost use Rattle.ndc_model_cells.specs.Writing.{command_of, reset_at};
+ghost use Rattle.ndc_model_cells.specs.declared.job.Job.TheVariants.{Arrive, Command as Commanded, Reapply, Reset};
 ghost use Rattle.ndc_command.specs.declared.refusal.CommandError.TheVariants.{Memory};
 ghost use Rattle.ndc_shard.specs.Shards.{reply_of};
-ghost use Rattle.ndc_workflow.specs.Allowed.{MayArrive, MayBeAsked, MayReapply};
+ghost use Rattle.ndc_model_cells.specs.Allowed.{MayArrive, MayBeAsked, MayReapply};
 
 use crate::shard::Shard;
-use ndc_cells::{Job, JobReply, Message, Outcome, Written};
+use ndc_cluster_rounds::{Desk, Works};
 use ndc_command::{Command, CommandError};
 use ndc_event::{Batch, Name};
-use ndc_rounds::{Desk, Works};
-use ndc_sets::Batches;
+use ndc_model_cells::{Job, JobReply, Message, Outcome, Written};
+use ndc_model_sets::Batches;
+use ndc_shard_workflows::Arrival;
 use ndc_state::Steps;
-use ndc_workflow::Arrival;
 use std::alloc::{AllocError, Global};
 
 /// Marks the counters of steps that jobs take.
 struct Jobs;
 
 impl Works for Shard {
-    ghost use Rattle.ndc_workflow.specs.Allowed.{IsAllowed};
+    ghost use Rattle.ndc_model_cells.specs.Allowed.{IsAllowed};
 
     ghost cell = { λ shard. shard };
 
@@ -63,7 +63,7 @@ fn do_command(
 }
 
 /// A message arrives.
-#[tactic(auto, unfolding(ndc_cells::specs::Jobs::after_job, ndc_cells::specs::Jobs::outcome_of, ndc_cells::specs::Jobs::learned_in))]
+#[tactic(auto, unfolding(ndc_model_cells::specs::Jobs::after_job, ndc_model_cells::specs::Jobs::outcome_of, ndc_model_cells::specs::Jobs::learned_in))]
 fn do_arrive(shard: &mut Shard, desk: &Desk, message: &Message) -> Result<JobReply, AllocError>
     requires { MayArrive message.now shard.old }
     ensures cell { OnOk result (shard.new ≡ after_job desk.now (Arrive message.now) shard.old) }
@@ -79,7 +79,7 @@ fn do_arrive(shard: &mut Shard, desk: &Desk, message: &Message) -> Result<JobRep
 }
 
 /// Strays are applied again in each workflow.
-#[tactic(auto, unfolding(ndc_cells::specs::Jobs::after_job, ndc_cells::specs::Jobs::outcome_of, ndc_cells::specs::Jobs::learned_in))]
+#[tactic(auto, unfolding(ndc_model_cells::specs::Jobs::after_job, ndc_model_cells::specs::Jobs::outcome_of, ndc_model_cells::specs::Jobs::learned_in))]
 fn do_reapply(shard: &mut Shard, desk: &Desk) -> Result<JobReply, AllocError>
     requires { MayReapply desk.now (workflows_of shard.old.arrived) shard.old }
     ensures cell { OnOk result (shard.new ≡ after_job desk.now Reapply shard.old) }

@@ -1,12 +1,12 @@
 ghost use Rattle.std.specs.Prelude.{◌≡◌, map, IfOk};
 ghost use Rattle.std.specs.Option.{option_copied};
-ghost use Rattle.ndc_links.specs.Lacking.{lacking_of};
+ghost use Rattle.ndc_cluster_reads.specs.Lacking.{lacking_of};
 ghost use Rattle.ndc_shard.specs.Lacking.{first_in};
-ghost use Rattle.ndc_workflow.specs.Workflow.{IsWorkflow, put_off_in};
+ghost use Rattle.ndc_shard_workflows.specs.Workflow.{IsWorkflow, put_off_in};
 
+use ndc_cluster_reads::Lacking;
 use ndc_event::Batch;
-use ndc_links::Lacking;
-use ndc_workflow::Workflow;
+use ndc_shard_workflows::Workflow;
 use std::alloc::{AllocError, Global};
 
 /// What is put off of a workflow, in key order, and what each batch lacks. In time of the put-off batches times the

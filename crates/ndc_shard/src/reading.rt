@@ -1,10 +1,11 @@
 use crate::lacking::lacking_in;
 use crate::shard::Shard;
-use ndc_cells::{Message, Place};
+use ndc_cluster_links::{Learns, Serves, Writes};
+use ndc_cluster_reads::{Lacking, Reads};
 use ndc_event::{BatchKey, Name};
-use ndc_links::{Lacking, Learns, Reads, Serves, Writes};
-use ndc_messages::{message_there, messages_of};
-use ndc_runs::Runs;
+use ndc_model_cells::{Message, Place};
+use ndc_shard_runs::Runs;
+use ndc_shard_workflows::{message_there, messages_of};
 use std::alloc::{AllocError, Global};
 
 impl Learns for Shard {

@@ -1,15 +1,14 @@
 use crate::asking::{as_command_error, command_entries, push_batches};
 use crate::writing::write_in;
-use ndc_cells::Message;
+use ndc_cluster_rounds::Desk;
 use ndc_command::{Command, CommandError, Refusal};
-use ndc_entries::{Entry, may_write, reapplication_entry, reset_entries};
 use ndc_event::{Batch, Name};
-use ndc_rounds::Desk;
-use ndc_runs::Runs;
-use ndc_sets::Batches;
+use ndc_model_cells::Message;
+use ndc_model_sets::Batches;
+use ndc_shard_entries::{Entry, may_write, reapplication_entry, reset_entries};
+use ndc_shard_runs::Runs;
+use ndc_shard_workflows::{Arrival, Workflows};
 use ndc_state::Steps;
-use ndc_workflow::Arrival;
-use ndc_workflows::Workflows;
 use std::alloc::{AllocError, Global};
 use std::marker::Model;
 
@@ -21,7 +20,7 @@ pub struct Shard {
 }
 
 impl Model for Shard {
-    ghost use Rattle.ndc_cells.specs.Cells.{Cell};
+    ghost use Rattle.ndc_model_cells.specs.Cells.{Cell};
     ghost use Rattle.ndc_shard.specs.Shards.{having_written};
 
     ghost Value = { Cell };
@@ -41,22 +40,22 @@ impl Drop for Shard {
 
 impl Shard {
     ghost use Rattle.std.specs.Prelude.{◌≡◌, ◌≢◌, ◌<◌, ◌++◌, [], length, option_to_list, slice_get, Some, IfSome, IfNone, IfOk, IfErr, OnOk};
-    ghost use Rattle.ndc_cells.specs.Arrival.{arrival_of, arrived_at, learned_by};
-    ghost use Rattle.ndc_cells.specs.Cells.{empty_cell, learned_of};
-    ghost use Rattle.ndc_cells.specs.Jobs.{all_batches, reapplied_in, reapplied_now, workflows_of, written_at};
-    ghost use Rattle.ndc_cells.specs.Writing.{command_of, may_write, reapplication_below, reapplication_of, reset_at, with_all_written, with_written};
+    ghost use Rattle.ndc_model_cells.specs.Arrival.{arrival_of, arrived_at, learned_by};
+    ghost use Rattle.ndc_model_cells.specs.Cells.{empty_cell, learned_of};
+    ghost use Rattle.ndc_model_cells.specs.Jobs.{all_batches, reapplied_in, reapplied_now, workflows_of, written_at};
+    ghost use Rattle.ndc_model_cells.specs.Writing.{command_of, may_write, reapplication_below, reapplication_of, reset_at, with_all_written, with_written};
     ghost use Rattle.ndc_command.specs.declared.refusal.CommandError.TheVariants.{Memory};
     ghost use Rattle.ndc_event.specs.Outcome.{Gives};
-    ghost use Rattle.ndc_runs.specs.Kept.{is_due};
-    ghost use Rattle.ndc_sets.specs.Branches.{workflow_tip};
-    ghost use Rattle.ndc_sets.specs.Current.{strays};
-    ghost use Rattle.ndc_sets.specs.Learned.{has_key};
+    ghost use Rattle.ndc_shard_runs.specs.Kept.{is_due};
+    ghost use Rattle.ndc_model_sets.specs.Branches.{workflow_tip};
+    ghost use Rattle.ndc_model_sets.specs.Current.{strays};
+    ghost use Rattle.ndc_model_sets.specs.Learned.{has_key};
     ghost use Rattle.ndc_shard.specs.Shards.{AreWritable, IsFit, batches_written, having_written};
-    ghost use Rattle.ndc_workflow.specs.Allowed.{HasRoom, MayArrive, MayBeAsked, MayReapply, MayWriteAll};
-    ghost use Rattle.ndc_workflow.specs.Learnable.{carrying};
-    ghost use Rattle.ndc_workflow.specs.Workflow.{workflow_of};
-    ghost use Rattle.ndc_workflows.specs.Reapplied.{MayReapplyAmong, reapplied_among, reapplied_at, written_among};
-    ghost use Rattle.ndc_workflows.specs.Writing.{MayBeWritten};
+    ghost use Rattle.ndc_model_cells.specs.Allowed.{HasRoom, MayArrive, MayBeAsked, MayReapply, MayWriteAll};
+    ghost use Rattle.ndc_model_cells.specs.Messages.{carrying};
+    ghost use Rattle.ndc_model_cells.specs.Workflow.{workflow_of};
+    ghost use Rattle.ndc_shard_workflows.specs.Reapplied.{MayReapplyAmong, reapplied_among, reapplied_at, written_among};
+    ghost use Rattle.ndc_shard_workflows.specs.Writing.{MayBeWritten};
 
     /// Nothing has happened.
     pub fn new(alloc: Global) -> Shard
@@ -98,7 +97,7 @@ impl Shard {
         Some(self.workflows.find(domain, workflow)?.runs())
     }
 
-    /// The version with which the cell may write to a workflow, or why it may not, as [`ndc_entries::may_write`] says.
+    /// The version with which the cell may write to a workflow, or why it may not, as [`ndc_shard_entries::may_write`] says.
     pub fn may_write(&self, desk: &Desk, domain: &Name, workflow: &Name) -> Result<u64, Refusal>
         ensures { result ≡ may_write desk.now domain.now workflow.now self.now }
     {
@@ -162,7 +161,7 @@ impl Shard {
     }
 
     /// What a command writes.
-    #[tactic(auto, unfolding(ndc_cells::specs::Writing::command_of))]
+    #[tactic(auto, unfolding(ndc_model_cells::specs::Writing::command_of))]
     fn command_entries(
         &self,
         desk: &Desk,
@@ -187,7 +186,7 @@ impl Shard {
     }
 
     /// What a reset writes.
-    #[tactic(auto, unfolding(ndc_cells::specs::Writing::reset_at))]
+    #[tactic(auto, unfolding(ndc_model_cells::specs::Writing::reset_at))]
     fn reset_entries(
         &self,
         desk: &Desk,
@@ -284,7 +283,7 @@ impl Shard {
     }
 
     /// What reapplication writes to a workflow.
-    #[tactic(auto, unfolding(ndc_cells::specs::Writing::reapplication_of))]
+    #[tactic(auto, unfolding(ndc_model_cells::specs::Writing::reapplication_of))]
     fn reapplication(
         &mut self,
         desk: &Desk,

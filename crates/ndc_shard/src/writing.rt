@@ -1,18 +1,18 @@
 ghost use Rattle.std.specs.Prelude.{◌≡◌, [], ◌∷◌, ◌++◌, IfOk, OnOk};
-ghost use Rattle.ndc_cells.specs.Cells.{learned_of};
-ghost use Rattle.ndc_cells.specs.Writing.{entry_message, with_batches};
-ghost use Rattle.ndc_sets.specs.Paths.{events_to, versions_of};
-ghost use Rattle.ndc_workflow.specs.Learnable.{carrying};
-ghost use Rattle.ndc_workflow.specs.Workflow.{workflow_of};
-ghost use Rattle.ndc_workflows.specs.Writing.{MayBeWritten};
+ghost use Rattle.ndc_model_cells.specs.Cells.{learned_of};
+ghost use Rattle.ndc_model_cells.specs.Writing.{entry_message, with_batches};
+ghost use Rattle.ndc_model_sets.specs.Paths.{events_to, versions_of};
+ghost use Rattle.ndc_model_cells.specs.Messages.{carrying};
+ghost use Rattle.ndc_model_cells.specs.Workflow.{workflow_of};
+ghost use Rattle.ndc_shard_workflows.specs.Writing.{MayBeWritten};
 
-use ndc_cells::Message;
-use ndc_entries::Entry;
 use ndc_event::{Batch, BatchKey};
 use ndc_history::VersionHistory;
-use ndc_runs::Runs;
+use ndc_model_cells::Message;
+use ndc_shard_entries::Entry;
+use ndc_shard_runs::Runs;
+use ndc_shard_workflows::Workflows;
 use ndc_state::Steps;
-use ndc_workflows::Workflows;
 use std::alloc::{AllocError, Global};
 
 /// The version history of the path to the batch of this key; no version where it is not learned.

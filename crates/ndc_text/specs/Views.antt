@@ -7,14 +7,14 @@ use Rattle.ndc_event.specs.declared.key.BatchKey.{BatchKey}
 use Rattle.ndc_event.specs.declared.key.RunId.{RunId}
 use Rattle.ndc_event.specs.declared.name.Name.{Name}
 use Rattle.ndc_history.specs.declared.item.Item.{Item}
-use Rattle.ndc_sets.specs.Branches.{current_tip, same_run}
-use Rattle.ndc_sets.specs.Learned.{has_key}
-use Rattle.ndc_sets.specs.Paths.{first_id, last_id, path_to}
-use Rattle.ndc_sets.specs.declared.view.BranchView.{BranchView}
-use Rattle.ndc_sets.specs.declared.view.RunStatus.{RunStatus}
-use Rattle.ndc_sets.specs.declared.view.RunStatus.TheVariants as status
-use Rattle.ndc_sets.specs.declared.view.RunView.{RunView}
-use Rattle.ndc_sets.specs.declared.view.View.{View}
+use Rattle.ndc_model_sets.specs.Branches.{current_tip, same_run}
+use Rattle.ndc_model_sets.specs.Learned.{has_key}
+use Rattle.ndc_model_sets.specs.Paths.{first_id, last_id, path_to}
+use Rattle.ndc_model_sets.specs.declared.view.BranchView.{BranchView}
+use Rattle.ndc_model_sets.specs.declared.view.RunStatus.{RunStatus}
+use Rattle.ndc_model_sets.specs.declared.view.RunStatus.TheVariants as status
+use Rattle.ndc_model_sets.specs.declared.view.RunView.{RunView}
+use Rattle.ndc_model_sets.specs.declared.view.View.{View}
 use Rattle.ndc_state.specs.Text.{state_text}
 use Rattle.ndc_state.specs.declared.rule.CloseKind.{CloseKind}
 use Rattle.ndc_state.specs.declared.rule.CloseKind.TheVariants as close

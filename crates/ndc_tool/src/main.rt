@@ -4,7 +4,7 @@
 
 use ndc_index::{Indexer, KindsIndexer, OpenIndexer, SignalsIndexer};
 use ndc_port::{OpenGate, StdSink, StdSource};
-use ndc_top::ndc_top;
+use ndc_tool_top::ndc_top;
 use std::process::ExitCode;
 use std::thread::Threads;
 use std::{env, io};

@@ -1,7 +1,7 @@
 -- The last of a batch's events.
 use Rattle.std.proofs.Common.{◌≡◌, ℕ, zero, suc, ◌-◌, List, [], ◌∷◌, length, Some, slice_get, refl, ap, sym, ◌∙◌, arith}
 use Rattle.ndc_event.specs.declared.batch.Event.{Event}
-use Rattle.ndc_sets.specs.Paths.{last_from, last_id}
+use Rattle.ndc_model_sets.specs.Paths.{last_from, last_id}
 
 last-up : (first : Event) (events : List Event) (i : ℕ) (event : Event) → length events ≡ i → slice_get (first ∷ events) i ≡ Some event → event ≡ last_from first events
 last-up first [] zero event n h = cc

@@ -7,14 +7,14 @@ use Rattle.ndc_event.specs.declared.batch.Batch.{Batch}
 use Rattle.ndc_event.specs.declared.key.BatchKey.{BatchKey}
 use Rattle.ndc_event.specs.declared.key.RunId.{RunId}
 use Rattle.ndc_event.specs.Batch.{fault_of}
-use Rattle.ndc_sets.specs.Sets.{Rise, batch_at, Has}
-use Rattle.ndc_sets.specs.Learned.{has_key}
-use Rattle.ndc_sets.specs.Paths.{first_id, last_id}
-use Rattle.ndc_sets.specs.Branches.{same_run}
-use Rattle.ndc_sets.proofs.Lists.{Among, all-among}
-use Rattle.ndc_sets.proofs.BranchLemmas.{has-among, run-same}
-use Rattle.ndc_sets.proofs.KeyLemmas.{IsBefore, before-parts, before-from}
-use Rattle.ndc_tree.specs.Last.{is_nil, first_from}
+use Rattle.ndc_model_sets.specs.Sets.{Rise, batch_at, Has}
+use Rattle.ndc_model_sets.specs.Learned.{has_key}
+use Rattle.ndc_model_sets.specs.Paths.{first_id, last_id}
+use Rattle.ndc_model_sets.specs.Branches.{same_run}
+use Rattle.ndc_model_sets.proofs.Lists.{Among, all-among}
+use Rattle.ndc_model_sets.proofs.BranchLemmas.{has-among, run-same}
+use Rattle.ndc_model_sets.proofs.KeyLemmas.{IsBefore, before-parts, before-from}
+use Rattle.ndc_model_sets.specs.Last.{is_nil, first_from}
 use Rattle.ndc_tree.specs.Fitting.{is_of_version, splits_version, goes_on, is_below, fits}
 use Rattle.ndc_tree.specs.Tree.{IsNextOfVersion, IsTree, Joins}
 

@@ -6,13 +6,13 @@ use Rattle.ndc_event.specs.declared.batch.Batch.{Batch}
 use Rattle.ndc_event.specs.declared.key.BatchKey.{BatchKey}
 use Rattle.ndc_event.specs.declared.key.RunId.{RunId}
 use Rattle.ndc_event.specs.Batch.{is_parent_fit, fault_of}
-use Rattle.ndc_sets.specs.Sets.{batch_at, Has, arrived}
-use Rattle.ndc_sets.specs.Learned.{has_key, IsPart}
-use Rattle.ndc_sets.specs.Sound.{AreFaultless, IsParentFit, ParentsFit}
-use Rattle.ndc_sets.proofs.ArrivalLemmas.{arrival_keeps_sets, stays, was_or_new}
-use Rattle.ndc_sets.proofs.FaultLemmas.{passes}
-use Rattle.ndc_sets.proofs.SetLemmas.{found-key, found-has, has-found}
-use Rattle.ndc_sets.proofs.SoundLemmas.{faultless-back}
+use Rattle.ndc_model_sets.specs.Sets.{batch_at, Has, arrived}
+use Rattle.ndc_model_sets.specs.Learned.{has_key, IsPart}
+use Rattle.ndc_model_sets.specs.Sound.{AreFaultless, IsParentFit, ParentsFit}
+use Rattle.ndc_model_sets.proofs.ArrivalLemmas.{arrival_keeps_sets, stays, was_or_new}
+use Rattle.ndc_model_sets.proofs.FaultLemmas.{passes}
+use Rattle.ndc_model_sets.proofs.SetLemmas.{found-key, found-has, has-found}
+use Rattle.ndc_model_sets.proofs.SoundLemmas.{faultless-back}
 use Rattle.ndc_tree.specs.Tree.{HaveParents, AreOfRun, IsNextOfVersion, VersionsFollow, IsTree, Joins}
 
 -- the parent of a batch without a fault has a smaller task

@@ -5,16 +5,16 @@ use Rattle.std.proofs.lemmas.Bool.{and_parts, and_from, lt-ltb, ltb-true}
 use Rattle.ndc_event.specs.Key.{key_lt, key_eq}
 use Rattle.ndc_event.specs.declared.batch.Batch.{Batch}
 use Rattle.ndc_event.specs.declared.key.RunId.{RunId}
-use Rattle.ndc_sets.specs.Sets.{PointsBack, Rise, Has}
-use Rattle.ndc_sets.specs.Paths.{is_wanted, path_to}
-use Rattle.ndc_sets.specs.Branches.{same_run, has_child, tips, leads, current_tip, greatest_key}
-use Rattle.ndc_sets.proofs.KeyLemmas.{IsBefore, before-parts, before-irrefl, before-trans, same-keys, key_eq-self}
-use Rattle.ndc_sets.proofs.SetLemmas.{found-all}
-use Rattle.ndc_sets.proofs.Lists.{Among, all-among, among-filter, filter-among, list_all-each, each-list_all, list_any-none, find-only}
-use Rattle.ndc_sets.proofs.PathLemmas.{parent-back}
-use Rattle.ndc_sets.proofs.BranchLemmas.{has-among, among-has, same-batch, same-run, greatest-of}
-use Rattle.ndc_sets.proofs.CurrentLemmas.{key-wanted, path-child}
-use Rattle.ndc_tree.specs.Last.{last_batch}
+use Rattle.ndc_model_sets.specs.Sets.{PointsBack, Rise, Has}
+use Rattle.ndc_model_sets.specs.Paths.{is_wanted, path_to}
+use Rattle.ndc_model_sets.specs.Branches.{same_run, has_child, tips, leads, current_tip, greatest_key}
+use Rattle.ndc_model_sets.proofs.KeyLemmas.{IsBefore, before-parts, before-irrefl, before-trans, same-keys, key_eq-self}
+use Rattle.ndc_model_sets.proofs.SetLemmas.{found-all}
+use Rattle.ndc_model_sets.proofs.Lists.{Among, all-among, among-filter, filter-among, list_all-each, each-list_all, list_any-none, find-only}
+use Rattle.ndc_model_sets.proofs.PathLemmas.{parent-back}
+use Rattle.ndc_model_sets.proofs.BranchLemmas.{has-among, among-has, same-batch, same-run, greatest-of}
+use Rattle.ndc_model_sets.proofs.CurrentLemmas.{key-wanted, path-child}
+use Rattle.ndc_model_sets.specs.Last.{last_batch}
 use Rattle.ndc_tree.specs.Tree.{IsTree}
 use Rattle.ndc_tree.proofs.PathLemmas.{path_is, path-rise, chain}
 

@@ -1,39 +1,19 @@
 -- Batches under their keys.
-use Rattle.std.proofs.Common.{◌≡◌, ℕ, zero, suc, ◌-◌, Bool, true, false, not, nat_lt, ◌&&◌, ◌||◌, ◌==◌, List, [], ◌∷◌, length, cond, Option, Some, None, slice_get, if◌then◌else◌, refl, ap, sym, ◌∙◌, subst, arith}
-use Rattle.std.proofs.lemmas.Bool.Decides.{nat_tests}
+use Rattle.std.proofs.Common.{◌≡◌, ℕ, zero, suc, ◌-◌, Bool, true, false, not, ◌&&◌, List, [], ◌∷◌, length, cond, Option, Some, None, slice_get, refl, ap, sym, ◌∙◌, subst, arith}
 use Rattle.std.specs.Option.{option_or}
 use Rattle.std.specs.BTreeMap.{insert_entry, is_at}
 use Rattle.std.specs.Map.{values_of, lookup}
-use Rattle.std.specs.Ordering.{nat_cmp, ordering_then, is_eq, is_le}
+use Rattle.std.specs.Ordering.{is_eq, is_le}
 use Rattle.std.specs.List.{filter}
 use Rattle.std.specs.declared.cmp.Ordering.{Ordering}
-use Rattle.std.specs.declared.cmp.Ordering.TheVariants.{Less, Equal, Greater}
 use Rattle.ndc_event.specs.Key.{key_lt, key_eq}
 use Rattle.ndc_event.specs.declared.batch.Batch.{Batch}
 use Rattle.ndc_event.specs.declared.key.BatchKey.{BatchKey}
-use Rattle.ndc_sets.specs.Sets.{batch_at, arrived}
-use Rattle.ndc_sets.proofs.KeyLemmas.{key_eq-self, same-keys}
-use Rattle.ndc_tree.specs.Last.{first_from, last_batch}
+use Rattle.ndc_model_sets.specs.Sets.{batch_at, arrived}
+use Rattle.ndc_model_sets.proofs.KeyLemmas.{key_eq-self, same-keys}
+use Rattle.ndc_model_sets.specs.Last.{first_from, last_batch}
 use Rattle.ndc_tree.specs.Fields.{by_key}
-
--- how two keys compare
-abbrev pub key_cmp : BatchKey → BatchKey → Ordering
-key_cmp one two = if key_lt one two then Less else if key_eq one two then Equal else Greater
-
-numbers-cmp : (a b x y : ℕ) → ordering_then (nat_cmp a x) (nat_cmp b y)
-    ≡ (if nat_lt a x || (a == x) && nat_lt b y then Less else if (a == x) && (b == y) then Equal else Greater)
-numbers-cmp a b x y = grind (arith, nat_tests)
-
--- by version, then by task
-pub key_cmp-by : (one two : BatchKey) → ordering_then (nat_cmp one.version two.version) (nat_cmp one.task two.task) ≡ key_cmp one two
-key_cmp-by one two = numbers-cmp one.version one.task two.version two.task
-
-numbers-same : (a b x y : ℕ) → is_eq (if nat_lt a x || (a == x) && nat_lt b y then Less else if (a == x) && (b == y) then Equal else Greater) ≡ ((x == a) && (y == b))
-numbers-same a b x y = grind (arith, nat_tests)
-
--- keys that compare as one are one
-pub key_cmp-same : (key other : BatchKey) → is_eq (key_cmp key other) ≡ key_eq other key
-key_cmp-same key other = numbers-same key.version key.task other.version other.task
+use Rattle.ndc_model_sets.proofs.KeyOrder.{key_cmp, key_cmp-same, key_cmp-from}
 
 -- the batches of those under their keys are the batches
 pub values_of-by_key : (batches : List Batch) → values_of (by_key batches) ≡ batches
@@ -93,12 +73,6 @@ last-at (e ∷ entries) key b h = last-up (e ∷ entries) (length entries) key b
 abbrev pub first_batch : List (BatchKey × Batch) → Option Batch
 first_batch [] = None
 first_batch (e ∷ entries) = Some e.1
-
-numbers-from : (a b x y : ℕ) → is_le (if nat_lt a x || (a == x) && nat_lt b y then Less else if (a == x) && (b == y) then Equal else Greater) ≡ not (nat_lt x a || (x == a) && nat_lt y b)
-numbers-from a b x y = grind (arith, nat_tests)
-
-pub key_cmp-from : (key other : BatchKey) → is_le (key_cmp key other) ≡ not (key_lt other key)
-key_cmp-from key other = numbers-from key.version key.task other.version other.task
 
 module _ (cmp : BatchKey → BatchKey → Ordering) (law : (a b : BatchKey) → cmp a b ≡ key_cmp a b) where
   first-by_key : (key : BatchKey) (batches : List Batch) → first_batch (filter (λ e. is_le (cmp key e.0) && not false) (by_key batches)) ≡ first_from key batches

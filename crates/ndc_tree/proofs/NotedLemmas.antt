@@ -6,16 +6,16 @@ use Rattle.ndc_event.specs.declared.batch.Batch.{Batch}
 use Rattle.ndc_event.specs.declared.key.BatchKey.{BatchKey}
 use Rattle.ndc_event.specs.declared.key.RunId.{RunId}
 use Rattle.ndc_history.specs.declared.item.Item.{Item}
-use Rattle.ndc_sets.specs.Learned.{has_key}
-use Rattle.ndc_sets.specs.Paths.{versions_of}
-use Rattle.ndc_sets.specs.Sets.{Has, arrived, batch_at}
-use Rattle.ndc_sets.proofs.ArrivalLemmas.{stays}
-use Rattle.ndc_sets.proofs.SetLemmas.{found-has, found-key, has-found}
+use Rattle.ndc_model_sets.specs.Learned.{has_key}
+use Rattle.ndc_model_sets.specs.Paths.{versions_of}
+use Rattle.ndc_model_sets.specs.Sets.{Has, arrived, batch_at}
+use Rattle.ndc_model_sets.proofs.ArrivalLemmas.{stays}
+use Rattle.ndc_model_sets.proofs.SetLemmas.{found-has, found-key, has-found}
 use Rattle.ndc_state.specs.Replay.{history_of}
 use Rattle.ndc_tree.specs.Inserting.{end_of}
-use Rattle.ndc_tree.specs.Last.{first_from, last_batch}
+use Rattle.ndc_model_sets.specs.Last.{first_from, last_batch}
 use Rattle.ndc_tree.specs.Noted.{BeginsEach, IsNoted}
-use Rattle.ndc_tree.specs.Reading.{elder_of, items_of, named, parent_of}
+use Rattle.ndc_model_sets.specs.Reading.{elder_of, items_of, named, parent_of}
 use Rattle.ndc_tree.specs.Tree.{IsTree, Joins}
 use Rattle.ndc_tree.proofs.GrowLemmas.{grown_is_tree}
 use Rattle.ndc_tree.proofs.LastLemmas.{last-has}

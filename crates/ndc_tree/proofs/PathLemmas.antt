@@ -5,16 +5,16 @@ use Rattle.std.proofs.lemmas.Bool.{cases_lt}
 use Rattle.ndc_event.specs.declared.batch.Batch.{Batch}
 use Rattle.ndc_event.specs.declared.key.BatchKey.{BatchKey}
 use Rattle.ndc_event.specs.declared.key.RunId.{RunId}
-use Rattle.ndc_sets.specs.Sets.{Rise, batch_at, Has}
-use Rattle.ndc_sets.specs.Learned.{has_key, IsPart}
-use Rattle.ndc_sets.specs.Paths.{path_to, IsPath, first, below}
-use Rattle.ndc_sets.specs.Sound.{VersionsAreChains}
-use Rattle.ndc_sets.proofs.KeyLemmas.{key-parts}
-use Rattle.ndc_sets.proofs.SetLemmas.{found-key, found-has}
-use Rattle.ndc_sets.proofs.Lists.{Among}
-use Rattle.ndc_sets.proofs.PathLemmas.{path-below, path-first, one-path, path-more}
-use Rattle.ndc_sets.proofs.BranchLemmas.{among-has, same-batch}
-use Rattle.ndc_sets.proofs.ForkLemmas.{among-left, among-right, path-rises}
+use Rattle.ndc_model_sets.specs.Sets.{Rise, batch_at, Has}
+use Rattle.ndc_model_sets.specs.Learned.{has_key, IsPart}
+use Rattle.ndc_model_sets.specs.Paths.{path_to, IsPath, first, below}
+use Rattle.ndc_model_sets.specs.Sound.{VersionsAreChains}
+use Rattle.ndc_model_sets.proofs.KeyLemmas.{key-parts}
+use Rattle.ndc_model_sets.proofs.SetLemmas.{found-key, found-has}
+use Rattle.ndc_model_sets.proofs.Lists.{Among}
+use Rattle.ndc_model_sets.proofs.PathLemmas.{path-below, path-first, one-path, path-more}
+use Rattle.ndc_model_sets.proofs.BranchLemmas.{among-has, same-batch}
+use Rattle.ndc_model_sets.proofs.ForkLemmas.{among-left, among-right, path-rises}
 use Rattle.ndc_tree.specs.Tree.{IsNextOfVersion, IsTree}
 use Rattle.ndc_tree.proofs.GrowLemmas.{parent-task}
 

@@ -7,12 +7,12 @@ use Rattle.ndc_event.specs.declared.batch.Batch.{Batch}
 use Rattle.ndc_event.specs.declared.key.RunId.{RunId}
 use Rattle.ndc_history.specs.declared.item.Item.{Item}
 use Rattle.ndc_history.specs.History.{rise_from, rises, added_behind, added}
-use Rattle.ndc_sets.specs.Sets.{Has}
-use Rattle.ndc_sets.specs.Paths.{events_to}
-use Rattle.ndc_sets.proofs.HistoryLemmas.{versions-rise}
-use Rattle.ndc_sets.proofs.PathIds.{AreEventsTo, path-events}
+use Rattle.ndc_model_sets.specs.Sets.{Has}
+use Rattle.ndc_model_sets.specs.Paths.{events_to}
+use Rattle.ndc_model_sets.proofs.HistoryLemmas.{versions-rise}
+use Rattle.ndc_model_sets.proofs.PathIds.{AreEventsTo, path-events}
 use Rattle.ndc_tree.specs.Inserting.{end_of}
-use Rattle.ndc_tree.specs.Reading.{named, elder_of, path_of, items_of}
+use Rattle.ndc_model_sets.specs.Reading.{named, elder_of, path_of, items_of}
 use Rattle.ndc_tree.specs.Tree.{IsTree}
 use Rattle.ndc_tree.proofs.PathLemmas.{path_is}
 use Rattle.ndc_tree.proofs.VersionLemmas.{IsOf, rank, elder-step, elder-has, elder-less, parent-step, parent-has, parent-rank}

@@ -5,26 +5,21 @@ use Rattle.ndc_event.specs.Key.{key_lt, key_eq}
 use Rattle.ndc_event.specs.declared.batch.Batch.{Batch}
 use Rattle.ndc_event.specs.declared.key.BatchKey.{BatchKey}
 use Rattle.ndc_event.specs.declared.key.RunId.{RunId}
-use Rattle.ndc_sets.specs.Sets.{ComeAfter, Rise, batch_at, Has, arrived}
-use Rattle.ndc_sets.specs.Paths.{is_wanted}
-use Rattle.ndc_sets.specs.Branches.{same_run, has_child, tips}
-use Rattle.ndc_sets.proofs.KeyLemmas.{before-irrefl, key_eq-self, same-keys}
-use Rattle.ndc_sets.proofs.SetLemmas.{after-trans, has-found}
-use Rattle.ndc_sets.proofs.ArrivalLemmas.{arrival_keeps_sets}
-use Rattle.ndc_sets.proofs.BranchLemmas.{same-run, among-has}
-use Rattle.ndc_sets.proofs.CurrentLemmas.{key-wanted}
-use Rattle.ndc_sets.proofs.SoundLemmas.{faultless-back}
-use Rattle.ndc_sets.proofs.Lists.{Among, list_any-none, map-among, filter-among}
-use Rattle.ndc_sets.specs.Learned.{has_key}
+use Rattle.ndc_model_sets.specs.Sets.{ComeAfter, Rise, batch_at, Has, arrived}
+use Rattle.ndc_model_sets.specs.Paths.{is_wanted}
+use Rattle.ndc_model_sets.specs.Branches.{same_run, has_child, tips}
+use Rattle.ndc_model_sets.proofs.KeyLemmas.{before-irrefl, key_eq-self, same-keys}
+use Rattle.ndc_model_sets.proofs.SetLemmas.{after-trans, has-found}
+use Rattle.ndc_model_sets.proofs.ArrivalLemmas.{arrival_keeps_sets}
+use Rattle.ndc_model_sets.proofs.BranchLemmas.{same-run, among-has}
+use Rattle.ndc_model_sets.proofs.CurrentLemmas.{key-wanted}
+use Rattle.ndc_model_sets.proofs.SoundLemmas.{faultless-back}
+use Rattle.ndc_model_sets.proofs.Lists.{Among, list_any-none, map-among, filter-among}
+use Rattle.ndc_model_sets.specs.Learned.{has_key}
 use Rattle.ndc_tree.specs.Tree.{IsTree, Joins}
 use Rattle.std.specs.Prelude.{is_some}
-use Rattle.std.specs.Set.{remove_key}
-use Rattle.std.specs.BTreeMap.{is_at}
-use Rattle.std.specs.BTreeSet.{insert_key}
-use Rattle.std.specs.Ordering.{is_eq}
-use Rattle.std.specs.declared.cmp.Ordering.{Ordering}
-use Rattle.ndc_tree.proofs.MapLemmas.{key_cmp, key_cmp-same}
-use Rattle.ndc_tree.specs.Tips.{tip_keys, is_key_among, with_key, without_key, without_parent}
+use Rattle.ndc_tree.specs.Tips.{tip_keys, without_parent}
+use Rattle.ndc_model_sets.specs.Keys.{is_key_among, with_key, without_key}
 
 -- the keys of the batches that pass
 abbrev pub keys_where : (Batch → Bool) → List Batch → List BatchKey
@@ -161,26 +156,6 @@ module _ (run : RunId) (batches : List Batch) (new : Batch) (tree : IsTree run b
       ap (λ p. keys_where p (arrived new batches)) (λ i b. tip-now b i)
       ∙ before-parent new.parent
       ∙ ap (without_parent new.parent) (keys-arrived (λ b. same_run b.run run && not (has_child b batches)) new batches tree.set.ordered joins.fresh is-new-tip)
-
--- sets of keys
-module _ (cmp : BatchKey → BatchKey → Ordering) (law : (a b : BatchKey) → cmp a b ≡ key_cmp a b) where
-  pub insert_key-with : (key : BatchKey) (keys : List BatchKey) → insert_key cmp keys key ≡ with_key key keys
-  insert_key-with key [] = refl
-  insert_key-with key (k ∷ keys) = by (key_lt key k) (key_eq key k) refl refl (insert_key-with key keys)
-    where
-      by : (l e : Bool) → key_lt key k ≡ l → key_eq key k ≡ e → insert_key cmp keys key ≡ with_key key keys → insert_key cmp (k ∷ keys) key ≡ with_key key (k ∷ keys)
-      by true e f g rest = rw (law key k, f) refl
-      by false true f g rest = rw (law key k, f, g) refl
-      by false false f g rest = rw (law key k, f, g) (ap (λ l. k ∷ l) rest)
-
-  test-is : (key other : BatchKey) → is_at (cmp key) other ≡ key_eq other key
-  test-is key other = ap is_eq (law key other) ∙ key_cmp-same key other
-
-  pub any-at : (key : BatchKey) (keys : List BatchKey) → list_any (is_at (cmp key)) keys ≡ is_key_among key keys
-  any-at key keys = ap (λ t. list_any t keys) (λ i other. test-is key other i)
-
-  pub remove-at : (key : BatchKey) (keys : List BatchKey) → remove_key (is_at (cmp key)) keys ≡ without_key key keys
-  remove-at key keys = ap (λ t. remove_key t keys) (λ i other. test-is key other i)
 
 -- a key that was put where it was not, and taken again
 pub with-without : (key : BatchKey) (keys : List BatchKey) → is_key_among key keys ≡ false → without_key key (with_key key keys) ≡ keys

@@ -13,18 +13,18 @@ use Rattle.ndc_event.specs.declared.key.BatchKey.{BatchKey}
 use Rattle.ndc_event.specs.declared.key.RunId.{RunId}
 use Rattle.ndc_history.specs.declared.item.Item.{Item}
 use Rattle.ndc_state.specs.Replay.{history_of}
-use Rattle.ndc_sets.specs.Sets.{Rise, batch_at, Has}
-use Rattle.ndc_sets.specs.Paths.{Walk, path_from, path_to, events_to, last_id, item_of, before_items, versions_of}
-use Rattle.ndc_sets.proofs.KeyLemmas.{IsBefore, before-parts, before-from, key-parts}
-use Rattle.ndc_sets.proofs.SetLemmas.{found-key, found-has}
-use Rattle.ndc_sets.proofs.Lists.{Among, all-among}
-use Rattle.ndc_sets.proofs.PathLemmas.{path-parent, path-below, path-first, none-wanted}
-use Rattle.ndc_sets.proofs.PathIds.{history-push, Climbs, tops, last-append, AreEventsTo, path-events}
-use Rattle.ndc_sets.proofs.FaultLemmas.{Passes, passes}
-use Rattle.ndc_sets.proofs.BranchLemmas.{has-among, among-has, same-batch}
-use Rattle.ndc_tree.specs.Last.{first_from}
+use Rattle.ndc_model_sets.specs.Sets.{Rise, batch_at, Has}
+use Rattle.ndc_model_sets.specs.Paths.{Walk, path_from, path_to, events_to, last_id, item_of, before_items, versions_of}
+use Rattle.ndc_model_sets.proofs.KeyLemmas.{IsBefore, before-parts, before-from, key-parts}
+use Rattle.ndc_model_sets.proofs.SetLemmas.{found-key, found-has}
+use Rattle.ndc_model_sets.proofs.Lists.{Among, all-among}
+use Rattle.ndc_model_sets.proofs.PathLemmas.{path-parent, path-below, path-first, none-wanted}
+use Rattle.ndc_model_sets.proofs.PathIds.{history-push, Climbs, tops, last-append, AreEventsTo, path-events}
+use Rattle.ndc_model_sets.proofs.FaultLemmas.{Passes, passes}
+use Rattle.ndc_model_sets.proofs.BranchLemmas.{has-among, among-has, same-batch}
+use Rattle.ndc_model_sets.specs.Last.{first_from}
 use Rattle.ndc_tree.specs.Inserting.{end_of}
-use Rattle.ndc_tree.specs.Reading.{named, parent_of, elder_of, path_of, items_of}
+use Rattle.ndc_model_sets.specs.Reading.{named, parent_of, elder_of, path_of, items_of}
 use Rattle.ndc_tree.specs.Tree.{IsNextOfVersion, IsTree}
 use Rattle.ndc_tree.proofs.PathLemmas.{parent-there, parent-less, path_is}
 

@@ -3,10 +3,10 @@ use Rattle.std.specs.Prelude.{ℕ, ◌+◌, Bool, false, not, ◌&&◌, ◌==◌
 use Rattle.ndc_event.specs.declared.batch.Batch.{Batch}
 use Rattle.ndc_event.specs.declared.key.BatchKey.{BatchKey}
 use Rattle.ndc_event.specs.declared.key.RunId.{RunId}
-use Rattle.ndc_sets.specs.Sets.{batch_at}
-use Rattle.ndc_sets.specs.Paths.{first_id, last_id}
-use Rattle.ndc_sets.specs.Branches.{same_run}
-use Rattle.ndc_tree.specs.Last.{first_from, is_nil}
+use Rattle.ndc_model_sets.specs.Sets.{batch_at}
+use Rattle.ndc_model_sets.specs.Paths.{first_id, last_id}
+use Rattle.ndc_model_sets.specs.Branches.{same_run}
+use Rattle.ndc_model_sets.specs.Last.{first_from, is_nil}
 
 -- the key of a version behind that of the parent, where this is of the version, or else the least one
 abbrev pub key_behind : ℕ → Option BatchKey → BatchKey

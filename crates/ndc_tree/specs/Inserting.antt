@@ -4,15 +4,16 @@ use Rattle.ndc_event.specs.declared.batch.Batch.{Batch}
 use Rattle.ndc_event.specs.declared.key.BatchKey.{BatchKey}
 use Rattle.ndc_event.specs.declared.key.RunId.{RunId}
 use Rattle.ndc_history.specs.declared.item.Item.{Item}
-use Rattle.ndc_sets.specs.Sets.{batch_at}
-use Rattle.ndc_sets.specs.Learned.{has_key}
-use Rattle.ndc_sets.specs.Paths.{last_id}
+use Rattle.ndc_model_sets.specs.Sets.{batch_at}
+use Rattle.ndc_model_sets.specs.Learned.{has_key}
+use Rattle.ndc_model_sets.specs.Paths.{last_id}
 use Rattle.ndc_tree.specs.declared.answer.Inserted.{Inserted}
 use Rattle.ndc_tree.specs.declared.answer.Inserted.TheVariants.{Extended, Forked}
 use Rattle.ndc_tree.specs.declared.answer.TreeError.{TreeError}
 use Rattle.ndc_tree.specs.declared.answer.TreeError.TheVariants.{MissingParent, NotWellFormed}
 use Rattle.ndc_tree.specs.Fitting.{fits}
-use Rattle.ndc_tree.specs.Tips.{tip_keys, is_key_among}
+use Rattle.ndc_tree.specs.Tips.{tip_keys}
+use Rattle.ndc_model_sets.specs.Keys.{is_key_among}
 
 -- the item of a batch's last event, where there is a batch
 abbrev pub end_of : Option Batch → Item

@@ -1,9 +1,7 @@
-pub mod Last
 pub mod Tree
 pub mod Fitting
 pub mod Tips
 pub mod Inserting
-pub mod Reading
 pub mod Fields
 pub mod TreeFields
 pub mod Noted

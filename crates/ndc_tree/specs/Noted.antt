@@ -3,10 +3,10 @@ use Rattle.std.specs.Prelude.{◌≡◌, ℕ, List, [], ◌∷◌, ◌++◌, Opt
 use Rattle.ndc_event.specs.declared.batch.Batch.{Batch}
 use Rattle.ndc_event.specs.declared.key.BatchKey.{BatchKey}
 use Rattle.ndc_history.specs.declared.item.Item.{Item}
-use Rattle.ndc_sets.specs.Learned.{has_key}
-use Rattle.ndc_sets.specs.Sets.{Has}
+use Rattle.ndc_model_sets.specs.Learned.{has_key}
+use Rattle.ndc_model_sets.specs.Sets.{Has}
 use Rattle.ndc_tree.specs.Inserting.{end_of}
-use Rattle.ndc_tree.specs.Reading.{items_of, named}
+use Rattle.ndc_model_sets.specs.Reading.{items_of, named}
 
 -- what is noted is the version history of the path to a batch that is there, and nothing where no batch is named
 abbrev pub IsNoted : List Batch → Option BatchKey → List Item → Type 0

@@ -4,10 +4,10 @@ use Rattle.ndc_event.specs.declared.batch.Batch.{Batch}
 use Rattle.ndc_event.specs.declared.key.BatchKey.{BatchKey}
 use Rattle.ndc_event.specs.declared.key.RunId.{RunId}
 use Rattle.ndc_event.specs.Batch.{fault_of}
-use Rattle.ndc_sets.specs.Sets.{IsSet, batch_at, Has}
-use Rattle.ndc_sets.specs.Learned.{has_key}
-use Rattle.ndc_sets.specs.Paths.{first_id, last_id}
-use Rattle.ndc_sets.specs.Sound.{AreFaultless, ParentsFit}
+use Rattle.ndc_model_sets.specs.Sets.{IsSet, batch_at, Has}
+use Rattle.ndc_model_sets.specs.Learned.{has_key}
+use Rattle.ndc_model_sets.specs.Paths.{first_id, last_id}
+use Rattle.ndc_model_sets.specs.Sound.{AreFaultless, ParentsFit}
 
 -- a run, and its batches in key order
 pub record TreeValue : Type 0 where

@@ -25,8 +25,8 @@ impl Model for Batches {
 impl Batches {
     ghost use Rattle.std.specs.Prelude.{◌≡◌, [], None, OnOk, OnErr};
     ghost use Rattle.std.specs.Option.{option_copied};
-    ghost use Rattle.ndc_sets.specs.Sets.{batch_at, arrived};
-    ghost use Rattle.ndc_tree.specs.Last.{first_from, last_batch, is_nil};
+    ghost use Rattle.ndc_model_sets.specs.Sets.{batch_at, arrived};
+    ghost use Rattle.ndc_model_sets.specs.Last.{first_from, last_batch, is_nil};
 
     /// There is no batch.
     pub(crate) fn new(alloc: Global) -> Batches

@@ -3,11 +3,11 @@ ghost use Rattle.std.specs.Prelude.{◌≡◌, List, [], ◌∷◌, ◌++◌, So
 ghost use Rattle.ndc_event.specs.declared.batch.Batch.{Batch};
 ghost use Rattle.ndc_event.specs.declared.key.BatchKey.{BatchKey};
 ghost use Rattle.ndc_event.specs.declared.key.RunId.{RunId as Run};
-ghost use Rattle.ndc_sets.specs.Branches.{current_tip, greatest_key};
-ghost use Rattle.ndc_sets.specs.Learned.{IsPart};
-ghost use Rattle.ndc_sets.specs.Paths.{IsPath, path_to};
-ghost use Rattle.ndc_sets.specs.Sets.{Has, arrived};
-ghost use Rattle.ndc_sets.specs.Sound.{VersionsAreChains};
+ghost use Rattle.ndc_model_sets.specs.Branches.{current_tip, greatest_key};
+ghost use Rattle.ndc_model_sets.specs.Learned.{IsPart};
+ghost use Rattle.ndc_model_sets.specs.Paths.{IsPath, path_to};
+ghost use Rattle.ndc_model_sets.specs.Sets.{Has, arrived};
+ghost use Rattle.ndc_model_sets.specs.Sound.{VersionsAreChains};
 ghost use Rattle.ndc_tree.specs.Tree.{IsTree, Joins};
 
 /// A tree with a batch that joins it is a tree.

@@ -20,7 +20,8 @@ impl Model for Tips {
 
 impl Tips {
     ghost use Rattle.std.specs.Prelude.{◌≡◌, [], IfOk, OnOk, OnErr};
-    ghost use Rattle.ndc_tree.specs.Tips.{is_key_among, with_key, without_key, without_parent};
+    ghost use Rattle.ndc_model_sets.specs.Keys.{is_key_among, with_key, without_key};
+    ghost use Rattle.ndc_tree.specs.Tips.{without_parent};
 
     /// There is no tip.
     pub(crate) fn new(alloc: Global) -> Tips

@@ -1,10 +1,10 @@
 ghost use Rattle.std.specs.Prelude.{◌≡◌, ◌<◌, ◌↔◌, ◌++◌, [], ◌∷◌, map, IfSome, IfOk, OnOk, IsTrue, Some, Ok};
 ghost use Rattle.ndc_history.specs.History.{rises, added};
-ghost use Rattle.ndc_sets.specs.Sets.{Has};
-ghost use Rattle.ndc_sets.specs.Paths.{first_id, last_id};
+ghost use Rattle.ndc_model_sets.specs.Sets.{Has};
+ghost use Rattle.ndc_model_sets.specs.Paths.{first_id, last_id};
 ghost use Rattle.std.specs.Option.{option_copied, option_map};
 ghost use Rattle.ndc_tree.specs.Fitting.{goes_on, key_behind};
-ghost use Rattle.ndc_tree.specs.Reading.{parent_of};
+ghost use Rattle.ndc_model_sets.specs.Reading.{parent_of};
 ghost use Rattle.ndc_tree.specs.Inserting.{end_of};
 
 use crate::answer::{Inserted, TreeError};
@@ -53,21 +53,22 @@ impl Drop for Tree {
 impl Tree {
     ghost use Rattle.std.specs.Prelude.{◌≡◌, ◌<◌, ◌↔◌, ◌≢◌, [], ◌∷◌, ◌++◌, map, None, Some, Ok, IfSome, IfOk, OnOk, OnErr, IsTrue};
     ghost use Rattle.std.specs.Option.{option_copied, option_map};
-    ghost use Rattle.ndc_sets.specs.Sets.{batch_at, arrived, Has};
+    ghost use Rattle.ndc_model_sets.specs.Sets.{batch_at, arrived, Has};
     ghost use Rattle.ndc_event.specs.Outcome.{Gives};
     ghost use Rattle.ndc_event.specs.Batch.{fault_of};
     ghost use Rattle.ndc_tree.specs.declared.answer.Inserted.TheVariants.{Known};
     ghost use Rattle.ndc_tree.specs.declared.answer.TreeError.TheVariants.{Memory};
     ghost use Rattle.ndc_tree.specs.Tree.{IsTree, Joins};
-    ghost use Rattle.ndc_sets.specs.Learned.{has_key};
+    ghost use Rattle.ndc_model_sets.specs.Learned.{has_key};
     ghost use Rattle.ndc_tree.specs.Fitting.{is_below, splits_version, fits};
     ghost use Rattle.ndc_tree.specs.Inserting.{inserted, placed};
-    ghost use Rattle.ndc_tree.specs.Tips.{is_key_among, tip_keys};
-    ghost use Rattle.ndc_sets.specs.Paths.{path_to};
+    ghost use Rattle.ndc_model_sets.specs.Keys.{is_key_among};
+    ghost use Rattle.ndc_tree.specs.Tips.{tip_keys};
+    ghost use Rattle.ndc_model_sets.specs.Paths.{path_to};
     ghost use Rattle.ndc_history.specs.History.{rises};
     ghost use Rattle.ndc_tree.specs.Inserting.{end_of};
     ghost use Rattle.ndc_tree.specs.Noted.{BeginsEach, IsNoted};
-    ghost use Rattle.ndc_tree.specs.Reading.{current_key, path_at, path_keys, history_at, elder_of, items_of, named};
+    ghost use Rattle.ndc_model_sets.specs.Reading.{current_key, path_at, path_keys, history_at, elder_of, items_of, named};
 
     /// The tree of a run without a batch.
     pub fn new(alloc: Global, run: RunId) -> Tree

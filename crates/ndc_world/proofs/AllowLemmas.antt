@@ -1,21 +1,21 @@
 -- What may be asked of cells may be asked of those that do all of it.
 use Rattle.std.specs.Prelude.{List, [], ◌∷◌}
-use Rattle.ndc_act.specs.declared.script.Act.{Act}
-use Rattle.ndc_act.specs.declared.script.Act.TheVariants as act
-use Rattle.ndc_act.specs.declared.script.Header.{Header}
-use Rattle.ndc_cells.specs.declared.job.Job.{Job}
-use Rattle.ndc_cells.specs.declared.job.Job.TheVariants as job
-use Rattle.ndc_cells.specs.declared.job.ShardJob.{ShardJob}
-use Rattle.ndc_cells.specs.Cells.{Cell}
-use Rattle.ndc_cells.specs.Jobs.{cell_for, cells_behind}
-use Rattle.ndc_cells.specs.Writing.{Home}
+use Rattle.ndc_script_types.specs.declared.script.Act.{Act}
+use Rattle.ndc_script_types.specs.declared.script.Act.TheVariants as act
+use Rattle.ndc_script_types.specs.declared.script.Header.{Header}
+use Rattle.ndc_model_cells.specs.declared.job.Job.{Job}
+use Rattle.ndc_model_cells.specs.declared.job.Job.TheVariants as job
+use Rattle.ndc_model_cells.specs.declared.job.ShardJob.{ShardJob}
+use Rattle.ndc_model_cells.specs.Cells.{Cell}
+use Rattle.ndc_model_cells.specs.Jobs.{cell_for, cells_behind}
+use Rattle.ndc_model_cells.specs.Writing.{Home}
 use Rattle.ndc_domain.specs.declared.clusters.ClusterNo.{ClusterNo}
-use Rattle.ndc_fair_jobs.specs.Lines.{LineIsAllowed, job_for, letter_jobs}
+use Rattle.ndc_laws_jobs.specs.Lines.{LineIsAllowed, job_for, letter_jobs}
 use Rattle.ndc_model.specs.Moves.{Trace, all_reapply, bootstrapped, due_arrived, flights_arrived, from_world, quietly, reapplied_all, settled_once, without_flights}
 use Rattle.ndc_model.specs.World.{World, all_clusters, others_of}
-use Rattle.ndc_network.specs.Conditions.{EachStep, again_jobs, flight_jobs, MayBootstrap, MayDoAll, MaySettleOnce, all_bootstrapped, all_due_arrived, due_jobs, late_jobs, reader_bootstrapped, tables_merged}
-use Rattle.ndc_rounds.specs.Rounds.{AreAllowed, Condition}
-use Rattle.ndc_workflow.specs.Allowed.{IsAllowed}
+use Rattle.ndc_model.specs.Conditions.{EachStep, again_jobs, flight_jobs, MayBootstrap, MayDoAll, MaySettleOnce, all_bootstrapped, all_due_arrived, due_jobs, late_jobs, reader_bootstrapped, tables_merged}
+use Rattle.ndc_model_cells.specs.Conditions.{AreAllowed, Condition}
+use Rattle.ndc_model_cells.specs.Allowed.{IsAllowed}
 
 module _ (allows : Condition) (may : (home : Home) (asked : Job) (at : Cell) → IsAllowed home asked at → allows home asked at) where
   jobs-may : (home : Home) (jobs : List ShardJob) (cells : List Cell) → AreAllowed IsAllowed home jobs cells → AreAllowed allows home jobs cells

@@ -2,18 +2,18 @@
 use Rattle.std.proofs.Common.{◌≡◌, ℕ, zero, suc, drop, ◌+◌, ◌≤◌, ◌<◌, List, [], ◌∷◌, ◌++◌, append-nil, length, map, refl, sym, ◌∙◌, ap, subst, arith}
 use Rattle.std.specs.Prelude.{decimal, codes}
 use Rattle.std.specs.List.{All, AllByRecursion}
-use Rattle.ndc_act.specs.WellFormed.{IsCluster, IsWellFormedHeader, IsWellFormedJob, IsWorkflowAt}
-use Rattle.ndc_act.specs.declared.script.BurstJob.{BurstJob}
-use Rattle.ndc_act.specs.declared.script.Header.{Header}
-use Rattle.ndc_cells.specs.declared.job.Job.TheVariants as job
-use Rattle.ndc_cells.specs.declared.job.JobReply.{JobReply}
-use Rattle.ndc_cells.specs.declared.job.ShardJob.{ShardJob}
-use Rattle.ndc_cells.specs.Jobs.{cells_after, cells_behind, replies_to, reply_to}
+use Rattle.ndc_script_types.specs.WellFormed.{IsCluster, IsWellFormedHeader, IsWellFormedJob, IsWorkflowAt}
+use Rattle.ndc_script_types.specs.declared.script.BurstJob.{BurstJob}
+use Rattle.ndc_script_types.specs.declared.script.Header.{Header}
+use Rattle.ndc_model_cells.specs.declared.job.Job.TheVariants as job
+use Rattle.ndc_model_cells.specs.declared.job.JobReply.{JobReply}
+use Rattle.ndc_model_cells.specs.declared.job.ShardJob.{ShardJob}
+use Rattle.ndc_model_cells.specs.Jobs.{cells_after, cells_behind, replies_to, reply_to}
 use Rattle.ndc_domain.specs.declared.clusters.ClusterNo.{ClusterNo}
-use Rattle.ndc_fair.proofs.BringLemmas.{after-more, world_after}
-use Rattle.ndc_fair.proofs.LetterLemmas.{shard-below}
-use Rattle.ndc_fair_jobs.specs.Lines.{burst_jobs, job_for}
-use Rattle.ndc_fair.proofs.MoveLemmas.{command-kept}
+use Rattle.ndc_laws_reached.proofs.BringLemmas.{after-more, world_after}
+use Rattle.ndc_laws_reached.proofs.LetterLemmas.{shard-below}
+use Rattle.ndc_laws_jobs.specs.Lines.{burst_jobs, job_for}
+use Rattle.ndc_laws_reached.proofs.MoveLemmas.{command-kept}
 use Rattle.ndc_index.specs.declared.seen.Seen.{Seen}
 use Rattle.ndc_model.proofs.ListLemmas.{all-listed, set-there}
 use Rattle.ndc_model.specs.Facts.{IsReached}
@@ -23,7 +23,7 @@ use Rattle.ndc_model.specs.Moves.{jobs_done, notes_of}
 use Rattle.ndc_model.specs.Steps.{command_step, outcome_answer, seen_at, seen_of}
 use Rattle.ndc_model.specs.World.{Cluster, World, cell_at, cluster_at, home_at, new_cluster}
 use Rattle.ndc_model.proofs.WorldLemmas.{same-cells}
-use Rattle.ndc_network.proofs.ShardLemmas.{cells_there}
+use Rattle.ndc_world_network.proofs.ShardLemmas.{cells_there}
 use Rattle.ndc_world.specs.Bursts.{burst_text}
 
 -- the replies of a cluster to jobs, done one after the other

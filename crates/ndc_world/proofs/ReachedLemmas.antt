@@ -2,15 +2,14 @@
 use Rattle.std.proofs.Common.{ℕ, ◌<◌, ◌^◌, List, [], ◌∷◌, Option, Some, None, IfSome, length, Bool, true, false, if◌then◌else◌, arith}
 use Rattle.std.specs.List.{AllByRecursion}
 use Rattle.std.specs.Str.{bytes_eq}
-use Rattle.ndc_act.specs.WellFormed.{IsCluster}
-use Rattle.ndc_act.specs.declared.script.Header.{Header}
+use Rattle.ndc_script_types.specs.WellFormed.{IsCluster, IsWellFormedHeader}
+use Rattle.ndc_script_types.specs.declared.script.Header.{Header}
 use Rattle.ndc_domain.specs.Clusters.{count_of}
 use Rattle.ndc_domain.specs.Records.{record_of}
 use Rattle.ndc_domain.specs.declared.clusters.ClusterNo.{ClusterNo}
 use Rattle.ndc_domain.specs.declared.record.DomainRecord.{DomainRecord}
 use Rattle.ndc_event.specs.declared.name.Name.{Name}
-use Rattle.ndc_act.specs.WellFormed.{IsWellFormedHeader}
-use Rattle.ndc_laws.proofs.HeadlineLemmas.{ranges}
+use Rattle.ndc_laws_reached.proofs.LearnedRanges.{ranges}
 use Rattle.ndc_model.specs.Reading.{learned_at}
 use Rattle.ndc_text.specs.Ranges.{InRange}
 use Rattle.ndc_letters.specs.declared.letter.Letter.{Letter}
@@ -18,9 +17,9 @@ use Rattle.ndc_model.specs.Facts.{IsHandoverFit, IsLetterFit, IsReached}
 use Rattle.ndc_model.specs.Fair.{AreMembersKnown, IsRecordInRange}
 use Rattle.ndc_model.specs.World.{World, cluster_at}
 use Rattle.ndc_model.proofs.ListLemmas.{all-weaker}
-use Rattle.ndc_steps.specs.Links.{IsBetween}
-use Rattle.ndc_network.specs.Orderly.{IsOrderly}
-use Rattle.ndc_network.proofs.OrderlyLemmas.{orderly_fair}
+use Rattle.ndc_world_steps.specs.Links.{IsBetween}
+use Rattle.ndc_world_network.specs.Orderly.{IsOrderly}
+use Rattle.ndc_world_network.proofs.OrderlyLemmas.{orderly_fair}
 
 -- what holds of all records holds of the one that is found
 found-record : (P : DomainRecord → Type 0) (table : List DomainRecord) (name : Name) → AllByRecursion P table → IfSome (record_of table name) P

@@ -2,25 +2,25 @@
 use Rattle.std.proofs.Common.{◌≡◌, ℕ, ◌+◌, ◌≤◌, ◌<◌, List, length, ap, sym, subst, ◌∙◌, arith}
 use Rattle.std.proofs.lemmas.List.{length-map}
 use Rattle.std.specs.List.{All}
-use Rattle.ndc_act.specs.WellFormed.{IsCluster, IsWellFormedAct, IsWellFormedJob}
-use Rattle.ndc_act.specs.declared.script.Act.{Act}
-use Rattle.ndc_act.specs.declared.script.Act.TheVariants as act
-use Rattle.ndc_act.specs.declared.script.BurstJob.{BurstJob}
-use Rattle.ndc_cells.specs.declared.job.Job.{Job}
-use Rattle.ndc_cells.specs.Cells.{Cell}
-use Rattle.ndc_cells.specs.Writing.{Home}
+use Rattle.ndc_script_types.specs.WellFormed.{IsCluster, IsWellFormedAct, IsWellFormedJob}
+use Rattle.ndc_script_types.specs.declared.script.Act.{Act}
+use Rattle.ndc_script_types.specs.declared.script.Act.TheVariants as act
+use Rattle.ndc_script_types.specs.declared.script.BurstJob.{BurstJob}
+use Rattle.ndc_model_cells.specs.declared.job.Job.{Job}
+use Rattle.ndc_model_cells.specs.Cells.{Cell}
+use Rattle.ndc_model_cells.specs.Writing.{Home}
 use Rattle.ndc_domain.specs.declared.clusters.ClusterNo.{ClusterNo}
-use Rattle.ndc_fair.proofs.BringLemmas.{world_after}
-use Rattle.ndc_fair_jobs.specs.Lines.{LineIsAllowed, burst_jobs}
-use Rattle.ndc_fair_jobs.proofs.BurstLemmas.{burst_allowed}
-use Rattle.ndc_fair_jobs.proofs.LineLemmas.{line_allowed}
-use Rattle.ndc_laws.proofs.ReachedLemmas.{line_reached}
+use Rattle.ndc_laws_reached.proofs.BringLemmas.{world_after}
+use Rattle.ndc_laws_jobs.specs.Lines.{LineIsAllowed, burst_jobs}
+use Rattle.ndc_laws_jobs.proofs.BurstLemmas.{burst_allowed}
+use Rattle.ndc_laws_jobs.proofs.LineLemmas.{line_allowed}
+use Rattle.ndc_laws_reached.proofs.ReachedLemmas.{line_reached}
 use Rattle.ndc_model.specs.Facts.{IsReached}
 use Rattle.ndc_model.specs.Lines.{act_step, job_line}
 use Rattle.ndc_model.specs.World.{World}
-use Rattle.ndc_network.specs.Conditions.{MayDoAll}
-use Rattle.ndc_rounds.specs.Rounds.{Condition}
-use Rattle.ndc_workflow.specs.Allowed.{IsAllowed}
+use Rattle.ndc_model.specs.Conditions.{MayDoAll}
+use Rattle.ndc_model_cells.specs.Conditions.{Condition}
+use Rattle.ndc_model_cells.specs.Allowed.{IsAllowed}
 use Rattle.ndc_world.specs.Running.{IsRunning, Running, behind_line}
 use Rattle.ndc_world.proofs.AllowLemmas.{all_may, line_may}
 use Rattle.ndc_world.proofs.BurstLemmas.{IsBurst, burst_runs}

@@ -3,20 +3,20 @@ use Rattle.std.proofs.Common.{◌≡◌, ℕ, ◌+◌, ◌≤◌, ◌<◌, ◌^�
 use Rattle.std.specs.Prelude.{codes, decimal}
 use Rattle.std.specs.List.{AllByRecursion}
 use Rattle.std.proofs.lemmas.List.{length-map}
-use Rattle.ndc_act.specs.WellFormed.{IsCluster, IsWellFormedAct, IsWellFormedHeader}
-use Rattle.ndc_act.specs.declared.script.Act.{Act}
-use Rattle.ndc_act.specs.declared.script.Act.TheVariants as act
-use Rattle.ndc_act.specs.declared.script.BurstJob.{BurstJob}
-use Rattle.ndc_act.specs.declared.script.Header.{Header}
-use Rattle.ndc_act.specs.declared.script.Line.{Line}
-use Rattle.ndc_bare.specs.Bare.{bare_cluster, is_on_reports}
-use Rattle.ndc_bare.specs.Standing.{IsLeftBy, StandFor}
-use Rattle.ndc_bare.proofs.ReachedLemmas.{bare-reached}
-use Rattle.ndc_bare.proofs.StandLemmas.{all-held, as-many, lines-left}
+use Rattle.ndc_script_types.specs.WellFormed.{IsCluster, IsWellFormedAct, IsWellFormedHeader}
+use Rattle.ndc_script_types.specs.declared.script.Act.{Act}
+use Rattle.ndc_script_types.specs.declared.script.Act.TheVariants as act
+use Rattle.ndc_script_types.specs.declared.script.BurstJob.{BurstJob}
+use Rattle.ndc_script_types.specs.declared.script.Header.{Header}
+use Rattle.ndc_script_types.specs.declared.script.Line.{Line}
+use Rattle.ndc_laws_jobs.specs.Bare.{bare_cluster, is_on_reports}
+use Rattle.ndc_laws_jobs.specs.Standing.{IsLeftBy, StandFor}
+use Rattle.ndc_laws_jobs.proofs.ReachedLemmas.{bare-reached}
+use Rattle.ndc_laws_jobs.proofs.StandLemmas.{all-held, as-many, lines-left}
 use Rattle.ndc_domain.specs.Clusters.{count_of}
 use Rattle.ndc_domain.specs.declared.clusters.ClusterNo.{ClusterNo}
 use Rattle.ndc_index.specs.declared.seen.Seen.{Seen}
-use Rattle.ndc_laws.proofs.ReachedLemmas.{line_reached}
+use Rattle.ndc_laws_reached.proofs.ReachedLemmas.{line_reached}
 use Rattle.ndc_model.specs.Facts.{IsReached}
 use Rattle.ndc_model.specs.Lines.{act_step, answers_of, job_line, lines_of_act, ran_from, seen_in, world_behind}
 use Rattle.ndc_model.specs.World.{Cluster, World, all_clusters, cluster_at, new_cluster, opening_world}

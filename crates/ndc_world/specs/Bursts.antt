@@ -1,7 +1,7 @@
 -- What the lines in a burst answer.
 use Rattle.std.specs.Prelude.{ℕ, List, [], ◌∷◌, ◌++◌, codes, decimal}
-use Rattle.ndc_act.specs.declared.script.BurstJob.{BurstJob}
-use Rattle.ndc_cells.specs.declared.job.JobReply.{JobReply}
+use Rattle.ndc_script_types.specs.declared.script.BurstJob.{BurstJob}
+use Rattle.ndc_model_cells.specs.declared.job.JobReply.{JobReply}
 use Rattle.ndc_model.specs.Steps.{outcome_answer}
 
 -- each answer behind the number of its line, by the replies to the jobs

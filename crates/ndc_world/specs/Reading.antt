@@ -1,7 +1,7 @@
 -- Lines that only read.
 use Rattle.std.specs.Prelude.{Bool, true, false}
-use Rattle.ndc_act.specs.declared.script.Act.{Act}
-use Rattle.ndc_act.specs.declared.script.Act.TheVariants as act
+use Rattle.ndc_script_types.specs.declared.script.Act.{Act}
+use Rattle.ndc_script_types.specs.declared.script.Act.TheVariants as act
 
 -- whether a line changes nothing, and is not on progress reports
 abbrev pub is_read : Act → Bool

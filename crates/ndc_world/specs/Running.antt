@@ -1,8 +1,8 @@
 -- A script that runs.
 use Rattle.std.specs.Prelude.{ℕ, ◌+◌, ◌≤◌, List, length}
-use Rattle.ndc_act.specs.WellFormed.{IsWellFormedHeader}
-use Rattle.ndc_act.specs.declared.script.Header.{Header}
-use Rattle.ndc_act.specs.declared.script.Line.{Line}
+use Rattle.ndc_script_types.specs.WellFormed.{IsWellFormedHeader}
+use Rattle.ndc_script_types.specs.declared.script.Header.{Header}
+use Rattle.ndc_script_types.specs.declared.script.Line.{Line}
 use Rattle.ndc_model.specs.Facts.{IsReached}
 use Rattle.ndc_model.specs.Lines.{Ran, lines_of_act, ran_from, world_behind}
 use Rattle.ndc_model.specs.World.{World}

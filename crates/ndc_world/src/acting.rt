@@ -1,20 +1,19 @@
 ghost use Rattle.std.specs.Prelude.{◌≡◌, ◌<◌, false, true, IfOk};
-ghost use Rattle.ndc_act.specs.WellFormed.{IsWellFormedAct, IsWellFormedHeader};
-ghost use Rattle.ndc_bare.specs.Bare.{is_on_reports};
-ghost use Rattle.ndc_fair_jobs.specs.Lines.{LineIsAllowed};
+ghost use Rattle.ndc_script_types.specs.WellFormed.{IsWellFormedAct, IsWellFormedHeader};
+ghost use Rattle.ndc_laws_jobs.specs.Bare.{is_on_reports};
+ghost use Rattle.ndc_laws_jobs.specs.Lines.{LineIsAllowed};
 ghost use Rattle.ndc_model.specs.Facts.{IsReached};
 ghost use Rattle.ndc_model.specs.Lines.{act_step};
 ghost use Rattle.ndc_model.specs.Steps.{answered};
-ghost use Rattle.ndc_steps.specs.Told.{leaving};
+ghost use Rattle.ndc_world_steps.specs.Told.{leaving};
 ghost use Rattle.ndc_world.specs.Reading.{is_read};
 
-use ndc_act::{Act, Header};
-use ndc_links::Reads;
-use ndc_network::Network;
+use ndc_cluster_reads::Reads;
 use ndc_port::Gate;
-use ndc_steps::{
-    Step, answered, domains, gaps, handovers, lanes, letters, moving, reading, writing,
-};
+use ndc_script_types::{Act, Header};
+use ndc_world_network::Network;
+use ndc_world_queries::{gaps, reading};
+use ndc_world_steps::{Step, answered, domains, handovers, lanes, letters, moving, writing};
 use std::alloc::{AllocError, Global};
 use std::thread::Threads;
 

@@ -1,14 +1,14 @@
-use ndc_links::Reads;
+use ndc_cluster_reads::Reads;
 use ndc_shard::Shard;
 use std::alloc::Global;
 
 /// A cell as a script needs it: it begins with nothing, and does each job that a cell may be asked to do.
 pub trait Begins: Reads {
     ghost use Rattle.std.specs.Prelude.{◌≡◌};
-    ghost use Rattle.ndc_cells.specs.declared.job.Job.{Job};
-    ghost use Rattle.ndc_cells.specs.Cells.{Cell, empty_cell};
-    ghost use Rattle.ndc_cells.specs.Writing.{Home};
-    ghost use Rattle.ndc_workflow.specs.Allowed.{IsAllowed};
+    ghost use Rattle.ndc_model_cells.specs.declared.job.Job.{Job};
+    ghost use Rattle.ndc_model_cells.specs.Cells.{Cell, empty_cell};
+    ghost use Rattle.ndc_model_cells.specs.Writing.{Home};
+    ghost use Rattle.ndc_model_cells.specs.Allowed.{IsAllowed};
 
     /// Nothing has happened.
     fn empty(alloc: Global) -> Self

@@ -1,23 +1,24 @@
 ghost use Rattle.std.specs.Prelude.{◌≡◌, ◌<◌, ◌++◌, IfOk, OnOk};
-ghost use Rattle.ndc_act.specs.WellFormed.{IsCluster};
-ghost use Rattle.ndc_cells.specs.Jobs.{cells_after, replies_to};
-ghost use Rattle.ndc_cells.specs.declared.job.Job.TheVariants as job;
-ghost use Rattle.ndc_fair_jobs.specs.Lines.{burst_jobs, job_for};
+ghost use Rattle.ndc_script_types.specs.WellFormed.{IsCluster};
+ghost use Rattle.ndc_model_cells.specs.Jobs.{cells_after, replies_to};
+ghost use Rattle.ndc_model_cells.specs.declared.job.Job.TheVariants as job;
+ghost use Rattle.ndc_laws_jobs.specs.Lines.{burst_jobs, job_for};
 ghost use Rattle.ndc_model.specs.Fair.{IsShaped};
 ghost use Rattle.ndc_model.specs.Moves.{notes_of};
 ghost use Rattle.ndc_model.specs.Steps.{seen_of};
 ghost use Rattle.ndc_model.specs.World.{cluster_at, home_at, with_cells};
-ghost use Rattle.ndc_network.specs.Conditions.{MayDoAll};
+ghost use Rattle.ndc_model.specs.Conditions.{MayDoAll};
 ghost use Rattle.ndc_world.specs.Bursts.{burst_text};
 
-use ndc_act::{BurstJob, Header};
-use ndc_answers::{add_seen, behind_number, outcome};
-use ndc_cells::{Job, JobReply, ShardJob};
+use ndc_cluster::shard_of;
+use ndc_cluster_reads::Reads;
 use ndc_domain::ClusterNo;
-use ndc_links::Reads;
-use ndc_network::Network;
+use ndc_model_cells::{Job, JobReply, ShardJob};
 use ndc_port::Gate;
-use ndc_steps::{Step, shard_of};
+use ndc_script_types::{BurstJob, Header};
+use ndc_world_answers::{add_seen, behind_number, outcome};
+use ndc_world_network::Network;
+use ndc_world_steps::Step;
 use std::alloc::{AllocError, Global};
 use std::thread::Threads;
 

@@ -6,14 +6,14 @@ use crate::begins::Begins;
 use crate::bursts::burst;
 use crate::opening::opening_sites;
 use crate::reporting::report;
-use ndc_act::{Act, BurstJob, Header, Line};
-use ndc_answers::behind_number;
 use ndc_domain::ClusterNo;
 use ndc_index::Seen;
-use ndc_network::Network;
 use ndc_port::Gate;
 use ndc_progress::Progress;
-use ndc_steps::Step;
+use ndc_script_types::{Act, BurstJob, Header, Line};
+use ndc_world_answers::behind_number;
+use ndc_world_network::Network;
+use ndc_world_steps::Step;
 use std::alloc::{AllocError, Global};
 use std::marker::Model;
 use std::thread::Threads;
@@ -56,9 +56,9 @@ pub(crate) struct Left<'a, C: Begins + Drop> {
 
 impl<'a, C: Begins + Drop> Clusters<'a, C> {
     ghost use Rattle.std.specs.Prelude.{◌≡◌, ◌<◌, ◌+◌, ◌≤◌, ◌^◌, [], ◌∷◌, All, false, true, length, slice_index_or, IfOk};
-    ghost use Rattle.ndc_act.specs.WellFormed.{IsCluster, IsWellFormedAct, IsWellFormedHeader, IsWellFormedJob};
-    ghost use Rattle.ndc_act.specs.declared.script.Act.TheVariants as act;
-    ghost use Rattle.ndc_bare.specs.Standing.{IsLeftBy, StandFor};
+    ghost use Rattle.ndc_script_types.specs.WellFormed.{IsCluster, IsWellFormedAct, IsWellFormedHeader, IsWellFormedJob};
+    ghost use Rattle.ndc_script_types.specs.declared.script.Act.TheVariants as act;
+    ghost use Rattle.ndc_laws_jobs.specs.Standing.{IsLeftBy, StandFor};
     ghost use Rattle.ndc_domain.specs.Clusters.{count_of};
     ghost use Rattle.ndc_domain.specs.declared.clusters.ClusterNo.{ClusterNo as Number};
     ghost use Rattle.ndc_model.specs.Facts.{IsReached};
@@ -66,7 +66,7 @@ impl<'a, C: Begins + Drop> Clusters<'a, C> {
     ghost use Rattle.ndc_model.specs.Lines.{act_step, answers_of, lines_of_act, seen_in};
     ghost use Rattle.ndc_model.specs.World.{World, opening_world};
     ghost use Rattle.std.specs.List.{AllByRecursion};
-    ghost use Rattle.ndc_bare.specs.Bare.{is_on_reports};
+    ghost use Rattle.ndc_laws_jobs.specs.Bare.{is_on_reports};
     ghost use Rattle.ndc_world.specs.Running.{behind_line, ran_at};
 
     /// The world of a header in the beginning: nothing is registered, written or sent.

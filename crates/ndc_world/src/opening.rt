@@ -1,11 +1,11 @@
 ghost use Rattle.std.specs.Prelude.{◌≡◌, ◌≤◌, map, replicate, IfOk};
-ghost use Rattle.ndc_cells.specs.Cells.{empty_cell};
+ghost use Rattle.ndc_model_cells.specs.Cells.{empty_cell};
 ghost use Rattle.ndc_model.specs.World.{all_clusters};
-ghost use Rattle.ndc_network.specs.Networks.{opening_site};
+ghost use Rattle.ndc_world_network.specs.Networks.{opening_site};
 
 use crate::begins::Begins;
-use ndc_act::{Header, clusters_below};
-use ndc_sites::Site;
+use ndc_cluster::Site;
+use ndc_script_types::{Header, clusters_below};
 use std::alloc::{AllocError, Global};
 
 /// So many cells in which nothing has happened.

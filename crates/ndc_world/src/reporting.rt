@@ -1,19 +1,19 @@
 ghost use Rattle.std.specs.Prelude.{◌≡◌, ◌<◌, ◌^◌, [], length, map, slice_index_or, true, IfOk};
 ghost use Rattle.std.specs.List.{AllByRecursion};
-ghost use Rattle.ndc_act.specs.WellFormed.{IsCluster, IsWellFormedAct, IsWellFormedHeader};
-ghost use Rattle.ndc_bare.specs.Bare.{is_on_reports};
-ghost use Rattle.ndc_bare.specs.Standing.{IsLeftBy, StandFor};
+ghost use Rattle.ndc_script_types.specs.WellFormed.{IsCluster, IsWellFormedAct, IsWellFormedHeader};
+ghost use Rattle.ndc_laws_jobs.specs.Bare.{is_on_reports};
+ghost use Rattle.ndc_laws_jobs.specs.Standing.{IsLeftBy, StandFor};
 ghost use Rattle.ndc_domain.specs.Clusters.{count_of};
 ghost use Rattle.ndc_domain.specs.declared.clusters.ClusterNo.{ClusterNo as Number};
 ghost use Rattle.ndc_model.specs.Fair.{IsShaped};
 ghost use Rattle.ndc_model.specs.Lines.{act_step};
 ghost use Rattle.ndc_model.specs.World.{World, all_clusters};
 
-use ndc_act::{Act, Header, clusters_below};
-use ndc_links::Reads;
-use ndc_network::Network;
+use ndc_cluster_reads::Reads;
 use ndc_progress::Progress;
-use ndc_steps::{Step, answered, reports};
+use ndc_script_types::{Act, Header, clusters_below};
+use ndc_world_network::Network;
+use ndc_world_steps::{Step, answered, reports};
 use std::alloc::{AllocError, Global};
 
 /// Whether a line tells of activities, takes reports over or shows one.

@@ -1,12 +1,12 @@
 use crate::begins::Begins;
 use crate::clusters::{Clusters, Left};
 use crate::reporting::{is_on_reports, no_reports};
-use ndc_act::{Act, Header, Line};
-use ndc_answers::behind_number;
 use ndc_index::Seen;
-use ndc_network::Network;
 use ndc_port::Gate;
 use ndc_progress::Progress;
+use ndc_script_types::{Act, Header, Line};
+use ndc_world_answers::behind_number;
+use ndc_world_network::Network;
 use std::alloc::{AllocError, Global};
 use std::marker::Model;
 use std::thread::Threads;
@@ -48,9 +48,9 @@ pub struct Ran<'a, C: Begins + Drop> {
 
 impl<'a, C: Begins + Drop> World<'a, C> {
     ghost use Rattle.std.specs.Prelude.{◌≡◌, ◌<◌, ◌+◌, ◌≤◌, false, length, true, IfOk};
-    ghost use Rattle.ndc_act.specs.WellFormed.{IsWellFormedAct, IsWellFormedHeader};
-    ghost use Rattle.ndc_bare.specs.Bare.{is_on_reports};
-    ghost use Rattle.ndc_bare.specs.Standing.{StandFor};
+    ghost use Rattle.ndc_script_types.specs.WellFormed.{IsWellFormedAct, IsWellFormedHeader};
+    ghost use Rattle.ndc_laws_jobs.specs.Bare.{is_on_reports};
+    ghost use Rattle.ndc_laws_jobs.specs.Standing.{StandFor};
     ghost use Rattle.ndc_model.specs.Fair.{IsShaped};
     ghost use Rattle.ndc_model.specs.Lines.{lines_of_act};
     ghost use Rattle.ndc_model.specs.World.{World as Whole, opening_world};

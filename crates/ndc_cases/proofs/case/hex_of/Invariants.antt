@@ -1,5 +1,5 @@
 use Rattle.std.proofs.Common.{◌≡◌, length}
-use Rattle.ndc_read.proofs.LineLists.{behind}
+use Rattle.ndc_script_read.proofs.LineLists.{behind}
 use Rattle.ndc_cases.specs.Case.{hex_of}
 use Rattle.ndc_cases.proofs.case.hex_of.Given as goal
 

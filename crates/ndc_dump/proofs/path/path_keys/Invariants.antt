@@ -1,5 +1,5 @@
 use Rattle.std.proofs.Common.{◌≤◌, [], length, drop, map}
-use Rattle.ndc_sets.specs.Paths.{walk_down}
+use Rattle.ndc_model_sets.specs.Paths.{walk_down}
 use Rattle.ndc_dump.proofs.PathKeys.{IsSoFar}
 use Rattle.ndc_dump.proofs.path.path_keys.Given as goal
 

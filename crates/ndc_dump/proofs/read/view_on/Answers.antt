@@ -1,8 +1,8 @@
 use Rattle.std.proofs.Common.{List, ◌++◌, codes, map, ap, ◌∙◌}
 use Rattle.std.specs.List.{flat_map}
 use Rattle.ndc_event.specs.declared.batch.Batch.{Batch}
-use Rattle.ndc_sets.specs.View.{view_of}
-use Rattle.ndc_sets.specs.declared.view.RunView.{RunView}
+use Rattle.ndc_model_sets.specs.View.{view_of}
+use Rattle.ndc_model_sets.specs.declared.view.RunView.{RunView}
 use Rattle.ndc_text.specs.Views.{run_state_lines}
 use Rattle.ndc_dump.specs.Lines.{differ_at, lines_of}
 use Rattle.ndc_dump.proofs.ViewLines.{shown-other, shown-same, standing-view}

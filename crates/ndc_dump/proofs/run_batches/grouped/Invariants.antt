@@ -1,7 +1,7 @@
 use Rattle.std.proofs.Common.{◌≡◌, ◌++◌, drop}
 use Rattle.ndc_event.specs.declared.key.RunId.{RunId}
 use Rattle.ndc_dump.specs.Groups.{listed}
-use Rattle.ndc_runs.specs.RunMap.{part_of}
+use Rattle.ndc_shard_runs.specs.RunMap.{part_of}
 use Rattle.ndc_dump.proofs.run_batches.grouped.Given as goal
 
 -- the batches so far are listed, and those that are left come behind them

@@ -1,7 +1,7 @@
 use Rattle.std.proofs.Common.{ℕ, List, ◌++◌, codes, ap, ◌∙◌}
 use Rattle.std.specs.List.{flat_map}
-use Rattle.ndc_runs.specs.RunMap.{part_of}
-use Rattle.ndc_sets.specs.declared.view.RunView.{RunView}
+use Rattle.ndc_shard_runs.specs.RunMap.{part_of}
+use Rattle.ndc_model_sets.specs.declared.view.RunView.{RunView}
 use Rattle.ndc_dump.specs.Groups.{listed}
 use Rattle.ndc_dump.specs.Marks.{run_tree}
 use Rattle.ndc_dump.proofs.Trees.{tree_same}

@@ -9,10 +9,10 @@ use Rattle.ndc_command.specs.Plan.{judged_at, plan_below, plan_of, start_of, wit
 use Rattle.ndc_command.specs.Stage.{refuse}
 use Rattle.ndc_domain.specs.Members.{numbers, numbers_where}
 use Rattle.ndc_event.specs.Kind.{kind_name}
-use Rattle.ndc_cells.specs.Arrival.{arrival_of, arrived_at, learned_by}
-use Rattle.ndc_cells.specs.Jobs.{after_job, cells_after, learned_in, outcome_of, replies_to}
-use Rattle.ndc_cells.specs.Shards.{shard_of}
-use Rattle.ndc_cells.specs.Writing.{command_of, may_write, reapplication_of, reset_at}
+use Rattle.ndc_model_cells.specs.Arrival.{arrival_of, arrived_at, learned_by}
+use Rattle.ndc_model_cells.specs.Jobs.{after_job, cells_after, learned_in, outcome_of, replies_to}
+use Rattle.ndc_model_cells.specs.Shards.{shard_of}
+use Rattle.ndc_model_cells.specs.Writing.{command_of, may_write, reapplication_of, reset_at}
 use Rattle.ndc_letters.specs.Letters.{taken_of}
 use Rattle.ndc_model.specs.Letters.{letters_merged}
 use Rattle.ndc_model.specs.Lines.{act_step}

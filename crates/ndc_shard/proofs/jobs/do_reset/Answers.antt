@@ -1,6 +1,6 @@
 use Rattle.std.proofs.Common.{◌∙◌}
-use Rattle.ndc_cells.specs.Jobs.{after_job, outcome_of, learned_in}
-use Rattle.ndc_cells.specs.Writing.{reset_at}
+use Rattle.ndc_model_cells.specs.Jobs.{after_job, outcome_of, learned_in}
+use Rattle.ndc_model_cells.specs.Writing.{reset_at}
 use Rattle.ndc_shard.proofs.ReplyLemmas.{cell-same, reply-same}
 use Rattle.ndc_shard.proofs.jobs.do_reset.Goals as goal
 

@@ -1,7 +1,7 @@
 use Rattle.std.proofs.Common.{◌≡◌, List, Option, Some, map, sym, subst}
 use Rattle.ndc_event.specs.declared.key.BatchKey.{BatchKey}
-use Rattle.ndc_waiting.specs.declared.waiting.PutOff.{PutOff}
-use Rattle.ndc_workflow.specs.Workflow.{all_missing}
+use Rattle.ndc_shard_waiting.specs.declared.waiting.PutOff.{PutOff}
+use Rattle.ndc_shard_workflows.specs.Workflow.{all_missing}
 use Rattle.ndc_shard.proofs.ReadingLemmas.{none-yet}
 use Rattle.ndc_shard.proofs.lacking.lacking_in.Goals as goal
 

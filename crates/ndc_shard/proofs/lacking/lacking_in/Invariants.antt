@@ -1,7 +1,7 @@
 use Rattle.std.proofs.Common.{◌≡◌, ◌++◌, drop, map}
-use Rattle.ndc_links.specs.Lacking.{lacking_of}
+use Rattle.ndc_cluster_reads.specs.Lacking.{lacking_of}
 use Rattle.ndc_shard.specs.Lacking.{lacking_there}
-use Rattle.ndc_workflow.specs.Workflow.{put_off_in}
+use Rattle.ndc_shard_workflows.specs.Workflow.{put_off_in}
 use Rattle.ndc_shard.proofs.lacking.lacking_in.Given as goal
 
 -- those gone over, and those that are left, are all

@@ -1,5 +1,5 @@
 use Rattle.std.proofs.Common.{subst}
-use Rattle.ndc_act.specs.WellFormed.{IsWellFormedAct}
+use Rattle.ndc_script_types.specs.WellFormed.{IsWellFormedAct}
 use Rattle.ndc_world.proofs.ReachedLemmas.{config_small, handovers_fit, orderly, sources_known}
 use Rattle.ndc_world.proofs.acting.act.Goals as goal
 

@@ -1,5 +1,5 @@
 use Rattle.std.proofs.Common.{subst}
-use Rattle.ndc_act.specs.WellFormed.{IsWellFormedAct}
+use Rattle.ndc_script_types.specs.WellFormed.{IsWellFormedAct}
 use Rattle.ndc_world.proofs.ReachedLemmas.{learned_in_range, members_known, orderly, sources_known}
 use Rattle.ndc_world.proofs.acting.read.Goals as goal
 

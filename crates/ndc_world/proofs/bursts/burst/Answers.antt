@@ -1,6 +1,6 @@
 use Rattle.std.proofs.Common.{◌<◌, length, sym, subst, ◌∙◌}
 use Rattle.std.specs.List.{AllByRecursion}
-use Rattle.ndc_cells.specs.declared.job.ShardJob.{ShardJob}
+use Rattle.ndc_model_cells.specs.declared.job.ShardJob.{ShardJob}
 use Rattle.ndc_model.specs.World.{cluster_at}
 use Rattle.ndc_world.proofs.BurstLemmas.{jobs_there}
 use Rattle.ndc_world.proofs.bursts.burst.Goals as goal

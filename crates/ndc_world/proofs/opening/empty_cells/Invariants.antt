@@ -1,6 +1,6 @@
 use Rattle.std.proofs.Common.{◌≡◌, ◌≤◌, ◌-◌, length, map}
 use Rattle.std.specs.Prelude.{replicate}
-use Rattle.ndc_cells.specs.Cells.{empty_cell}
+use Rattle.ndc_model_cells.specs.Cells.{empty_cell}
 use Rattle.ndc_world.proofs.opening.empty_cells.Given as goal
 
 abbrev pub invariant-loop-alloc : goal.invariant-loop-alloc

@@ -1,4 +1,4 @@
-use Rattle.ndc_network.specs.Networks.{opening_site}
+use Rattle.ndc_world_network.specs.Networks.{opening_site}
 use Rattle.ndc_world.proofs.OpeningLemmas.{one_more_alike}
 use Rattle.ndc_world.proofs.opening.opening_sites.Goals as goal
 

@@ -1,5 +1,5 @@
 use Rattle.std.proofs.Common.{◌≡◌, ◌++◌, drop, map}
-use Rattle.ndc_network.specs.Networks.{opening_site}
+use Rattle.ndc_world_network.specs.Networks.{opening_site}
 use Rattle.ndc_world.proofs.opening.opening_sites.Given as goal
 
 abbrev pub invariant-loop-cluster : goal.invariant-loop-cluster

@@ -4,7 +4,7 @@ use Rattle.std.proofs.lemmas.List.{map-append}
 use Rattle.ndc_event.specs.declared.key.RunId.{RunId}
 use Rattle.ndc_event.specs.declared.batch.Batch.{Batch}
 use Rattle.ndc_dump.specs.Groups.{listed}
-use Rattle.ndc_runs.specs.RunMap.{part_of}
+use Rattle.ndc_shard_runs.specs.RunMap.{part_of}
 use Rattle.ndc_dump.proofs.Grouping.{put-behind}
 use Rattle.ndc_dump.proofs.run_batches.RunBatches.push.Goals as goal
 

@@ -1,5 +1,5 @@
 use Rattle.std.proofs.Common.{◌∙◌, ap, sym}
-use Rattle.ndc_sets.specs.Current.{state_to}
+use Rattle.ndc_model_sets.specs.Current.{state_to}
 use Rattle.ndc_tree.specs.Tree.{TreeValue}
 use Rattle.ndc_run.proofs.LearnLemmas.{held-state}
 use Rattle.ndc_run.proofs.run.Run.branch_at.Goals as goal

@@ -1,6 +1,6 @@
 use Rattle.std.proofs.Common.{◌∙◌, sym, subst, ap}
 use Rattle.ndc_run.specs.Learning.{joined, of_state_error}
-use Rattle.ndc_tree.specs.Reading.{current_key}
+use Rattle.ndc_model_sets.specs.Reading.{current_key}
 use Rattle.ndc_tree.specs.Tree.{TreeValue, Joins}
 use Rattle.ndc_run.proofs.LearnLemmas.{inside-extended, inside-same, joined-extended, joined-Err, current-before, was-Ok}
 use Rattle.ndc_run.proofs.run.Run.extend.Goals as goal

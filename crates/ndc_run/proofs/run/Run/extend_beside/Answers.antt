@@ -1,9 +1,10 @@
 use Rattle.std.proofs.Common.{◌≡◌, ◌∙◌, Ok, ap, sym, subst}
-use Rattle.ndc_sets.specs.Current.{state_to}
-use Rattle.ndc_run.specs.Learning.{is_key, leads_over, joined, of_state_error}
+use Rattle.ndc_model_sets.specs.Current.{state_to}
+use Rattle.ndc_model_sets.specs.Keys.{is_key}
+use Rattle.ndc_run.specs.Learning.{leads_over, joined, of_state_error}
 use Rattle.ndc_run.specs.declared.answer.Learned.TheVariants.{New}
 use Rattle.ndc_run.specs.Run.{state_before}
-use Rattle.ndc_tree.specs.Reading.{current_key}
+use Rattle.ndc_model_sets.specs.Reading.{current_key}
 use Rattle.ndc_tree.specs.Tree.{TreeValue, Joins}
 use Rattle.ndc_run.proofs.LearnLemmas.{inside-led, joined-beside, joined-Err, was-Ok}
 use Rattle.ndc_run.proofs.run.Run.extend_beside.Goals as goal

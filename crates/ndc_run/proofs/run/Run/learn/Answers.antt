@@ -4,7 +4,7 @@ use Rattle.ndc_run.specs.declared.answer.Learned.{Learned}
 use Rattle.ndc_run.specs.declared.answer.RunError.{RunError}
 use Rattle.ndc_run.specs.declared.answer.RunError.TheVariants.{Memory}
 use Rattle.ndc_run.specs.Learning.{joined}
-use Rattle.ndc_sets.specs.Sets.{arrived}
+use Rattle.ndc_model_sets.specs.Sets.{arrived}
 use Rattle.ndc_tree.specs.Tree.{TreeValue, IsTree, Joins}
 use Rattle.ndc_run.proofs.LearnLemmas.{not-known, switched-of}
 use Rattle.ndc_run.proofs.run.Run.learn.Goals as goal

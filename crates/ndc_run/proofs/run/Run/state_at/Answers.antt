@@ -1,8 +1,8 @@
 use Rattle.std.proofs.Common.{◌≡◌, ◌∙◌, IfOk, ap, sym, subst}
-use Rattle.ndc_sets.specs.Current.{state_to}
+use Rattle.ndc_model_sets.specs.Current.{state_to}
 use Rattle.ndc_state.specs.Value.{StateValue}
 use Rattle.ndc_tree.specs.Tree.{TreeValue}
-use Rattle.ndc_run.specs.Learning.{is_key}
+use Rattle.ndc_model_sets.specs.Keys.{is_key}
 use Rattle.ndc_run.proofs.LearnLemmas.{held-state, current-held}
 use Rattle.ndc_run.proofs.run.Run.state_at.Goals as goal
 

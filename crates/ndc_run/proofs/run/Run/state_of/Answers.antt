@@ -1,6 +1,6 @@
 use Rattle.std.proofs.Common.{◌≡◌, ◌∙◌, true, sym, subst}
 use Rattle.std.specs.Prelude.{is_some}
-use Rattle.ndc_sets.specs.Sets.{batch_at}
+use Rattle.ndc_model_sets.specs.Sets.{batch_at}
 use Rattle.ndc_tree.specs.Tree.{TreeValue}
 use Rattle.ndc_run.proofs.LearnLemmas.{tip-there}
 use Rattle.ndc_run.proofs.run.Run.state_of.Goals as goal

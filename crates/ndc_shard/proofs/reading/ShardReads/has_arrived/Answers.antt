@@ -1,5 +1,6 @@
 use Rattle.std.proofs.Common.{sym, ◌∙◌, ap}
-use Rattle.ndc_workflow.specs.Workflow.{has_arrived, workflow_of}
+use Rattle.ndc_shard_workflows.specs.Workflow.{has_arrived}
+use Rattle.ndc_model_cells.specs.Workflow.{workflow_of}
 use Rattle.ndc_shard.proofs.ReadingLemmas.{arrived-there}
 use Rattle.ndc_shard.proofs.reading.ShardReads.has_arrived.Goals as goal
 

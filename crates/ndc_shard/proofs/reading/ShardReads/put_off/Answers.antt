@@ -1,7 +1,8 @@
 use Rattle.std.proofs.Common.{◌≡◌, IfOk, List, map, sym, ◌∙◌, subst, ap}
-use Rattle.ndc_links.specs.Lacking.{lacking_of}
-use Rattle.ndc_links.specs.declared.reads.Lacking.{Lacking}
-use Rattle.ndc_workflow.specs.Workflow.{WorkflowValue, put_off_in, workflow_of}
+use Rattle.ndc_cluster_reads.specs.Lacking.{lacking_of}
+use Rattle.ndc_cluster_reads.specs.declared.reads.Lacking.{Lacking}
+use Rattle.ndc_model_cells.specs.Workflow.{WorkflowValue, workflow_of}
+use Rattle.ndc_shard_workflows.specs.Workflow.{put_off_in}
 use Rattle.ndc_shard.proofs.ReadingLemmas.{lacking-none, lacking-own}
 use Rattle.ndc_shard.proofs.reading.ShardReads.put_off.Goals as goal
 

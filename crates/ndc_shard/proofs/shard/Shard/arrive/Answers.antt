@@ -1,6 +1,6 @@
 use Rattle.std.proofs.Common.{sym, ◌∙◌, subst, ap}
-use Rattle.ndc_cells.specs.Arrival.{arrival_of, arrived_at, learned_by}
-use Rattle.ndc_workflow.specs.Allowed.{MayArrive}
+use Rattle.ndc_model_cells.specs.Arrival.{arrival_of, arrived_at, learned_by}
+use Rattle.ndc_model_cells.specs.Allowed.{MayArrive}
 use Rattle.ndc_shard.specs.Shards.{having_written}
 use Rattle.ndc_shard.proofs.QueueLemmas.{arrival-same, learned-same, arrived-same, may-same}
 use Rattle.ndc_shard.proofs.shard.Shard.arrive.Goals as goal

@@ -1,8 +1,8 @@
 use Rattle.std.proofs.Common.{◌∙◌, subst}
-use Rattle.ndc_cells.specs.Cells.{Cell}
-use Rattle.ndc_cells.specs.Places.{AreInOrder}
-use Rattle.ndc_workflows.specs.Due.{AreDue}
-use Rattle.ndc_workflows.proofs.ListLemmas.{may-due, reapplied-due, written-due}
+use Rattle.ndc_model_cells.specs.Cells.{Cell}
+use Rattle.ndc_model_cells.specs.Places.{AreInOrder}
+use Rattle.ndc_shard_workflows.specs.Due.{AreDue}
+use Rattle.ndc_shard_workflows.proofs.ListLemmas.{may-due, reapplied-due, written-due}
 use Rattle.ndc_shard.proofs.AgainLemmas.{due-same}
 use Rattle.ndc_shard.proofs.shard.Shard.reapply.Goals as goal
 

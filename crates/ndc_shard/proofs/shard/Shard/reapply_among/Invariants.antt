@@ -1,5 +1,5 @@
 use Rattle.std.proofs.Common.{◌≡◌, ◌++◌}
-use Rattle.ndc_workflows.specs.Reapplied.{MayReapplyAmong, reapplied_among, written_among}
+use Rattle.ndc_shard_workflows.specs.Reapplied.{MayReapplyAmong, reapplied_among, written_among}
 use Rattle.ndc_shard.proofs.shard.Shard.reapply_among.Given as goal
 
 -- in what is left it may be done, and with it all is

@@ -1,6 +1,6 @@
 use Rattle.std.proofs.Common.{◌≡◌, ◌++◌}
-use Rattle.ndc_cells.specs.Jobs.{all_batches}
-use Rattle.ndc_cells.specs.Writing.{with_all_written}
+use Rattle.ndc_model_cells.specs.Jobs.{all_batches}
+use Rattle.ndc_model_cells.specs.Writing.{with_all_written}
 use Rattle.ndc_shard.specs.Shards.{AreWritable}
 use Rattle.ndc_shard.proofs.shard.Shard.write_all.Given as goal
 

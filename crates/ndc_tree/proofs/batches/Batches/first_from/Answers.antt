@@ -1,7 +1,8 @@
 use Rattle.std.proofs.Common.{◌∙◌, ap, sym}
 use Rattle.std.specs.Option.{option_copied}
-use Rattle.ndc_tree.specs.Last.{first_from}
-use Rattle.ndc_tree.proofs.MapLemmas.{key_cmp-by, first-between, first_batch}
+use Rattle.ndc_model_sets.specs.Last.{first_from}
+use Rattle.ndc_model_sets.proofs.KeyOrder.{key_cmp-by}
+use Rattle.ndc_tree.proofs.MapLemmas.{first-between, first_batch}
 use Rattle.ndc_tree.proofs.batches.Batches.first_from.Goals as goal
 
 pub returns-in_err-batch : goal.returns-in_err-batch

@@ -1,6 +1,7 @@
 use Rattle.std.proofs.Common.{◌∙◌, ap}
-use Rattle.ndc_sets.specs.Sets.{batch_at}
-use Rattle.ndc_tree.proofs.MapLemmas.{key_cmp-by, found}
+use Rattle.ndc_model_sets.specs.Sets.{batch_at}
+use Rattle.ndc_model_sets.proofs.KeyOrder.{key_cmp-by}
+use Rattle.ndc_tree.proofs.MapLemmas.{found}
 use Rattle.ndc_tree.proofs.batches.Batches.get.Goals as goal
 
 pub returns : goal.returns

@@ -1,7 +1,8 @@
 use Rattle.std.proofs.Common.{◌≡◌, None, ◌∙◌, ap, sym, subst, List}
 use Rattle.ndc_event.specs.declared.batch.Batch.{Batch}
-use Rattle.ndc_sets.specs.Sets.{batch_at, arrived}
-use Rattle.ndc_tree.proofs.MapLemmas.{key_cmp-by, inserted}
+use Rattle.ndc_model_sets.specs.Sets.{batch_at, arrived}
+use Rattle.ndc_model_sets.proofs.KeyOrder.{key_cmp-by}
+use Rattle.ndc_tree.proofs.MapLemmas.{inserted}
 use Rattle.ndc_tree.proofs.batches.Batches.insert.Goals as goal
 
 pub invariant_of-self-2 : goal.invariant_of-self-2

@@ -1,5 +1,5 @@
 use Rattle.std.proofs.Common.{◌∙◌, ap, sym}
-use Rattle.ndc_tree.specs.Last.{last_batch}
+use Rattle.ndc_model_sets.specs.Last.{last_batch}
 use Rattle.ndc_tree.proofs.MapLemmas.{last-at}
 use Rattle.ndc_tree.proofs.batches.Batches.last.Goals as goal
 

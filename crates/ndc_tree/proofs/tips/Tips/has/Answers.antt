@@ -1,7 +1,7 @@
 use Rattle.std.proofs.Common.{◌∙◌, ap}
-use Rattle.ndc_tree.specs.Tips.{is_key_among}
-use Rattle.ndc_tree.proofs.MapLemmas.{key_cmp-by}
-use Rattle.ndc_tree.proofs.TipLemmas.{any-at}
+use Rattle.ndc_model_sets.specs.Keys.{is_key_among}
+use Rattle.ndc_model_sets.proofs.KeyOrder.{key_cmp-by}
+use Rattle.ndc_model_sets.proofs.KeySets.{any-at}
 use Rattle.ndc_tree.proofs.tips.Tips.has.Goals as goal
 
 pub returns : goal.returns

@@ -1,7 +1,7 @@
 use Rattle.std.proofs.Common.{◌∙◌, ap}
-use Rattle.ndc_tree.specs.Tips.{with_key}
-use Rattle.ndc_tree.proofs.MapLemmas.{key_cmp-by}
-use Rattle.ndc_tree.proofs.TipLemmas.{insert_key-with}
+use Rattle.ndc_model_sets.specs.Keys.{with_key}
+use Rattle.ndc_model_sets.proofs.KeyOrder.{key_cmp-by}
+use Rattle.ndc_model_sets.proofs.KeySets.{insert_key-with}
 use Rattle.ndc_tree.proofs.tips.Tips.put.Goals as goal
 
 pub returns-clause-ok : goal.returns-clause-ok

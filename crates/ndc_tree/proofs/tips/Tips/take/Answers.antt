@@ -1,7 +1,7 @@
 use Rattle.std.proofs.Common.{◌∙◌, ap}
-use Rattle.ndc_tree.specs.Tips.{without_key}
-use Rattle.ndc_tree.proofs.MapLemmas.{key_cmp-by}
-use Rattle.ndc_tree.proofs.TipLemmas.{remove-at}
+use Rattle.ndc_model_sets.specs.Keys.{without_key}
+use Rattle.ndc_model_sets.proofs.KeyOrder.{key_cmp-by}
+use Rattle.ndc_model_sets.proofs.KeySets.{remove-at}
 use Rattle.ndc_tree.proofs.tips.Tips.take.Goals as goal
 
 pub returns : goal.returns

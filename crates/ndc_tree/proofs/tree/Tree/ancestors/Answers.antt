@@ -1,7 +1,7 @@
 use Rattle.std.proofs.Common.{◌∷◌, [], ◌++◌, reverse, ◌∙◌, Some, ap, sym, subst, map}
 use Rattle.std.specs.Option.{option_copied}
 use Rattle.std.proofs.lemmas.List.{map-append}
-use Rattle.ndc_tree.specs.Reading.{path_of}
+use Rattle.ndc_model_sets.specs.Reading.{path_of}
 use Rattle.ndc_tree.specs.Tree.{TreeValue, IsTree}
 use Rattle.ndc_tree.proofs.ReadingLemmas.{path-walks, path-less, map-reversed, none-of}
 use Rattle.ndc_tree.proofs.tree.Tree.ancestors.Goals as goal

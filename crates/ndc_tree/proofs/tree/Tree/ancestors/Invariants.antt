@@ -1,6 +1,6 @@
 use Rattle.std.specs.Prelude.{Some, map}
 use Rattle.std.specs.Option.{option_copied}
-use Rattle.ndc_tree.specs.Reading.{path_of}
+use Rattle.ndc_model_sets.specs.Reading.{path_of}
 use Rattle.ndc_tree.proofs.VersionLemmas.{rank}
 use Rattle.ndc_tree.proofs.ReadingLemmas.{Walks}
 use Rattle.ndc_tree.proofs.tree.Tree.ancestors.Given as goal

@@ -1,7 +1,7 @@
 use Rattle.std.proofs.Common.{◌∙◌, ap, sym}
 use Rattle.std.specs.Option.{option_map}
 use Rattle.ndc_event.specs.declared.batch.Batch.{Batch}
-use Rattle.ndc_tree.specs.Reading.{current_key}
+use Rattle.ndc_model_sets.specs.Reading.{current_key}
 use Rattle.ndc_tree.specs.Tree.{TreeValue}
 use Rattle.ndc_tree.proofs.LastLemmas.{current_is_last}
 use Rattle.ndc_tree.proofs.tree.Tree.current.Goals as goal

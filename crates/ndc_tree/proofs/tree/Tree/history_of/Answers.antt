@@ -1,8 +1,8 @@
 use Rattle.std.proofs.Common.{◌∙◌, Some, ap, sym}
 use Rattle.std.specs.Option.{option_copied, option_map}
 use Rattle.ndc_event.specs.declared.key.BatchKey.{BatchKey}
-use Rattle.ndc_sets.specs.Paths.{versions_of, events_to}
-use Rattle.ndc_sets.proofs.SetLemmas.{found-key, found-has}
+use Rattle.ndc_model_sets.specs.Paths.{versions_of, events_to}
+use Rattle.ndc_model_sets.proofs.SetLemmas.{found-key, found-has}
 use Rattle.ndc_tree.proofs.tree.Tree.history_of.Goals as goal
 
 pub items_to-requires : goal.items_to-requires

@@ -2,7 +2,7 @@ use Rattle.std.proofs.Common.{◌≡◌, ◌∙◌, ◌++◌, ◌∷◌, [], Lis
 use Rattle.std.specs.Option.{option_copied}
 use Rattle.ndc_history.specs.declared.item.Item.{Item}
 use Rattle.ndc_history.specs.History.{rises}
-use Rattle.ndc_tree.specs.Reading.{elder_of}
+use Rattle.ndc_model_sets.specs.Reading.{elder_of}
 use Rattle.ndc_tree.specs.Tree.{TreeValue, IsTree}
 use Rattle.ndc_tree.proofs.NotedLemmas.{behind_elder, elder_there}
 use Rattle.ndc_tree.proofs.ReadingLemmas.{items-rise}

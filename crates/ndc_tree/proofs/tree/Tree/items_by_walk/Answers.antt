@@ -2,7 +2,7 @@ use Rattle.std.proofs.Common.{◌≡◌, ◌++◌, reverse, ◌∷◌, [], ◌�
 use Rattle.std.specs.Option.{option_copied}
 use Rattle.ndc_history.specs.declared.item.Item.{Item}
 use Rattle.ndc_history.specs.History.{rises}
-use Rattle.ndc_tree.specs.Reading.{items_of}
+use Rattle.ndc_model_sets.specs.Reading.{items_of}
 use Rattle.ndc_tree.specs.Tree.{TreeValue, IsTree}
 use Rattle.ndc_tree.proofs.ReadingLemmas.{items-walk, items-less, items-rise, none-of}
 use Rattle.ndc_tree.proofs.tree.Tree.items_by_walk.Goals as goal

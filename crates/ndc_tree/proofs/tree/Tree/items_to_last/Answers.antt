@@ -1,8 +1,8 @@
 use Rattle.std.proofs.Common.{◌∙◌, ap, sym, subst}
 use Rattle.std.specs.Option.{option_copied}
 use Rattle.ndc_event.specs.Key.{key_eq}
-use Rattle.ndc_sets.proofs.KeyLemmas.{same-keys}
-use Rattle.ndc_tree.specs.Last.{last_batch}
+use Rattle.ndc_model_sets.proofs.KeyLemmas.{same-keys}
+use Rattle.ndc_model_sets.specs.Last.{last_batch}
 use Rattle.ndc_tree.specs.Tree.{TreeValue, IsTree}
 use Rattle.ndc_tree.proofs.LastLemmas.{last-has}
 use Rattle.ndc_tree.proofs.NotedLemmas.{noted_last, sure}

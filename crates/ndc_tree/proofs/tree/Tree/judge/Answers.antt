@@ -1,5 +1,5 @@
 use Rattle.std.proofs.Common.{◌≡◌, true, ◌∙◌, sym, subst}
-use Rattle.ndc_sets.specs.Learned.{has_key}
+use Rattle.ndc_model_sets.specs.Learned.{has_key}
 use Rattle.ndc_tree.specs.Fitting.{fits}
 use Rattle.ndc_tree.specs.Tree.{TreeValue, Joins}
 use Rattle.ndc_tree.proofs.FitLemmas.{fit-joins}

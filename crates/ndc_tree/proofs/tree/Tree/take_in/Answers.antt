@@ -1,8 +1,9 @@
 use Rattle.std.proofs.Common.{◌≡◌, List, ◌∙◌, ap, sym, subst}
 use Rattle.ndc_event.specs.declared.batch.Batch.{Batch}
-use Rattle.ndc_sets.specs.Sets.{arrived}
+use Rattle.ndc_model_sets.specs.Sets.{arrived}
 use Rattle.ndc_tree.specs.Noted.{IsNoted}
-use Rattle.ndc_tree.specs.Tips.{tip_keys, with_key, without_key, without_parent}
+use Rattle.ndc_tree.specs.Tips.{tip_keys, without_parent}
+use Rattle.ndc_model_sets.specs.Keys.{with_key, without_key}
 use Rattle.ndc_tree.specs.Tree.{TreeValue, IsTree, Joins}
 use Rattle.ndc_tree.proofs.GrowLemmas.{grown_is_tree}
 use Rattle.ndc_tree.proofs.NotedLemmas.{noted_grown}

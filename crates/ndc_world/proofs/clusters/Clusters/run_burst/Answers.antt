@@ -1,6 +1,6 @@
 use Rattle.std.proofs.Common.{◌+◌, ◌≤◌, length, ap, sym, subst, ◌∙◌}
-use Rattle.ndc_act.specs.WellFormed.{IsCluster}
-use Rattle.ndc_act.specs.declared.script.Act.TheVariants as act
+use Rattle.ndc_script_types.specs.WellFormed.{IsCluster}
+use Rattle.ndc_script_types.specs.declared.script.Act.TheVariants as act
 use Rattle.ndc_model.specs.Lines.{answers_of, seen_in}
 use Rattle.ndc_world.specs.Running.{Running, behind_line, ran_at}
 use Rattle.ndc_world.proofs.RunLemmas.{burst_behind, burst_ran, burst_running, may_burst}

@@ -1,5 +1,5 @@
 use Rattle.std.proofs.Common.{◌<◌, ap, sym, subst}
-use Rattle.ndc_act.specs.WellFormed.{IsWellFormedAct}
+use Rattle.ndc_script_types.specs.WellFormed.{IsWellFormedAct}
 use Rattle.ndc_model.specs.Steps.{Stepped}
 use Rattle.ndc_world.specs.Running.{Running}
 use Rattle.ndc_world.proofs.RunLemmas.{line_running, may_line}

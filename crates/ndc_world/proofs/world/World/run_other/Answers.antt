@@ -1,6 +1,6 @@
 use Rattle.std.proofs.Common.{◌+◌, ◌≤◌, length, subst, sym}
-use Rattle.ndc_act.specs.WellFormed.{IsWellFormedAct}
-use Rattle.ndc_bare.specs.Standing.{StandFor}
+use Rattle.ndc_script_types.specs.WellFormed.{IsWellFormedAct}
+use Rattle.ndc_laws_jobs.specs.Standing.{StandFor}
 use Rattle.ndc_model.specs.Lines.{lines_of_act}
 use Rattle.ndc_model.specs.World.{World as Whole}
 use Rattle.ndc_world.specs.Standing.{IsBehind, Standing}

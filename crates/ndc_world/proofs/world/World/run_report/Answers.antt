@@ -1,5 +1,5 @@
 use Rattle.std.proofs.Common.{◌<◌, subst, sym}
-use Rattle.ndc_act.specs.WellFormed.{IsWellFormedAct}
+use Rattle.ndc_script_types.specs.WellFormed.{IsWellFormedAct}
 use Rattle.ndc_world.specs.Standing.{Standing}
 use Rattle.ndc_world.proofs.StandingLemmas.{beats_small, passed_reached, standing_report}
 use Rattle.ndc_world.proofs.world.World.run_report.Goals as goal

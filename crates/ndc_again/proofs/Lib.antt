@@ -1,9 +1,0 @@
-pub mod AuthorLemmas
-pub mod KeyLists
-pub mod WayLemmas
-pub mod GatherLemmas
-pub mod ReachLemmas
-pub mod GroupLemmas
-pub mod AgainLemmas
-pub mod StepLemmas
-pub mod AboveLemmas

@@ -1,4 +1,0 @@
-pub mod Authors
-pub mod Gathered
-pub mod Again
-pub mod Steps

@@ -1,3 +1,0 @@
-pub mod Bare
-pub mod Standing
-pub mod Reporting

@@ -1,0 +1,43 @@
+-- Renewing where all is done: nothing changes.
+use Rattle.std.proofs.Common.{◌≡◌, ◌≤◌, ◌<◌, ◌+◌, ℕ, zero, suc, List, [], ◌∷◌, max, length, get_or, sum_by, refl, ap, ◌∙◌, arith}
+use Rattle.std.proofs.lemmas.List.Sums.{prefix_len-drop_all}
+use Rattle.ndc_model_cells.specs.Cells.{Cell}
+use Rattle.ndc_model_cells.specs.declared.message.Message.{Message}
+use Rattle.ndc_domain.specs.declared.clusters.ClusterNo.{ClusterNo}
+use Rattle.ndc_domain.specs.declared.record.DomainRecord.{DomainRecord}
+use Rattle.ndc_model.specs.Moves.{map_from}
+use Rattle.ndc_model.specs.Queues.{Lane, after_renewal, needs_nothing, new_lane}
+use Rattle.ndc_queue.specs.Queues.{QueueValue, queue_len}
+use Rattle.ndc_cluster_links.proofs.DoneLemmas.{done_each}
+use Rattle.ndc_cluster_links.proofs.RestLemmas.{len_kept}
+use Rattle.ndc_cluster_links.specs.Links.{done_of}
+use Rattle.ndc_cluster_links.specs.Rest.{AreRests, AreWithin, lane_at, queue_at}
+
+-- a list whose items a change leaves as they are
+same-from : {X : Type 0} (f : ℕ → X → X) (from : ℕ) (xs : List X) (d : X) → ((k place : ℕ) → k < length xs → place ≡ from + k → f place (get_or xs k d) ≡ get_or xs k d) → map_from f from xs ≡ xs
+same-from f from [] d same = refl
+same-from f from (x ∷ xs) d same =
+    ap (λ y. y ∷ map_from f (suc from) xs) (same zero from (omega arith) (omega arith))
+    ∙ ap (λ ys. x ∷ ys) (same-from f (suc from) xs d (λ k place below is. same (suc k) place (omega (arith, below)) (omega (arith, is))))
+
+-- a lane that is done up to the end of the queue
+idle-lane : (reader : ClusterNo) (table : List DomainRecord) (cell : Cell) (whole : List Message) (lane : Lane) → lane.levels.done ≤ lane.levels.read → lane.levels.done ≡ length whole
+    → after_renewal reader table cell whole lane ≡ lane
+idle-lane reader table cell whole lane read all =
+    let none = prefix_len-drop_all (needs_nothing reader table cell) whole lane.levels.done (omega (arith, all)) in
+    let still = ap (λ n. lane.levels.done + n) none in
+    let same : lane.levels.done + 0 ≡ lane.levels.done = omega arith in
+    let most : max lane.levels.read lane.levels.done ≡ lane.levels.read = omega (arith, read) in
+    ap (λ (n : ℕ). record lane { levels = record { read = max lane.levels.read n; done = n } }) (still ∙ same)
+    ∙ ap (λ (n : ℕ). record lane { levels = record { read = n; done = lane.levels.done } }) most
+
+-- and so all lanes, where as much is done as is written
+pub idle_lanes : (reader : ClusterNo) (table : List DomainRecord) (cells : ℕ → Cell) (queues : List QueueValue) (whole : ℕ → List Message) (lanes : List Lane)
+    → length queues ≡ length lanes → AreWithin queues lanes → AreRests queues whole → done_of lanes ≡ sum_by queue_len queues
+    → map_from (λ shard lane. after_renewal reader table (cells shard) (whole shard) lane) 0 lanes ≡ lanes
+idle_lanes reader table cells queues whole lanes alike within rests all =
+    same-from (λ shard lane. after_renewal reader table (cells shard) (whole shard) lane) 0 lanes new_lane (λ k place below is.
+    let same : place ≡ k = omega (arith, is) in
+    ap (λ (n : ℕ). after_renewal reader table (cells n) (whole n) (lane_at lanes k)) same
+    ∙ idle-lane reader table (cells k) (whole k) (lane_at lanes k) (within k below).done_most
+    (done_each queues lanes alike within all k below ∙ len_kept (queue_at queues k) (whole k) (rests k (omega (arith, alike, below)))))

@@ -1,0 +1,4 @@
+pub mod LinkFields
+pub mod Links
+pub mod QueuesFields
+pub mod Rest

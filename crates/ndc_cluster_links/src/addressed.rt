@@ -1,0 +1,109 @@
+ghost use Rattle.std.specs.Prelude.{◌≡◌, ◌≤◌, length, IfOk, Some};
+ghost use Rattle.std.specs.List.{filter, prefix_len};
+ghost use Rattle.ndc_model_cells.specs.Cells.{is_learned_in, is_message_learned};
+ghost use Rattle.ndc_domain.specs.Records.{record_of};
+ghost use Rattle.ndc_model.specs.Queues.{is_addressed, names_cluster, needs_nothing};
+
+use ndc_cluster_rounds::Works;
+use ndc_domain::{ClusterNo, DomainTable};
+use ndc_event::{Batch, BatchKey, Name};
+use ndc_model_cells::Message;
+use std::alloc::{AllocError, Global};
+
+/// Something that does the jobs of a cell, and tells which batches it has learned.
+pub trait Learns: Works {
+    ghost use Rattle.std.specs.Prelude.{◌≡◌, Some};
+    ghost use Rattle.ndc_model_cells.specs.Cells.{learned_of};
+    ghost use Rattle.ndc_model_sets.specs.Learned.{has_key};
+
+    /// Whether it has learned the batch of this key of a workflow. Takes no memory.
+    fn has_learned(&self, domain: &Name, workflow: &Name, key: BatchKey) -> bool
+        ensures { result ≡ has_key (Some key) (learned_of domain.now workflow.now (Self.cell self.now)) };
+}
+
+/// Whether the record of a domain names a cluster.
+pub fn is_named(table: &DomainTable, domain: &Name, reader: ClusterNo) -> bool
+    ensures { result ≡ names_cluster reader (record_of table.now domain.now) }
+{
+    match table.find(domain) {
+        Some(record) => record.members.has(reader),
+        None => false,
+    }
+}
+
+/// Whether a message is addressed to a reader: the source's record of its domain names the reader.
+pub fn is_addressed(table: &DomainTable, reader: ClusterNo, sent: &Message) -> bool
+    ensures { result ≡ is_addressed reader table.now sent.now }
+{
+    is_named(table, &sent.batch.domain, reader)
+}
+
+/// Copies of the messages that are addressed to a reader, in order.
+pub(crate) fn addressed(
+    alloc: Global,
+    table: &DomainTable,
+    reader: ClusterNo,
+    entries: &[Message],
+) -> Result<Vec<Message>, AllocError>
+    ensures { IfOk result (λ list. list.items ≡ filter (is_addressed reader table.now) entries.now) }
+{
+    let mut list = Vec::new(alloc);
+    for entry in entries {
+        if is_addressed(table, reader, entry) {
+            list.push(entry.try_copy()?)?;
+        }
+    }
+    Ok(list)
+}
+
+/// Whether a cell has learned a batch.
+fn is_learned<C: Learns>(cell: &C, batch: &Batch) -> bool
+    ensures { result ≡ is_learned_in (C.cell cell.now) batch.now }
+{
+    cell.has_learned(&batch.domain, &batch.workflow, batch.key)
+}
+
+/// Whether a cell has learned the batch of a message and the one that it carries.
+fn is_message_learned<C: Learns>(cell: &C, sent: &Message) -> bool
+    ensures { result ≡ is_message_learned (C.cell cell.now) sent.now }
+{
+    if !is_learned(cell, &sent.batch) {
+        return false;
+    }
+    match &sent.second {
+        Some(second) => is_learned(cell, second),
+        None => true,
+    }
+}
+
+/// Whether nothing is to be done for a message: the reader's cell has learned it, or it is not addressed to the reader.
+fn needs_nothing<C: Learns>(
+    table: &DomainTable,
+    reader: ClusterNo,
+    cell: &C,
+    sent: &Message,
+) -> bool
+    ensures { result ≡ needs_nothing reader table.now (C.cell cell.now) sent.now }
+{
+    is_message_learned(cell, sent) || !is_addressed(table, reader, sent)
+}
+
+/// How many of the first entries there are for which nothing is to be done.
+pub(crate) fn settled_front<C: Learns>(
+    table: &DomainTable,
+    reader: ClusterNo,
+    cell: &C,
+    entries: &[Message],
+) -> usize
+    ensures front { result ≡ prefix_len (needs_nothing reader table.now (C.cell cell.now)) entries.now }
+    ensures most { result ≤ length entries.now }
+{
+    let mut count = 0;
+    for entry in entries {
+        if !needs_nothing(table, reader, cell, entry) {
+            return count;
+        }
+        count += 1;
+    }
+    count
+}

@@ -1,0 +1,16 @@
+//! What readers have of the queues of sources: lanes and links.
+#![tactic(auto)]
+
+mod addressed;
+mod lane;
+mod link;
+mod queues;
+mod serves;
+mod writes;
+
+pub use addressed::{Learns, is_addressed, is_named};
+pub use lane::Lane;
+pub use link::Link;
+pub use queues::Queues;
+pub use serves::Serves;
+pub use writes::Writes;

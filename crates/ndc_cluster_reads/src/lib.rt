@@ -1,0 +1,6 @@
+//! What the lines of a script read of a cell.
+#![tactic(auto)]
+
+mod reads;
+
+pub use reads::{Lacking, Reads};

@@ -1,0 +1,172 @@
+ghost use Rattle.std.specs.Prelude.{◌≡◌, ◌<◌, false, length, map, IfOk, OnOk};
+ghost use Rattle.std.specs.List.{AllByRecursion};
+ghost use Rattle.std.specs.Option.{option_map};
+ghost use Rattle.ndc_model_cells.specs.Jobs.{cells_after, replies_to};
+ghost use Rattle.ndc_model_cells.specs.Conditions.{AreAllowed};
+ghost use Rattle.ndc_cluster_rounds.specs.Rounds.{dealt, fresh_slot, joined, slot_of, taken};
+
+use crate::halves::work_list;
+use crate::piece::{Desk, Piece, Slot, Works};
+use ndc_model_cells::{JobReply, ShardJob};
+use ndc_port::Gate;
+use std::alloc::{AllocError, Global};
+use std::collections::VecDeque;
+use std::thread::Threads;
+
+/// A slot for each cell, with nothing to do.
+fn slots_of<'a, C: Works + Drop>(
+    alloc: Global,
+    cells: Vec<C>,
+) -> Result<Vec<Slot<'a, C>>, AllocError>
+    ensures { IfOk result (λ slots. map (λ slot. slot_of (C.cell slot.cell) (map (λ job. job.now) slot.jobs.items) slot.replies.items) slots.items
+        ≡ map fresh_slot (map C.cell cells.items)) }
+{
+    let mut slots = Vec::new(alloc);
+    for cell in cells {
+        slots.push(Slot {
+            cell,
+            jobs: Vec::new(alloc),
+            replies: VecDeque::new(alloc),
+        })?;
+    }
+    Ok(slots)
+}
+
+/// Each job goes last among those of the slot of its shard.
+fn deal<'a, C: Works + Drop>(
+    slots: &mut Vec<Slot<'a, C>>,
+    jobs: &'a [ShardJob],
+) -> Result<(), AllocError>
+    requires { AllByRecursion (λ asked. asked.shard < length slots.old.items) jobs.now }
+    ensures { OnOk result (map (λ slot. slot_of (C.cell slot.cell) (map (λ job. job.now) slot.jobs.items) slot.replies.items) slots.new.items
+        ≡ dealt jobs.now (map (λ slot. slot_of (C.cell slot.cell) (map (λ job. job.now) slot.jobs.items) slot.replies.items) slots.old.items)) }
+{
+    for asked in jobs {
+        slots[asked.shard as usize].jobs.push(&asked.job)?;
+    }
+    Ok(())
+}
+
+/// Cuts slots into so many pieces of neighbouring ones, of nearly equal lengths, numbered from 0; the last one comes
+/// first.
+fn cut<'a, G: Gate, C: Works + Drop>(
+    alloc: Global,
+    slots: Vec<Slot<'a, C>>,
+    count: u32,
+    gate: &'a G,
+    desk: &'a Desk<'a>,
+) -> Result<Vec<Piece<'a, G, C>>, AllocError>
+    requires { 0 < count }
+    ensures slots { IfOk result (λ pieces. joined (map (λ piece. map (λ slot. slot_of (C.cell slot.cell) (map (λ job. job.now) slot.jobs.items) slot.replies.items) piece.slots.items) pieces.items)
+        ≡ map (λ slot. slot_of (C.cell slot.cell) (map (λ job. job.now) slot.jobs.items) slot.replies.items) slots.entry.items) }
+    ensures desks { IfOk result (λ pieces. AllByRecursion (λ piece. piece.desk.now ≡ desk.now) pieces.items) }
+{
+    let mut left = slots;
+    let mut pieces = Vec::new(alloc);
+    for done in 0..count {
+        let number = count - 1 - done;
+        let at = left.len() - left.len() / (number as usize + 1);
+        let slots = left.split_off(at)?;
+        pieces.push(Piece {
+            number,
+            gate,
+            desk,
+            slots,
+            is_spent: false,
+        })?;
+    }
+    Ok(pieces)
+}
+
+/// The slots of pieces in order, of which the last one comes first; an error where a piece is spent.
+fn join<'a, G: Gate, C: Works + Drop>(
+    alloc: Global,
+    pieces: Vec<Piece<'a, G, C>>,
+) -> Result<Vec<Slot<'a, C>>, AllocError>
+    ensures slots { IfOk result (λ slots. map (λ slot. slot_of (C.cell slot.cell) (map (λ job. job.now) slot.jobs.items) slot.replies.items) slots.items
+        ≡ joined (map (λ piece. map (λ slot. slot_of (C.cell slot.cell) (map (λ job. job.now) slot.jobs.items) slot.replies.items) piece.slots.items) pieces.entry.items)) }
+    ensures whole { IfOk result (λ _. AllByRecursion (λ piece. piece.is_spent ≡ false) pieces.entry.items) }
+{
+    let mut left = pieces;
+    let mut slots = Vec::new(alloc);
+    while let Some(piece) = left.pop() {
+        let mut more = piece.slots;
+        if piece.is_spent {
+            return Err(AllocError);
+        }
+        slots.append(&mut more)?;
+    }
+    Ok(slots)
+}
+
+/// For each job the next reply of its shard; none, where one lacks.
+fn collect<C: Works + Drop>(
+    alloc: Global,
+    slots: &mut Vec<Slot<C>>,
+    jobs: &[ShardJob],
+) -> Result<Option<Vec<JobReply>>, AllocError>
+    requires { AllByRecursion (λ asked. asked.shard < length slots.old.items) jobs.now }
+    ensures cells { OnOk result (map (λ slot. C.cell slot.cell) slots.new.items ≡ map (λ slot. C.cell slot.cell) slots.old.items) }
+    ensures replies { IfOk result (λ found. option_map (λ replies. replies.items) found ≡ taken jobs.now (map (λ slot. slot.replies.items) slots.old.items)) }
+{
+    let mut replies = Vec::new(alloc);
+    for asked in jobs {
+        let Some(reply) = slots[asked.shard as usize].replies.pop_front() else {
+            return Ok(None);
+        };
+        replies.push(reply)?;
+    }
+    Ok(Some(replies))
+}
+
+/// The cells of slots.
+fn cells_of<C: Works + Drop>(alloc: Global, slots: Vec<Slot<C>>) -> Result<Vec<C>, AllocError>
+    ensures { IfOk result (λ cells. map C.cell cells.items ≡ map (λ slot. C.cell slot.cell) slots.entry.items) }
+{
+    let mut cells = Vec::new(alloc);
+    for slot in slots {
+        cells.push(slot.cell)?;
+    }
+    Ok(cells)
+}
+
+/// What a round leaves: the cells, in order, and the replies in the order of the jobs.
+#[derive(Drop)]
+pub struct Rounded<C: Drop> {
+    pub cells: Vec<C>,
+    pub replies: Vec<JobReply>,
+}
+
+/// Cells do jobs side by side, on so many workers at most, each worker on neighbouring cells. Each worker first enters
+/// the gate with its number, counted from 0. The cells and the replies are those of the jobs done one after the other;
+/// want of memory ends the round, and the cells are gone. With one worker no thread is started. The shard of each job
+/// is that of a cell, and each job may be done by the cell that the jobs before it leave.
+pub fn round<R: Threads + Sync, G: Gate, C: Works + Drop + Send>(
+    rt: &R,
+    alloc: Global,
+    gate: &G,
+    workers: u32,
+    desk: &Desk,
+    cells: Vec<C>,
+    jobs: &[ShardJob],
+) -> Result<Rounded<C>, AllocError>
+    requires workers { 0 < workers }
+    requires shards { AllByRecursion (λ asked. asked.shard < length cells.items) jobs.now }
+    requires allowed { AreAllowed C.allows desk.now jobs.now (map C.cell cells.items) }
+    ensures cells { IfOk result (λ rounded. map C.cell rounded.cells.items ≡ cells_after desk.now jobs.now (map C.cell cells.items)) }
+    ensures replies { IfOk result (λ rounded. rounded.replies.items ≡ replies_to desk.now jobs.now (map C.cell cells.items)) }
+{
+    let count = workers
+        .min(cells.len().try_into().unwrap_or(workers))
+        .max(1);
+    let mut slots = slots_of(alloc, cells)?;
+    deal(&mut slots, jobs)?;
+    let mut pieces = cut(alloc, slots, count, gate, desk)?;
+    work_list(rt, &mut pieces);
+    let mut slots = join(alloc, pieces)?;
+    let Some(replies) = collect(alloc, &mut slots, jobs)? else {
+        unreachable!()
+    };
+    let cells = cells_of(alloc, slots)?;
+    Ok(Rounded { cells, replies })
+}

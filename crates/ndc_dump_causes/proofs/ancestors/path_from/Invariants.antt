@@ -1,0 +1,14 @@
+use Rattle.std.specs.Prelude.{map}
+use Rattle.std.specs.Option.{option_copied}
+use Rattle.ndc_model_sets.specs.Paths.{path_from}
+use Rattle.ndc_model_sets.specs.Reading.{path_of}
+use Rattle.ndc_tree.proofs.VersionLemmas.{rank}
+use Rattle.ndc_tree.proofs.ReadingLemmas.{Walks}
+use Rattle.ndc_dump_causes.proofs.ancestors.path_from.Given as goal
+
+-- the path to the next batch, and behind it the batches gone over, newest first
+abbrev pub invariant-loop-next : goal.invariant-loop-next
+invariant-loop-next l = Walks l.batches path_of (option_copied l.next) (map (λ b. b.now) l.path.items) (path_from l.fn.wanted l.batches)
+
+abbrev pub decreases-loop-next : goal.decreases-loop-next
+decreases-loop-next l = rank (option_copied l.next)

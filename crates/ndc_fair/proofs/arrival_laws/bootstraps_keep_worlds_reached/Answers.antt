@@ -1,5 +1,0 @@
-use Rattle.ndc_fair.proofs.ArrivalLaws.{bootstrapped_kept}
-use Rattle.ndc_fair.proofs.arrival_laws.bootstraps_keep_worlds_reached.Goals as goal
-
-pub returns : goal.returns
-returns c = bootstrapped_kept

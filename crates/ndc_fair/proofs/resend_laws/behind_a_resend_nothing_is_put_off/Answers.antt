@@ -1,5 +1,0 @@
-use Rattle.ndc_fair.proofs.ResendLemmas.{resent_whole}
-use Rattle.ndc_fair.proofs.resend_laws.behind_a_resend_nothing_is_put_off.Goals as goal
-
-pub returns : goal.returns
-returns c = resent_whole

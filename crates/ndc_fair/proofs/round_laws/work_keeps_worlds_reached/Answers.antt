@@ -1,5 +1,0 @@
-use Rattle.ndc_fair.proofs.LineLemmas.{work_kept}
-use Rattle.ndc_fair.proofs.round_laws.work_keeps_worlds_reached.Goals as goal
-
-pub returns : goal.returns
-returns c = work_kept

@@ -1,5 +1,0 @@
-use Rattle.ndc_fair.proofs.PutLemmas.{lines_pass}
-use Rattle.ndc_fair.proofs.table_laws.more_lines_keep_worlds_reached.Goals as goal
-
-pub returns : goal.returns
-returns c = lines_pass

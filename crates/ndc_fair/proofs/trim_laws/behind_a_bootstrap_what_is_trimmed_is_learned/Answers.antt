@@ -1,5 +1,0 @@
-use Rattle.ndc_fair.proofs.TrimmedLemmas.{bootstrapped_fit}
-use Rattle.ndc_fair.proofs.trim_laws.behind_a_bootstrap_what_is_trimmed_is_learned.Goals as goal
-
-pub returns : goal.returns
-returns c = bootstrapped_fit

@@ -1,6 +1,0 @@
-use Rattle.ndc_fair.proofs.WorkflowApplyLemmas.{writing_keeps}
-use Rattle.ndc_fair.proofs.writing_laws.writing_keeps_worlds_reached.Goals as goal
-
--- src/writing_laws.rt:9:1
-pub returns : goal.returns
-returns c = writing_keeps

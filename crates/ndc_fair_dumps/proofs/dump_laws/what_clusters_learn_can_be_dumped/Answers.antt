@@ -1,5 +1,0 @@
-use Rattle.ndc_fair_dumps.proofs.DumpLemmas.{all-can-dump}
-use Rattle.ndc_fair_dumps.proofs.dump_laws.what_clusters_learn_can_be_dumped.Goals as goal
-
-pub returns : goal.returns
-returns c = all-can-dump

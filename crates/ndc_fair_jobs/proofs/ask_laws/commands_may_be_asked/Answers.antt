@@ -1,5 +1,0 @@
-use Rattle.ndc_fair_jobs.proofs.LawLemmas.{command_may}
-use Rattle.ndc_fair_jobs.proofs.ask_laws.commands_may_be_asked.Goals as goal
-
-pub returns : goal.returns
-returns c = command_may

@@ -1,5 +1,0 @@
-use Rattle.ndc_fair_jobs.proofs.LawLemmas.{reset_may}
-use Rattle.ndc_fair_jobs.proofs.ask_laws.resets_may_be_asked.Goals as goal
-
-pub returns : goal.returns
-returns c = reset_may

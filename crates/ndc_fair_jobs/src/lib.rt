@@ -1,6 +1,0 @@
-//! Laws of fair worlds: every job that a line gives to cells may be done by them.
-#![tactic(auto)]
-
-pub mod arrive_laws;
-pub mod ask_laws;
-pub mod line_laws;

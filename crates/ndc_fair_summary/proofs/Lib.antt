@@ -1,4 +1,0 @@
-mod GeneratedLemmas
-mod KeepLemmas
-mod SameLemmas
-mod SettleLemmas

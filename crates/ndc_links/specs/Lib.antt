@@ -1,5 +1,0 @@
-pub mod Lacking
-pub mod LinkFields
-pub mod Links
-pub mod QueuesFields
-pub mod Rest

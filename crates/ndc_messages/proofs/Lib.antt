@@ -1,5 +1,0 @@
-mod FirstLemmas
-mod CarriedLemmas
-mod PlaceLemmas
-mod NextLemmas
-pub mod DomainLemmas

@@ -1,7 +1,0 @@
-use Rattle.std.proofs.Common.{rules, map}
-use Rattle.ndc_cells.specs.Cells.{carries}
-use Rattle.ndc_messages.proofs.FirstLemmas.{least-known}
-use Rattle.ndc_messages.proofs.reading.first_carried.Goals as goal
-
-pub returns : goal.returns
-returns c = least-known (carries c.args.batch.now) c.args.runs.now (map (λ b. b.now) c.as_slice.result.now) c.least_carried.result c.batches.ensures.sound.set.ordered (search rules) (search rules)

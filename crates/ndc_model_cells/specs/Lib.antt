@@ -1,0 +1,13 @@
+pub mod Allowed
+pub mod Arrival
+pub mod Cells
+pub mod Conditions
+pub mod Domains
+pub mod Jobs
+pub mod Laws
+pub mod Messages
+pub mod Places
+pub mod Shards
+pub mod Worked
+pub mod Workflow
+pub mod Writing

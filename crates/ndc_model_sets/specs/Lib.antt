@@ -1,0 +1,13 @@
+pub mod Branches
+pub mod Current
+pub mod Keys
+pub mod Last
+pub mod Learned
+pub mod Origins
+pub mod Paths
+pub mod Reading
+pub mod Sets
+pub mod Sound
+pub mod View
+pub mod Worked
+pub mod Writing

@@ -1,4 +1,0 @@
-//! What is promised of every script, as one law.
-#![tactic(auto)]
-
-pub mod promise_laws;

@@ -1,2 +1,0 @@
-pub mod CompareLemmas
-pub mod TipLemmas

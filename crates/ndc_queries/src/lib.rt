@@ -1,8 +1,0 @@
-//! Lines that read a workflow: what they answer, over what a cell has learned of it.
-#![tactic(auto)]
-
-mod comparing;
-mod queries;
-
-pub use comparing::{are_same, compare};
-pub use queries::{branches, current, dump, history, state};

@@ -1,8 +1,0 @@
-use Rattle.std.proofs.Common.{◌≡◌, ◌++◌, map}
-use Rattle.ndc_rounds.specs.Rounds.{fresh_slot, slot_of}
-use Rattle.ndc_rounds.proofs.rounds.slots_of.Given as goal
-
-abbrev pub invariant-loop-cell : goal.invariant-loop-cell
-invariant-loop-cell g l =
-    map (λ slot. slot_of (g.C.Works.cell slot.cell) (map (λ job. job.now) slot.jobs.items) slot.replies.items) l.slots.items ++ map fresh_slot (map g.C.Works.cell l.cell-iterator.rest.items)
-    ≡ map fresh_slot (map g.C.Works.cell l.fn.cells.items)

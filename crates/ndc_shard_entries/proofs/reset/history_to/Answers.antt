@@ -1,0 +1,7 @@
+use Rattle.std.proofs.Common.{◌∙◌, rules}
+use Rattle.ndc_shard_entries.proofs.TipLemmas.{no-history}
+use Rattle.ndc_shard_entries.proofs.reset.history_to.Goals as goal
+
+-- src/reset.rt:155:1
+pub returns-in-None : goal.returns-in-None
+returns-in-None c = c.new.ensures.items ∙ no-history c.args.runs.now c.args.key (search rules)

@@ -1,0 +1,52 @@
+use crate::runs::Runs;
+use ndc_event::{Batch, BatchKey};
+use ndc_history::VersionHistory;
+use std::alloc::{AllocError, Global};
+
+impl Runs {
+    ghost use Rattle.std.specs.Prelude.{◌≡◌, map, IfOk};
+    ghost use Rattle.std.specs.Option.{option_map};
+    ghost use Rattle.ndc_model_sets.specs.Sound.{IsSound};
+    ghost use Rattle.ndc_model_sets.specs.Reading.{history_at, path_at};
+
+    /// The version history of the path to the batch of this key; none exactly where it is not learned. Two look-ups for
+    /// each version on the path.
+    pub fn history_of(
+        &self,
+        alloc: Global,
+        key: BatchKey,
+    ) -> Result<Option<VersionHistory>, AllocError>
+        ensures { IfOk result (λ history. history ≡ history_at key self.now) }
+    {
+        match self.run_of(key) {
+            None => Ok(None),
+            Some(run) => run.tree().history_of(alloc, key),
+        }
+    }
+
+    /// The batches of the path to the one of this key, from its run's first on; none exactly where it is not learned. A
+    /// look-up for each batch of the path.
+    pub fn path(&self, alloc: Global, key: BatchKey) -> Result<Option<Vec<&Batch>>, AllocError>
+        ensures { IfOk result (λ path. option_map (λ list. map (λ b. b.now) list.items) path ≡ path_at key self.now) }
+    {
+        match self.run_of(key) {
+            None => Ok(None),
+            Some(run) => run.tree().path_batches(alloc, key),
+        }
+    }
+
+    /// The learned batches, in key order. A look-up for each of them.
+    pub fn batches(&self, alloc: Global) -> Result<Vec<&Batch>, AllocError>
+        ensures sound { IsSound self.now }
+        ensures list { IfOk result (λ list. map (λ b. b.now) list.items ≡ self.now) }
+    {
+        let keys = self.keys(alloc)?;
+        let mut list = Vec::new(alloc);
+        for key in keys.as_slice() {
+            if let Some(batch) = self.get(*key) {
+                list.push(batch)?;
+            }
+        }
+        Ok(list)
+    }
+}

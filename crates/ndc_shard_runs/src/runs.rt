@@ -1,0 +1,498 @@
+ghost use Rattle.std.specs.Prelude.{◌≡◌, ◌+◌, ◌<◌, ◌≤◌, ◌^◌, All, IsOk, [], false, not, ◌&&◌, length, max, None, OnOk, OnErr};
+ghost use Rattle.ndc_event.specs.Batch.{fault_of};
+ghost use Rattle.ndc_event.specs.Key.{key_eq, key_lt};
+ghost use Rattle.std.specs.Option.{option_copied, option_map};
+ghost use Rattle.ndc_shard_runs.specs.Kept.{is_ahead, is_open};
+ghost use Rattle.ndc_model_sets.specs.Current.{current_state};
+ghost use Rattle.ndc_model_sets.specs.Keys.{is_key};
+ghost use Rattle.ndc_run.specs.Learning.{learned};
+ghost use Rattle.ndc_shard_runs.specs.Places.{place_at, with_place};
+ghost use Rattle.ndc_shard_runs.specs.RunMap.{batches_of, run_at, with_batch};
+ghost use Rattle.ndc_model_sets.specs.Branches.{same_run};
+ghost use Rattle.ndc_model_sets.specs.Sets.{batch_at};
+ghost use Rattle.ndc_state.specs.Counted.{counted};
+ghost use Rattle.ndc_state.specs.Replay.{CountsWithin};
+ghost use Rattle.ndc_model_sets.specs.Reading.{current_key};
+
+use crate::kept::{Kept, has_no_signal};
+use crate::places::Places;
+use crate::run_map::RunMap;
+use ndc_event::{Batch, BatchKey, RunId};
+use ndc_reapply::Stray;
+use ndc_run::Run;
+use ndc_state::{State, Steps};
+use std::alloc::{AllocError, Global};
+use std::marker::Model;
+
+/// All that is learned of one workflow: its runs, with their states. Seen as the list of the learned batches in key
+/// order, which is a sound set.
+pub struct Runs {
+    runs: RunMap,
+    places: Places,
+    greatest_task: u64,
+    strays: Kept,
+}
+
+impl Model for Runs {
+    ghost use Rattle.std.specs.Prelude.{List};
+    ghost use Rattle.ndc_event.specs.declared.batch.Batch.{Batch};
+
+    ghost Value = { List Batch };
+
+    ghost use Rattle.ndc_shard_runs.specs.Fields.{batches_in, IsRunsInside};
+
+    ghost view = { batches_in };
+
+    ghost invariant = { IsRunsInside };
+}
+
+impl Drop for Runs {
+    fn drop(self) {
+        let Runs {
+            runs: _runs,
+            places: _places,
+            greatest_task: _greatest_task,
+            strays: _strays,
+        } = self;
+    }
+}
+
+impl Runs {
+    ghost use Rattle.std.specs.Prelude.{◌≡◌, ◌+◌, ◌≤◌, ◌^◌, [], All, length, map, max, not, is_some, true, false, None, IfSome, IfOk, OnOk, OnErr};
+    ghost use Rattle.std.specs.Option.{option_copied, option_map};
+    ghost use Rattle.ndc_model_cells.specs.Writing.{greatest_task, greatest_version, state_under};
+    ghost use Rattle.ndc_shard_runs.specs.Kept.{follows, is_ahead, is_due, is_empty, is_idle, is_open, lies_beside, StaysSettled};
+    ghost use Rattle.ndc_shard_runs.specs.RunMap.{part_of, run_in};
+    ghost use Rattle.ndc_model_sets.specs.Branches.{workflow_tip};
+    ghost use Rattle.ndc_model_sets.specs.Current.{strays};
+    ghost use Rattle.ndc_model_sets.specs.Sets.{arrived, batch_at};
+    ghost use Rattle.ndc_model_sets.specs.Sound.{IsSound};
+    ghost use Rattle.ndc_state.specs.Counted.{counted};
+    ghost use Rattle.ndc_state.specs.Replay.{CountsWithin};
+    ghost use Rattle.ndc_model_sets.specs.Last.{is_nil, last_batch};
+    ghost use Rattle.ndc_model_sets.specs.Reading.{current_key};
+
+    /// Nothing is learned.
+    pub fn new(alloc: Global) -> Runs
+        ensures { result ≡ [] }
+    {
+        Runs {
+            runs: RunMap::new(alloc),
+            places: Places::new(alloc),
+            greatest_task: 0,
+            strays: Kept::none(alloc),
+        }
+    }
+
+    /// Learns a batch whose key is new and with which the set is sound. For want of memory all is as it was. A batch
+    /// that goes on from the current branch of its run takes a step for each of its events, any other at most 511 more.
+    pub fn learn<L>(
+        &mut self,
+        alloc: Global,
+        batch: &Batch,
+        steps: &mut Steps<L>,
+    ) -> Result<(), AllocError>
+        requires sound { IsSound (arrived batch.now self.old) }
+        requires fresh { batch_at batch.now.key self.old ≡ None }
+        requires ids { All (λ event. event.id ≤ 10 ^ 12) batch.now.events }
+        ensures ok { OnOk result (self.new ≡ arrived batch.now self.old) }
+        ensures err { OnErr result (self.new ≡ self.old) }
+        ensures extend_steps { OnOk result (batch.now.parent ≡ current_key batch.now.run self.old → steps.new ≡ counted steps.old (length batch.now.events)) }
+        ensures most_steps { CountsWithin steps.old (length batch.now.events + 511) steps.new }
+    {
+        let follows = self.follows(batch);
+        let beside = self.lies_beside(batch);
+        let greatest = greater(self.greatest_task, batch.key.task);
+        match take_in(&mut self.runs, &mut self.places, alloc, batch, steps) {
+            Ok(()) => {}
+            Err(error) => return Err(error),
+        }
+        self.greatest_task = greatest;
+        self.strays.pass(batch, beside, follows);
+        Ok(())
+    }
+
+    /// Learns two batches, or, for want of memory, neither: all is as it was. Their keys are new, the set is sound with
+    /// the first, and with both; the second begins a run of which no batch is there. Where the first goes on from the
+    /// current branch of its run, a step is taken for each of the events of both, else at most 511 more.
+    pub fn learn_both<L>(
+        &mut self,
+        alloc: Global,
+        batch: &Batch,
+        second: &Batch,
+        steps: &mut Steps<L>,
+    ) -> Result<(), AllocError>
+        requires sound { IsSound (arrived batch.now self.old) }
+        requires sound_both { IsSound (arrived second.now (arrived batch.now self.old)) }
+        requires fresh { batch_at batch.now.key self.old ≡ None }
+        requires second_fresh { batch_at second.now.key (arrived batch.now self.old) ≡ None }
+        requires first { second.now.parent ≡ None }
+        requires begins { part_of second.now.run (arrived batch.now self.old) ≡ [] }
+        requires ids { All (λ event. event.id ≤ 10 ^ 12) batch.now.events }
+        requires second_ids { All (λ event. event.id ≤ 10 ^ 12) second.now.events }
+        ensures ok { OnOk result (self.new ≡ arrived second.now (arrived batch.now self.old)) }
+        ensures err { OnErr result (self.new ≡ self.old) }
+        ensures extend_steps { OnOk result (batch.now.parent ≡ current_key batch.now.run self.old → steps.new ≡ counted (counted steps.old (length second.now.events)) (length batch.now.events)) }
+        ensures most_steps { CountsWithin steps.old (length second.now.events + (length batch.now.events + 511)) steps.new }
+    {
+        let follows = self.follows(batch);
+        let beside = self.lies_beside(batch);
+        let before = greater(self.greatest_task, second.key.task);
+        let greatest = greater(before, batch.key.task);
+        match take_both(
+            &mut self.runs,
+            &mut self.places,
+            alloc,
+            batch,
+            second,
+            steps,
+        ) {
+            Ok(()) => {}
+            Err(error) => return Err(error),
+        }
+        self.greatest_task = greatest;
+        self.strays.pass(batch, beside, follows);
+        let both_follow = is_left(&self.runs, batch, follows, second.key);
+        self.strays.pass(second, false, both_follow);
+        Ok(())
+    }
+
+    /// The learned batch of this key.
+    pub fn get(&self, key: BatchKey) -> Option<&Batch>
+        ensures { option_copied result ≡ batch_at key self.now }
+    {
+        self.run_of(key)?.tree().get(key)
+    }
+
+    /// Whether the batch of this key is learned.
+    pub fn has(&self, key: BatchKey) -> bool
+        ensures { result ≡ is_some (batch_at key self.now) }
+    {
+        self.run_id_of(key).is_some()
+    }
+
+    /// The number of learned batches.
+    pub fn len(&self) -> usize
+        ensures { result ≡ length self.now }
+    {
+        self.places.len()
+    }
+
+    /// Whether nothing is learned.
+    pub fn is_empty(&self) -> bool
+        ensures { result ≡ is_nil self.now }
+    {
+        self.places.len() == 0
+    }
+
+    /// The last batch of the current branch of the current run.
+    pub fn tip(&self) -> Option<&Batch>
+        ensures { option_copied result ≡ workflow_tip self.now }
+    {
+        let key = self.last_key()?;
+        self.get(key)
+    }
+
+    /// The state of the current branch of the current run.
+    pub fn state(&self) -> Option<&State>
+        ensures { option_copied result ≡ state_under (workflow_tip self.now) self.now }
+    {
+        let key = self.last_key()?;
+        Some(self.run_of(key)?.state())
+    }
+
+    /// The greatest version of the learned batches, 0 where there is none.
+    pub fn greatest_version(&self) -> u64
+        ensures { result ≡ greatest_version self.now }
+    {
+        match self.last_key() {
+            None => 0,
+            Some(key) => key.version,
+        }
+    }
+
+    /// The greatest task of the learned batches, 0 where there is none.
+    pub fn greatest_task(&self) -> u64
+        ensures { result ≡ greatest_task self.now }
+    {
+        self.greatest_task
+    }
+
+    /// Whether there may be strays: not where they are known, and there is none. What is known stays so with each batch
+    /// that goes on from the current branch of the current run, or begins a run behind a current one that is not open, or
+    /// comes before the tip of its run and has a parent and no signal; after any other it is found by
+    /// [`Runs::find_strays`].
+    pub fn may_have_strays(&self) -> bool
+        ensures { result ≡ false → strays self.now ≡ [] }
+    {
+        self.strays.may_have()
+    }
+
+    /// The strays, where they are known.
+    pub fn known_strays(&self) -> Option<&[Stray]>
+        ensures { IfSome result (λ list. list.now ≡ strays self.now) }
+    {
+        self.strays.get()
+    }
+
+    /// Finds what the strays are, where it is not known; then they are known. In time of all learned events where it is
+    /// not known. For want of memory it stays unknown.
+    pub fn find_strays(&mut self, alloc: Global) -> Result<(), AllocError>
+        ensures same { self.new ≡ self.old }
+    {
+        if self.strays.get().is_some() {
+            return Ok(());
+        }
+        let list = self.strays(alloc)?;
+        self.strays = Kept::known(list);
+        Ok(())
+    }
+
+    /// Whether reapplication may be due, by what is known: there may be strays, and the current run is open.
+    pub fn may_be_due(&self) -> bool
+        ensures { result ≡ false → is_due self.now ≡ false }
+    {
+        self.may_have_strays() && self.is_open()
+    }
+
+    /// Whether reapplication is due: there are strays, and the current run is open. Where it is open, the strays are known
+    /// then, as by [`Runs::find_strays`].
+    pub fn is_due(&mut self, alloc: Global) -> Result<bool, AllocError>
+        ensures due { IfOk result (λ due. due ≡ is_due self.old) }
+        ensures same { self.new ≡ self.old }
+    {
+        if !self.is_open() {
+            return Ok(false);
+        }
+        self.has_strays(alloc)
+    }
+
+    /// Whether there are strays. Then they are known.
+    fn has_strays(&mut self, alloc: Global) -> Result<bool, AllocError>
+        ensures has { IfOk result (λ has. has ≡ not (is_empty (strays self.old))) }
+        ensures same { self.new ≡ self.old }
+    {
+        if let Some(list) = self.known_strays() {
+            return Ok(!list.is_empty());
+        }
+        let list = self.strays(alloc)?;
+        let has = !list.is_empty();
+        self.strays = Kept::known(list);
+        Ok(has)
+    }
+
+    /// Whether, by what is known, there is no stray and none once this batch is learned. Three look-ups.
+    pub fn stays_settled(&self, batch: &Batch) -> bool
+        ensures { result ≡ true → StaysSettled batch.now self.now }
+    {
+        let beside = self.lies_beside(batch);
+        let follows = self.follows(batch);
+        self.strays.stay_empty(beside, follows)
+    }
+
+    /// The run of the batch of this key.
+    pub(crate) fn run_of(&self, key: BatchKey) -> Option<&Run>
+        ensures run { option_copied result ≡ option_map (λ b. run_in self.now b.run) (batch_at key self.now) }
+        ensures sound { IsSound self.now }
+    {
+        let run = self.places.get(key)?;
+        self.runs.get(run)
+    }
+
+    /// Whether the batch follows all that is learned: it goes on from the current branch of the current run, or begins a
+    /// run behind all others, of which the current one is not open.
+    fn follows(&self, batch: &Batch) -> bool
+        ensures { result ≡ follows self.now batch.now }
+    {
+        match batch.parent {
+            Some(parent) => is_key(parent, self.last_key()),
+            None => self.has_no_batch_of(batch.run) && self.is_idle_before(batch.key),
+        }
+    }
+
+    /// Whether the batch lies beside what is current: it has a parent and no signal, and comes before the tip of its run.
+    fn lies_beside(&self, batch: &Batch) -> bool
+        ensures { result ≡ lies_beside self.now batch.now }
+    {
+        batch.parent.is_some() && has_no_signal(batch) && self.is_behind_tip(batch)
+    }
+
+    /// Whether the tip of the batch's run comes behind the batch.
+    fn is_behind_tip(&self, batch: &Batch) -> bool
+        ensures { result ≡ is_ahead batch.now.key (current_key batch.now.run self.now) }
+    {
+        match self.runs.get(batch.run) {
+            None => false,
+            Some(run) => is_ahead(batch.key, run.tip()),
+        }
+    }
+
+    /// Whether no batch of the run is learned.
+    fn has_no_batch_of(&self, run: RunId) -> bool
+        ensures { result ≡ is_nil (part_of run self.now) }
+    {
+        self.runs.get(run).is_none()
+    }
+
+    /// Whether all keys come before this one, and the current run, where there is one, is not open.
+    fn is_idle_before(&self, key: BatchKey) -> bool
+        ensures { result ≡ is_idle (last_batch self.now) key self.now }
+    {
+        match self.last_key() {
+            None => true,
+            Some(last) => last.is_before(key) && !self.is_open(),
+        }
+    }
+
+    /// Whether there is a current run and it is open.
+    fn is_open(&self) -> bool
+        ensures { result ≡ is_open (state_under (workflow_tip self.now) self.now) }
+    {
+        match self.state() {
+            None => false,
+            Some(state) => state.is_running(),
+        }
+    }
+
+    /// The id of the run of the batch of this key.
+    fn run_id_of(&self, key: BatchKey) -> Option<RunId>
+        ensures { result ≡ option_map (λ b. b.run) (batch_at key self.now) }
+    {
+        self.places.get(key)
+    }
+
+    /// The keys, ascending.
+    pub(crate) fn keys(&self, alloc: Global) -> Result<Vec<BatchKey>, AllocError>
+        ensures keys { IfOk result (λ keys. keys.items ≡ map (λ b. b.key) self.now) }
+        ensures sound { IsSound self.now }
+    {
+        self.places.keys(alloc)
+    }
+
+    /// The greatest key.
+    fn last_key(&self) -> Option<BatchKey>
+        ensures key { result ≡ option_map (λ b. b.key) (last_batch self.now) }
+        ensures sound { IsSound self.now }
+    {
+        let (key, _) = self.places.last()?;
+        Some(key)
+    }
+}
+
+/// Takes in a batch whose key is new. For want of memory all is as it was.
+fn take_in<L>(
+    runs: &mut RunMap,
+    places: &mut Places,
+    alloc: Global,
+    batch: &Batch,
+    steps: &mut Steps<L>,
+) -> Result<(), AllocError>
+    requires fresh { batch_at batch.now.key (batches_of (run_at batch.now.run runs.old)) ≡ None }
+    requires fits { IsOk (learned batch.now.run (batches_of (run_at batch.now.run runs.old)) batch.now) }
+    requires new_key { place_at batch.now.key places.old ≡ None }
+    requires faultless { fault_of batch.now ≡ None }
+    requires ids { All (λ event. event.id ≤ 10 ^ 12) batch.now.events }
+    ensures runs { OnOk result (runs.new ≡ with_batch batch.now runs.old) }
+    ensures places { OnOk result (places.new ≡ with_place batch.now.key batch.now.run places.old) }
+    ensures runs_err { OnErr result (runs.new ≡ runs.old) }
+    ensures places_err { OnErr result (places.new ≡ places.old) }
+    ensures extend_steps { OnOk result (batch.now.parent ≡ current_key batch.now.run (batches_of (run_at batch.now.run runs.old)) → steps.new ≡ counted steps.old (length batch.now.events)) }
+    ensures most_steps { CountsWithin steps.old (length batch.now.events + 511) steps.new }
+{
+    places.put(batch.key, batch.run)?;
+    match runs.learn(alloc, batch, steps) {
+        Ok(()) => Ok(()),
+        Err(error) => {
+            places.take(batch.key);
+            Err(error)
+        }
+    }
+}
+
+/// Takes in two batches whose keys are new, of which the second begins a run; or, for want of memory, neither.
+fn take_both<L>(
+    runs: &mut RunMap,
+    places: &mut Places,
+    alloc: Global,
+    batch: &Batch,
+    second: &Batch,
+    steps: &mut Steps<L>,
+) -> Result<(), AllocError>
+    requires fresh { batch_at batch.now.key (batches_of (run_at batch.now.run runs.old)) ≡ None }
+    requires fits { IsOk (learned batch.now.run (batches_of (run_at batch.now.run runs.old)) batch.now) }
+    requires new_key { place_at batch.now.key places.old ≡ None }
+    requires second_fits { IsOk (learned second.now.run [] second.now) }
+    requires second_key { place_at second.now.key places.old ≡ None }
+    requires other_key { key_eq second.now.key batch.now.key ≡ false }
+    requires second_run { run_at second.now.run runs.old ≡ None }
+    requires other_run { same_run second.now.run batch.now.run ≡ false }
+    requires first { second.now.parent ≡ None }
+    requires faultless { fault_of batch.now ≡ None }
+    requires second_faultless { fault_of second.now ≡ None }
+    requires ids { All (λ event. event.id ≤ 10 ^ 12) batch.now.events }
+    requires second_ids { All (λ event. event.id ≤ 10 ^ 12) second.now.events }
+    ensures runs { OnOk result (runs.new ≡ with_batch batch.now (with_batch second.now runs.old)) }
+    ensures places { OnOk result (places.new ≡ with_place batch.now.key batch.now.run (with_place second.now.key second.now.run places.old)) }
+    ensures runs_err { OnErr result (runs.new ≡ runs.old) }
+    ensures places_err { OnErr result (places.new ≡ places.old) }
+    ensures extend_steps { OnOk result (batch.now.parent ≡ current_key batch.now.run (batches_of (run_at batch.now.run runs.old)) → steps.new ≡ counted (counted steps.old (length second.now.events)) (length batch.now.events)) }
+    ensures most_steps { CountsWithin steps.old (length second.now.events + (length batch.now.events + 511)) steps.new }
+{
+    match take_in(runs, places, alloc, second, steps) {
+        Ok(()) => {}
+        Err(error) => return Err(error),
+    }
+    match take_in(runs, places, alloc, batch, steps) {
+        Ok(()) => Ok(()),
+        Err(error) => {
+            runs.take(second.run);
+            places.take(second.key);
+            Err(error)
+        }
+    }
+}
+
+/// Whether the batch, which follows all others or not, does so and comes before the key, and its run is not open.
+fn is_left(runs: &RunMap, batch: &Batch, follows: bool, key: BatchKey) -> bool
+    ensures { result ≡ (follows && (key_lt batch.now.key key && not (is_open (option_map (λ r. current_state r.run r.batches) (run_at batch.now.run runs.now))))) }
+{
+    follows && batch.key.is_before(key) && !is_run_open(runs.get(batch.run))
+}
+
+/// Whether there is a run and it is open.
+fn is_run_open(run: Option<&Run>) -> bool
+    ensures { result ≡ is_open (option_map (λ r. current_state r.run r.batches) (option_copied run.entry)) }
+{
+    match run {
+        None => false,
+        Some(run) => run.state().is_running(),
+    }
+}
+
+/// Whether the key is this one, where there is one.
+pub(crate) fn is_key(key: BatchKey, other: Option<BatchKey>) -> bool
+    ensures { result ≡ is_key key other }
+{
+    match other {
+        None => false,
+        Some(other) => key.version == other.version && key.task == other.task,
+    }
+}
+
+/// Whether the other key, where there is one, comes behind this one.
+fn is_ahead(key: BatchKey, other: Option<BatchKey>) -> bool
+    ensures { result ≡ is_ahead key other }
+{
+    match other {
+        None => false,
+        Some(other) => key.is_before(other),
+    }
+}
+
+/// The greater of two numbers.
+fn greater(one: u64, two: u64) -> u64
+    ensures greater { result ≡ max one two }
+    ensures small { max one two < 2 ^ 64 }
+{
+    if one < two { two } else { one }
+}

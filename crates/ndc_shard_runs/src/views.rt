@@ -1,0 +1,166 @@
+ghost use Rattle.std.specs.Prelude.{◌≡◌, ◌++◌, [], ◌∷◌, map, true, IfOk, OnOk};
+ghost use Rattle.ndc_shard_runs.specs.View.{branch_with, run_with};
+ghost use Rattle.ndc_model_sets.specs.Keys.{is_key_among};
+ghost use Rattle.ndc_tree.specs.Tips.{tip_keys};
+
+use crate::runs::{Runs, is_key};
+use ndc_current::status;
+use ndc_event::{Batch, BatchKey};
+use ndc_model_sets::{Batches, BranchView, BranchViews, RunView, RunViews, View};
+use ndc_run::Run;
+use ndc_state::Steps;
+use std::alloc::{AllocError, Global};
+
+impl Runs {
+    ghost use Rattle.std.specs.Prelude.{◌≡◌, ◌++◌, map, IfOk, OnOk};
+    ghost use Rattle.std.specs.List.{flat_map};
+    ghost use Rattle.ndc_shard_runs.specs.View.{run_from, view_at};
+    ghost use Rattle.ndc_model_sets.specs.Sets.{Has};
+    ghost use Rattle.ndc_model_sets.specs.Sound.{IsSound};
+    ghost use Rattle.ndc_model_sets.specs.View.{view_of};
+
+    /// What is shown of the workflow; none exactly where nothing is learned. In time of all learned events; branches that
+    /// are not current are restored from what is kept of their runs, which takes steps.
+    pub fn view<L>(&self, alloc: Global, steps: &mut Steps<L>) -> Result<Option<View>, AllocError>
+        ensures { IfOk result (λ view. view ≡ view_at self.now) }
+    {
+        if self.is_empty() {
+            return Ok(None);
+        }
+        let batches = self.batches(alloc)?;
+        let runs = self.run_views(alloc, batches.as_slice(), steps)?;
+        let copies = copies(alloc, batches.as_slice())?;
+        Ok(Some(View {
+            batches: Batches::new(copies),
+            runs: RunViews::new(runs),
+        }))
+    }
+
+    /// The runs of what is shown of the workflow, ascending; no batch is copied. It takes what [`Runs::view`] takes beside
+    /// that.
+    pub fn runs_shown<L>(
+        &self,
+        alloc: Global,
+        steps: &mut Steps<L>,
+    ) -> Result<Vec<RunView>, AllocError>
+        ensures { IfOk result (λ list. list.items ≡ (view_of self.now).runs) }
+    {
+        let batches = self.batches(alloc)?;
+        let runs = self.run_views(alloc, batches.as_slice(), steps)?;
+        Ok(runs)
+    }
+
+    /// The runs of these batches, which are all that is learned.
+    fn run_views<L>(
+        &self,
+        alloc: Global,
+        batches: &[&Batch],
+        steps: &mut Steps<L>,
+    ) -> Result<Vec<RunView>, AllocError>
+        requires all { map (λ b. b.now) batches.now ≡ self.now }
+        requires sound { IsSound self.now }
+        ensures { IfOk result (λ list. list.items ≡ flat_map (run_from self.now) (map (λ b. b.now) batches.now)) }
+    {
+        let mut list = Vec::new(alloc);
+        for batch in batches {
+            self.push_run(alloc, &mut list, batch, steps)?;
+        }
+        Ok(list)
+    }
+
+    /// Adds the run of this batch, where the batch is the first of its run.
+    fn push_run<L>(
+        &self,
+        alloc: Global,
+        list: &mut Vec<RunView>,
+        batch: &Batch,
+        steps: &mut Steps<L>,
+    ) -> Result<(), AllocError>
+        requires { Has self.now batch.now }
+        ensures { OnOk result (list.new.items ≡ list.old.items ++ run_from self.now batch.now) }
+    {
+        if batch.parent.is_some() {
+            return Ok(());
+        }
+        match self.run_of(batch.key) {
+            None => Ok(()),
+            Some(run) => {
+                list.push(run_view(alloc, run, self.is_current(batch.run), steps)?)?;
+                Ok(())
+            }
+        }
+    }
+}
+
+/// The run, which is the current one or not.
+fn run_view<L>(
+    alloc: Global,
+    run: &Run,
+    is_current: bool,
+    steps: &mut Steps<L>,
+) -> Result<RunView, AllocError>
+    ensures { IfOk result (λ view. view ≡ run_with run.now is_current) }
+{
+    let branches = branch_views(alloc, run, steps)?;
+    let state = run.state();
+    Ok(RunView {
+        run: run.tree().run(),
+        status: status(state.is_running(), is_current),
+        close: state.close(),
+        is_current,
+        branches: BranchViews::new(branches),
+    })
+}
+
+/// The branches of the run, tips ascending.
+fn branch_views<L>(
+    alloc: Global,
+    run: &Run,
+    steps: &mut Steps<L>,
+) -> Result<Vec<BranchView>, AllocError>
+    ensures { IfOk result (λ list. list.items ≡ map (branch_with run.now) (tip_keys run.now.run run.now.batches)) }
+{
+    let keys = run.tree().branches(alloc)?;
+    let mut list = Vec::new(alloc);
+    for key in keys.as_slice() {
+        push_branch(alloc, &mut list, run, *key, steps)?;
+    }
+    Ok(list)
+}
+
+/// Adds the branch with this tip.
+fn push_branch<L>(
+    alloc: Global,
+    list: &mut Vec<BranchView>,
+    run: &Run,
+    key: BatchKey,
+    steps: &mut Steps<L>,
+) -> Result<(), AllocError>
+    requires { is_key_among key (tip_keys run.now.run run.now.batches) ≡ true }
+    ensures { OnOk result (list.new.items ≡ list.old.items ++ branch_with run.now key ∷ []) }
+{
+    let Some(history) = run.tree().history_of(alloc, key)? else {
+        return Ok(());
+    };
+    let Some(state) = run.state_of(alloc, key, steps)? else {
+        return Ok(());
+    };
+    list.push(BranchView {
+        tip: key,
+        history,
+        is_current: is_key(key, run.tip()),
+        state,
+    })?;
+    Ok(())
+}
+
+/// Copies of the batches.
+fn copies(alloc: Global, batches: &[&Batch]) -> Result<Vec<Batch>, AllocError>
+    ensures { IfOk result (λ list. list.items ≡ map (λ b. b.now) batches.now) }
+{
+    let mut list = Vec::with_capacity(alloc, batches.len())?;
+    for batch in batches {
+        list.push(batch.try_copy()?)?;
+    }
+    Ok(list)
+}

@@ -1,0 +1,24 @@
+use Rattle.std.proofs.Common.{◌||◌, sym, ◌∙◌, ap}
+use Rattle.ndc_model_cells.specs.Cells.{both}
+use Rattle.ndc_model_sets.specs.Keys.{is_key_among}
+use Rattle.ndc_shard_waiting.specs.Linking.{is_awaited, is_linked, is_woken}
+use Rattle.ndc_shard_waiting.proofs.LoopLemmas.{woken-alone, woken-two, or-join}
+use Rattle.ndc_shard_waiting.proofs.shelf.Shelf.wake.Goals as goal
+
+pub returns-in_ok-wake-2-clause-woken : goal.returns-in_ok-wake-2-clause-woken
+returns-in_ok-wake-2-clause-woken c one =
+    c.in_ok-wake-2.ensures one ∙ ap (λ t. t || is_linked c.in-Some.second.key one c.self.inside.links) (c.in_ok-wake.ensures one)
+    ∙ or-join (is_key_among one c.args.todo.now) (is_linked c.args.sent.now.batch.key one c.self.inside.links) (is_linked c.in-Some.second.key one c.self.inside.links)
+    ∙ ap (λ t. is_key_among one c.args.todo.now || (t || is_linked c.in-Some.second.key one c.self.inside.links)) (c.self.invariant.linked c.args.sent.now.batch.key one)
+    ∙ ap (λ t. is_key_among one c.args.todo.now || (is_awaited c.args.sent.now.batch.key one c.self.inside.messages || t)) (c.self.invariant.linked c.in-Some.second.key one)
+    ∙ ap (λ t. is_key_among one c.args.todo.now || t)
+    (sym (woken-two c.args.sent.now.batch c.in-Some.second c.args.sent.now.second one c.self.inside.messages c.in-Some.is c.self.invariant.are.each))
+    ∙ ap (λ l. is_key_among one c.args.todo.now || is_woken (both c.args.sent.now) one l) c.self.view_is
+
+pub returns-in_default-clause-woken : goal.returns-in_default-clause-woken
+returns-in_default-clause-woken c one =
+    c.in_ok-wake.ensures one
+    ∙ ap (λ t. is_key_among one c.args.todo.now || t) (c.self.invariant.linked c.args.sent.now.batch.key one)
+    ∙ ap (λ t. is_key_among one c.args.todo.now || t)
+    (sym (woken-alone c.args.sent.now.batch c.args.sent.now.second one c.self.inside.messages c.in_default.is c.self.invariant.are.each))
+    ∙ ap (λ l. is_key_among one c.args.todo.now || is_woken (both c.args.sent.now) one l) c.self.view_is

@@ -1,0 +1,217 @@
+ghost use Rattle.std.specs.Prelude.{◌≡◌, ◌||◌, ◌&&◌, false, None, OnOk, OnErr};
+ghost use Rattle.ndc_event.specs.declared.key.BatchKey.{BatchKey as Key};
+ghost use Rattle.ndc_model_sets.specs.Sets.{earlier};
+ghost use Rattle.ndc_shard_waiting.specs.Finding.{message_at, key_before};
+ghost use Rattle.ndc_shard_waiting.specs.Linking.{is_linked, is_link_for};
+ghost use Rattle.ndc_shard_waiting.specs.Waiting.{put_off};
+
+use crate::keys::Keys;
+use crate::links::Links;
+use crate::messages::Messages;
+use ndc_event::{Batch, BatchKey};
+use ndc_model_cells::Message;
+use std::alloc::{AllocError, Global};
+use std::marker::Model;
+
+/// Messages that wait, by the key of their batch and by the earlier key for which they wait. Seen as their list in
+/// key order.
+pub(crate) struct Shelf {
+    messages: Messages,
+    links: Links,
+}
+
+impl Model for Shelf {
+    ghost use Rattle.std.specs.Prelude.{List};
+    ghost use Rattle.ndc_model_cells.specs.declared.message.Message.{Message};
+
+    ghost Value = { List Message };
+
+    ghost use Rattle.ndc_shard_waiting.specs.ShelfFields.{IsShelf};
+
+    ghost view = { λ shelf. shelf.messages };
+
+    ghost invariant = { IsShelf };
+}
+
+impl Drop for Shelf {
+    fn drop(self) {
+        let Shelf {
+            messages: _messages,
+            links: _links,
+        } = self;
+    }
+}
+
+/// The key for which the batch waits, where it waits.
+pub(crate) fn earlier_key(batch: &Batch) -> Option<BatchKey>
+    ensures { result ≡ earlier batch.now }
+{
+    match batch.parent {
+        Some(parent) => Some(parent),
+        None => batch.carrier,
+    }
+}
+
+/// The key of the same version one task before, where there is one.
+fn key_before(key: BatchKey) -> Option<BatchKey>
+    ensures { result ≡ key_before key }
+{
+    if key.task == 0 {
+        return None;
+    }
+    Some(BatchKey {
+        version: key.version,
+        task: key.task - 1,
+    })
+}
+
+/// Puts the message, whose batch's key is new, to its place, and links it from its earlier key; for want of memory
+/// both are as they were.
+fn put_in(messages: &mut Messages, links: &mut Links, message: Message) -> Result<(), AllocError>
+    requires new { message_at message.batch.key messages.old ≡ None }
+    requires loose { (before one : Key) → (is_link_for before one (earlier message.batch) message.batch.key && is_linked before one links.old) ≡ false }
+    ensures messages { OnOk result (messages.new ≡ put_off message messages.old) }
+    ensures links { OnOk result ((before one : Key) → is_linked before one links.new ≡ (is_link_for before one (earlier message.batch) message.batch.key || is_linked before one links.old)) }
+    ensures messages_err { OnErr result (messages.new ≡ messages.old) }
+    ensures links_err { OnErr result ((before one : Key) → is_linked before one links.new ≡ is_linked before one links.old) }
+{
+    let own = message.batch.key;
+    let earlier = earlier_key(&message.batch);
+    links.add_for(earlier, own)?;
+    match messages.insert(message) {
+        Ok(()) => Ok(()),
+        Err(error) => {
+            links.cut_for(earlier, own);
+            Err(error)
+        }
+    }
+}
+
+impl Shelf {
+    ghost use Rattle.std.specs.Prelude.{◌≡◌, ◌||◌, [], Some, IsSome, length, map, OnOk, OnErr, IfOk};
+    ghost use Rattle.std.specs.Option.{option_copied};
+    ghost use Rattle.ndc_model_cells.specs.Cells.{both};
+    ghost use Rattle.ndc_event.specs.declared.key.BatchKey.{BatchKey as Key};
+    ghost use Rattle.ndc_model_sets.specs.Sets.{batch_at};
+    ghost use Rattle.ndc_model_sets.specs.Keys.{is_key_among};
+    ghost use Rattle.ndc_model_cells.specs.Messages.{batches_of, IsNewTo};
+    ghost use Rattle.ndc_shard_waiting.specs.Waiting.{put_off, freed, still_put_off, AreWaiting, CanWait};
+    ghost use Rattle.ndc_shard_waiting.specs.Finding.{message_at, without_message, carried_at, key_before};
+    ghost use Rattle.ndc_shard_waiting.specs.Linking.{is_woken};
+
+    /// No message waits.
+    pub(crate) fn new(alloc: Global) -> Shelf
+        ensures { result ≡ [] }
+    {
+        Shelf {
+            messages: Messages::new(alloc),
+            links: Links::new(alloc),
+        }
+    }
+
+    /// How many messages wait.
+    pub(crate) fn len(&self) -> usize
+        ensures len { result ≡ length self.now }
+        ensures waiting { AreWaiting self.now }
+    {
+        self.messages.len()
+    }
+
+    /// The batch of this key, that of a message or the one that it carries.
+    pub(crate) fn get(&self, key: BatchKey) -> Option<&Batch>
+        ensures { option_copied result ≡ batch_at key (batches_of self.now) }
+    {
+        match self.messages.get(key) {
+            Some(sent) => Some(&sent.batch),
+            None => self.carried(key),
+        }
+    }
+
+    /// What the message carries whose batch's key comes one task before this one.
+    fn carried(&self, key: BatchKey) -> Option<&Batch>
+        ensures { option_copied result ≡ carried_at (key_before key) self.now }
+    {
+        let before = key_before(key)?;
+        let sent = self.messages.get(before)?;
+        sent.second.as_ref()
+    }
+
+    /// Puts a message that waits, and whose keys are new, to its place; for want of memory the shelf is as it was.
+    pub(crate) fn put(&mut self, message: Message) -> Result<(), AllocError>
+        requires waits { CanWait message }
+        requires new { IsNewTo (batches_of self.old) message }
+        ensures ok { OnOk result (self.new ≡ put_off message self.old) }
+        ensures err { OnErr result (self.new ≡ self.old) }
+    {
+        put_in(&mut self.messages, &mut self.links, message)
+    }
+
+    /// The messages, in key order.
+    pub(crate) fn list(&self, alloc: Global) -> Result<Vec<&Message>, AllocError>
+        ensures { IfOk result (λ list. map (λ m. m.now) list.items ≡ self.now) }
+    {
+        self.messages.list(alloc)
+    }
+
+    /// The batches of the messages, in key order.
+    pub(crate) fn batches(&self, alloc: Global) -> Result<Vec<&Batch>, AllocError>
+        ensures { IfOk result (λ list. map (λ b. b.now) list.items ≡ batches_of self.now) }
+    {
+        let mut batches = Vec::new(alloc);
+        let messages = self.messages.list(alloc)?;
+        for sent in messages.as_slice() {
+            batches.push(&sent.batch)?;
+            if let Some(second) = &sent.second {
+                batches.push(second)?;
+            }
+        }
+        Ok(batches)
+    }
+
+    /// Takes the message whose batch has this key; there is one.
+    fn take(&mut self, key: BatchKey) -> Message
+        requires { IsSome (message_at key self.old) }
+        ensures taken { message_at key self.old ≡ Some result }
+        ensures rest { self.new ≡ without_message key self.old }
+        ensures waiting { AreWaiting self.new }
+    {
+        let sent = self.messages.take(key).unwrap();
+        self.links.cut_for(earlier_key(&sent.batch), key);
+        sent
+    }
+
+    /// Puts the keys of all messages that wait for this one to the others.
+    fn wake(&self, sent: &Message, todo: &mut Keys) -> Result<(), AllocError>
+        ensures woken { OnOk result ((one : Key) → is_key_among one todo.new ≡ (is_key_among one todo.old || is_woken (both sent.now) one self.now)) }
+        ensures waiting { AreWaiting self.now }
+    {
+        self.links.wake(sent.batch.key, todo)?;
+        if let Some(second) = &sent.second {
+            self.links.wake(second.key, todo)?;
+        }
+        Ok(())
+    }
+
+    /// Takes out what waits for the message, directly or not: the message, and behind it what it frees, in key order.
+    /// For want of memory some of it is lost.
+    pub(crate) fn free(
+        &mut self,
+        alloc: Global,
+        message: Message,
+    ) -> Result<Vec<Message>, AllocError>
+        ensures ok { IfOk result (λ list. list.items ≡ freed message self.old) }
+        ensures rest { OnOk result (self.new ≡ still_put_off message self.old) }
+        ensures waiting { AreWaiting self.new }
+    {
+        let mut todo = Keys::new(alloc);
+        self.wake(&message, &mut todo)?;
+        let mut freed = Vec::new(alloc);
+        freed.push(message)?;
+        while let Some(key) = todo.take_least() {
+            let sent = self.take(key);
+            self.wake(&sent, &mut todo)?;
+            freed.push(sent)?;
+        }
+        Ok(freed)
+    }
+}

@@ -1,0 +1,31 @@
+pub mod AmongLemmas
+pub mod ArriveLemmas
+pub mod BeginLemmas
+pub mod BehindLemmas
+mod CarriedLemmas
+pub mod CellLemmas
+pub mod DomainLemmas
+pub mod DueLemmas
+pub mod ExampleLemmas
+pub mod FindLemmas
+mod FirstKeyLemmas
+pub mod FirstLemmas
+pub mod FreedLemmas
+pub mod HoldLemmas
+pub mod KeptLemmas
+pub mod LearnableLemmas
+pub mod ListLemmas
+pub mod MessageDomainLemmas
+pub mod NameLemmas
+pub mod NamedLemmas
+mod NextLemmas
+pub mod OkLemmas
+pub mod OneExampleLemmas
+pub mod OneWriteLemmas
+pub mod OwnLemmas
+mod PlaceLemmas
+pub mod PutLemmas
+pub mod PutOffLemmas
+pub mod SameLemmas
+pub mod WaitLemmas
+pub mod WriteLemmas

@@ -1,0 +1,20 @@
+use Rattle.std.proofs.Common.{sym, subst}
+use Rattle.std.specs.Option.{option_copied}
+use Rattle.ndc_model_cells.specs.Cells.{Cell}
+use Rattle.ndc_model_cells.specs.Writing.{Entry}
+use Rattle.ndc_model_cells.specs.Messages.{carrying}
+use Rattle.ndc_model_cells.specs.Workflow.{workflow_of}
+use Rattle.ndc_shard_workflows.specs.Writing.{MayBeWritten}
+use Rattle.ndc_shard_workflows.proofs.HoldLemmas.{hold-either}
+use Rattle.ndc_shard_workflows.proofs.WaitLemmas.{behind-either}
+use Rattle.ndc_shard_workflows.proofs.workflows.Workflows.write.Goals as goal
+
+pub invariant_of-self-2 : goal.invariant_of-self-2
+invariant_of-self-2 g c =
+    let b = c.args.batch.now in
+    let entry : Entry = record { batch = b; second = option_copied c.args.second } in
+    let may = subst (λ (cell : Cell). MayBeWritten (carrying b entry.second) (workflow_of b.domain b.workflow cell)) (sym c.self.view_is) c.requires in (
+      hold-either entry c.self.inside.domains c.in_ok-list_before.ensures.cell c.in_ok-list_before.ensures.workflow may c.write.result c.self.inside.due c.list_before.new.due c.write.new.self
+          c.write.ensures.ok c.write.ensures.err c.self.invariant.0 c.in_ok-list_before.ensures.ok,
+      behind-either entry c.self.inside.domains c.write.result c.self.inside.behind c.write.new.self c.write.ensures.ok c.write.ensures.err c.self.invariant.1,
+    )

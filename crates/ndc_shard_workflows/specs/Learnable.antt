@@ -1,0 +1,19 @@
+-- What can be learned of a workflow, message by message.
+use Rattle.std.specs.Prelude.{List}
+use Rattle.std.specs.List.{AllByRecursion}
+use Rattle.ndc_model_cells.specs.declared.message.Message.{Message}
+use Rattle.ndc_event.specs.declared.batch.Batch.{Batch}
+use Rattle.ndc_model_sets.specs.Learned.{IsClosed}
+use Rattle.ndc_model_sets.specs.Sets.{IsSet}
+use Rattle.ndc_model_sets.specs.Sound.{IsSound}
+use Rattle.ndc_shard_waiting.specs.Learning.{with_messages, AreLearnable}
+use Rattle.ndc_model_cells.specs.Messages.{batches_of, IsMessage, HasSmallIds}
+
+-- messages can be learned one after the other behind these learned batches, and what is learned then is sound
+pub record CanBeLearned (known : List Batch) (messages : List Message) : Type 0 where
+  pub set : IsSet known
+  pub closed : IsClosed known
+  pub order : AreLearnable known messages
+  pub each : AllByRecursion IsMessage messages
+  pub sound : IsSound (with_messages messages known)
+  pub small : AllByRecursion HasSmallIds (batches_of messages)

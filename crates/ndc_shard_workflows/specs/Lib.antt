@@ -1,0 +1,13 @@
+pub mod Behind
+pub mod Due
+pub mod Learnable
+pub mod Listed
+pub mod Messages
+pub mod Named
+pub mod Reading
+pub mod Reapplied
+pub mod Worked
+pub mod Workflow
+pub mod WorkflowFields
+pub mod Workflows
+pub mod Writing

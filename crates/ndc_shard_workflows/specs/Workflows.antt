@@ -1,0 +1,57 @@
+-- The workflows of a cell, by domain and then by workflow.
+use Rattle.std.specs.Prelude.{◌≡◌, true, List, [], Option, Some, None}
+use Rattle.std.specs.List.{AllByRecursion}
+use Rattle.ndc_model_cells.specs.declared.message.Message.{Message}
+use Rattle.ndc_model_cells.specs.Cells.{Cell}
+use Rattle.ndc_model_cells.specs.Places.{is_of}
+use Rattle.ndc_event.specs.declared.batch.Batch.{Batch}
+use Rattle.ndc_event.specs.declared.name.Name.{Name}
+use Rattle.ndc_model_sets.specs.Learned.{learned}
+use Rattle.ndc_model_sets.specs.Sound.{IsSound}
+use Rattle.ndc_model_cells.specs.Workflow.{WorkflowValue}
+use Rattle.ndc_shard_workflows.specs.Workflow.{IsWorkflow, empty_workflow}
+use Rattle.ndc_shard_workflows.specs.Named.{HoldUnder, all_under, under}
+
+-- the workflows of a domain by name
+abbrev pub DomainValue : Type 0
+DomainValue = List (Name × WorkflowValue)
+
+-- what has arrived in a domain, and what waits there
+abbrev pub arrived_in : DomainValue → List Batch
+arrived_in workflows = all_under (λ w. w.arrived) workflows
+
+abbrev pub waiting_in : DomainValue → List Message
+waiting_in workflows = all_under (λ w. w.waiting) workflows
+
+-- the cell of all domains, which has written nothing
+abbrev pub cell_of : List (Name × DomainValue) → Cell
+cell_of domains = record { arrived = all_under arrived_in domains; written = []; waiting = all_under waiting_in domains }
+
+-- the workflow, where there is one
+abbrev pub workflow_or_empty : Option WorkflowValue → WorkflowValue
+workflow_or_empty None = empty_workflow
+workflow_or_empty (Some w) = w
+
+-- the workflows of a domain, where there are some
+abbrev pub workflows_in : Option DomainValue → DomainValue
+workflows_in None = []
+workflows_in (Some workflows) = workflows
+
+-- the workflow of these names
+abbrev pub found : Name → Name → List (Name × DomainValue) → Option WorkflowValue
+found domain workflow domains = under workflow (workflows_in (under domain domains))
+
+-- a workflow of these names: all that has arrived and all that waits is of them, and what is learned is sound
+pub record IsOwn (domain workflow : Name) (w : WorkflowValue) : Type 0 where
+  pub is : IsWorkflow w
+  pub sound : IsSound (learned w.arrived)
+  pub arrived : AllByRecursion (λ b. is_of domain workflow b ≡ true) w.arrived
+  pub waiting : AllByRecursion (λ sent. is_of domain workflow sent.batch ≡ true) w.waiting
+
+-- the workflows of a domain, each under its name
+abbrev pub AreOwn : Name → DomainValue → Type 0
+AreOwn domain workflows = HoldUnder (IsOwn domain) workflows
+
+-- the domains of a cell, each under its name
+abbrev pub AreDomains : List (Name × DomainValue) → Type 0
+AreDomains domains = HoldUnder AreOwn domains

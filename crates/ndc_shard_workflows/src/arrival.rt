@@ -1,0 +1,83 @@
+ghost use Rattle.std.specs.Prelude.{◌≡◌, [], map, IfOk};
+ghost use Rattle.ndc_model_cells.specs.declared.job.Arrived.TheVariants.{Known, Learned, PutOff};
+ghost use Rattle.ndc_model_cells.specs.Messages.{batches_of};
+
+use ndc_event::{Batch, BatchKey};
+use ndc_model_cells::{Arrived, Keys, Message};
+use ndc_model_sets::Batches;
+use std::alloc::{AllocError, Global};
+
+/// What comes of the arrival of a message.
+#[derive(Drop)]
+pub struct Arrival {
+    pub outcome: Arrived,
+    /// The batches that became learned, in key order.
+    pub learned: Batches,
+}
+
+/// The batches of messages, each followed by the one that it carries.
+fn batches_in(alloc: Global, messages: Vec<Message>) -> Result<Vec<Batch>, AllocError>
+    ensures { IfOk result (λ batches. batches.items ≡ batches_of messages.items) }
+{
+    let mut batches = Vec::new(alloc);
+    for sent in messages {
+        let Message { batch, second, .. } = sent;
+        batches.push(batch)?;
+        if let Some(second) = second {
+            batches.push(second)?;
+        }
+    }
+    Ok(batches)
+}
+
+/// The keys of batches, in order.
+fn keys_of(alloc: Global, batches: &[Batch]) -> Result<Keys, AllocError>
+    ensures { IfOk result (λ keys. keys ≡ map (λ b. b.key) batches.now) }
+{
+    let mut keys = Vec::new(alloc);
+    for batch in batches {
+        keys.push(batch.key)?;
+    }
+    Ok(Keys::new(keys))
+}
+
+impl Arrival {
+    ghost use Rattle.std.specs.Prelude.{◌≡◌, [], map, IfOk};
+    ghost use Rattle.ndc_model_cells.specs.declared.job.Arrived.TheVariants.{Known, Learned, PutOff};
+    ghost use Rattle.ndc_model_cells.specs.Messages.{batches_of};
+
+    /// The batch was known.
+    pub(crate) fn known(alloc: Global) -> Arrival
+        ensures outcome { result.outcome ≡ Known }
+        ensures learned { result.learned ≡ [] }
+    {
+        Arrival {
+            outcome: Arrived::Known,
+            learned: Batches::new(Vec::new(alloc)),
+        }
+    }
+
+    /// The batch is put off, because this one has not arrived.
+    pub(crate) fn put_off(alloc: Global, missing: BatchKey) -> Arrival
+        ensures outcome { result.outcome ≡ PutOff missing }
+        ensures learned { result.learned ≡ [] }
+    {
+        Arrival {
+            outcome: Arrived::PutOff { missing },
+            learned: Batches::new(Vec::new(alloc)),
+        }
+    }
+
+    /// The batches of these messages are learned.
+    pub(crate) fn learned(alloc: Global, messages: Vec<Message>) -> Result<Arrival, AllocError>
+        ensures outcome { IfOk result (λ arrival. arrival.outcome ≡ Learned (map (λ b. b.key) (batches_of messages.items))) }
+        ensures learned { IfOk result (λ arrival. arrival.learned ≡ batches_of messages.items) }
+    {
+        let batches = batches_in(alloc, messages)?;
+        let keys = keys_of(alloc, batches.as_slice())?;
+        Ok(Arrival {
+            outcome: Arrived::Learned { keys },
+            learned: Batches::new(batches),
+        })
+    }
+}

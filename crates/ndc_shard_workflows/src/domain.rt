@@ -1,0 +1,135 @@
+use crate::arrival::Arrival;
+use crate::workflow::Workflow;
+use ndc_event::{Batch, Name};
+use ndc_model_cells::Message;
+use ndc_state::Steps;
+use std::alloc::{AllocError, Global};
+use std::collections::BTreeMap;
+use std::marker::Model;
+
+/// The workflows of a domain by name. Seen as the list of them, in order of name.
+pub(crate) struct Domain {
+    workflows: BTreeMap<Name, Workflow>,
+}
+
+impl Model for Domain {
+    ghost use Rattle.ndc_shard_workflows.specs.Workflows.{DomainValue};
+
+    ghost Value = { DomainValue };
+
+    ghost view = { λ domain. domain.workflows.entries };
+}
+
+impl Drop for Domain {
+    fn drop(self) {
+        let Domain {
+            workflows: _workflows,
+        } = self;
+    }
+}
+
+impl Domain {
+    ghost use Rattle.std.specs.Prelude.{◌≡◌, [], map, true, false, IfOk, IfSome, OnOk, OnErr};
+    ghost use Rattle.std.specs.List.{AllByRecursion};
+    ghost use Rattle.std.specs.Map.{values_of};
+    ghost use Rattle.std.specs.Option.{option_copied};
+    ghost use Rattle.ndc_model_cells.specs.Cells.{both};
+    ghost use Rattle.ndc_model_cells.specs.Places.{is_of};
+    ghost use Rattle.ndc_shard_runs.specs.Kept.{is_due};
+    ghost use Rattle.ndc_model_sets.specs.Learned.{learned};
+    ghost use Rattle.ndc_model_sets.specs.Sound.{IsSound};
+    ghost use Rattle.ndc_model_cells.specs.Messages.{IsMessage, IsNewTo};
+    ghost use Rattle.ndc_model_cells.specs.Messages.{carrying, HasSmallIds};
+    ghost use Rattle.ndc_shard_workflows.specs.Workflow.{has_arrived, answer_to, made_learned, after_arrival, with_written};
+    ghost use Rattle.ndc_shard_workflows.specs.Named.{under, IsPut};
+    ghost use Rattle.ndc_shard_workflows.specs.Workflows.{workflow_or_empty, AreOwn};
+    ghost use Rattle.ndc_shard_workflows.specs.Writing.{MayBeWritten};
+
+    /// There is no workflow.
+    pub(crate) fn new(alloc: Global) -> Domain
+        ensures { result ≡ [] }
+    {
+        Domain {
+            workflows: BTreeMap::new(alloc),
+        }
+    }
+
+    /// The workflow of this name.
+    pub(crate) fn get(&self, workflow: &Name) -> Option<&Workflow>
+        ensures { option_copied result ≡ under workflow.now self.now }
+    {
+        self.workflows.get(workflow)
+    }
+
+    /// The workflows, in order of name.
+    pub(crate) fn list(&self, alloc: Global) -> Result<Vec<&Workflow>, AllocError>
+        ensures { IfOk result (λ list. map (λ w. w.now) list.items ≡ values_of self.now) }
+    {
+        self.workflows.values().collect(alloc)
+    }
+
+    /// Whether reapplication is due in the workflow of this name, as [`Workflow::is_due`] finds it.
+    pub(crate) fn is_due(&mut self, alloc: Global, workflow: &Name) -> Result<bool, AllocError>
+        ensures due { IfOk result (λ due. due ≡ is_due (learned (workflow_or_empty (under workflow.now self.old)).arrived)) }
+        ensures same { self.new ≡ self.old }
+    {
+        if let Some(found) = self.workflows.get_mut(workflow) {
+            return found.is_due(alloc);
+        }
+        Ok(false)
+    }
+
+    /// A message of the domain arrives in its workflow. After want of memory the workflow may be anything.
+    pub(crate) fn arrive<L>(
+        &mut self,
+        alloc: Global,
+        message: Message,
+        steps: &mut Steps<L>,
+    ) -> Result<Arrival, AllocError>
+        requires own { AreOwn message.batch.domain self.old }
+        requires message { IsMessage message }
+        requires second { IfSome message.second (λ b. is_of message.batch.domain message.batch.workflow b ≡ true) }
+        requires new { has_arrived message.batch.key (workflow_or_empty (under message.batch.workflow self.old)) ≡ false
+            → IsNewTo (workflow_or_empty (under message.batch.workflow self.old)).arrived message }
+        requires sound { IsSound (learned (after_arrival message (workflow_or_empty (under message.batch.workflow self.old))).arrived) }
+        requires ids { AllByRecursion HasSmallIds (both message) }
+        ensures outcome { IfOk result (λ arrival. arrival.outcome ≡ answer_to message (workflow_or_empty (under message.batch.workflow self.old))) }
+        ensures learned { IfOk result (λ arrival. arrival.learned ≡ made_learned message (workflow_or_empty (under message.batch.workflow self.old))) }
+        ensures ok { OnOk result (IsPut message.batch.workflow (after_arrival message (workflow_or_empty (under message.batch.workflow self.old))) self.old self.new) }
+        ensures own { AreOwn message.batch.domain self.new }
+    {
+        if let Some(workflow) = self.workflows.get_mut(&message.batch.workflow) {
+            return workflow.arrive(alloc, message, steps);
+        }
+        let name = message.batch.workflow.try_copy()?;
+        let mut workflow = Workflow::new(alloc);
+        let arrival = workflow.arrive(alloc, message, steps)?;
+        self.workflows.insert(name, workflow)?;
+        Ok(arrival)
+    }
+
+    /// Learns a batch of the domain that is written in this cell, and the one that it carries. For want of memory nothing
+    /// changes.
+    pub(crate) fn write<L>(
+        &mut self,
+        alloc: Global,
+        batch: &Batch,
+        second: Option<&Batch>,
+        steps: &mut Steps<L>,
+    ) -> Result<(), AllocError>
+        requires own { AreOwn batch.now.domain self.old }
+        requires may { MayBeWritten (carrying batch.now (option_copied second)) (workflow_or_empty (under batch.now.workflow self.old)) }
+        ensures ok { OnOk result (IsPut batch.now.workflow (with_written (carrying batch.now (option_copied second.entry)) (workflow_or_empty (under batch.now.workflow self.old))) self.old self.new) }
+        ensures own { AreOwn batch.now.domain self.new }
+        ensures err { OnErr result (self.new ≡ self.old) }
+    {
+        if let Some(workflow) = self.workflows.get_mut(&batch.workflow) {
+            return workflow.write(alloc, batch, second, steps);
+        }
+        let name = batch.workflow.try_copy()?;
+        let mut workflow = Workflow::new(alloc);
+        workflow.write(alloc, batch, second, steps)?;
+        self.workflows.insert(name, workflow)?;
+        Ok(())
+    }
+}

@@ -1,0 +1,180 @@
+ghost use Rattle.std.specs.Prelude.{◌≡◌, map, IfOk};
+ghost use Rattle.std.specs.List.{list_any};
+ghost use Rattle.std.specs.Str.{bytes_eq};
+ghost use Rattle.ndc_shard_workflows.specs.Reading.{workflows_named};
+
+use crate::arrival::Arrival;
+use crate::domain::Domain;
+use crate::workflow::Workflow;
+use ndc_event::{Batch, Name};
+use ndc_model_cells::Message;
+use ndc_state::Steps;
+use std::alloc::{AllocError, Global};
+use std::collections::BTreeMap;
+use std::marker::Model;
+
+/// The domains of a cell with their workflows, by name. Seen as the cell, as which it has written nothing.
+pub(crate) struct Domains {
+    domains: BTreeMap<Name, Domain>,
+}
+
+impl Model for Domains {
+    ghost use Rattle.ndc_model_cells.specs.Cells.{Cell};
+    ghost use Rattle.ndc_shard_workflows.specs.Workflows.{cell_of, AreDomains};
+
+    ghost Value = { Cell };
+
+    ghost view = { λ cell. cell_of cell.domains.entries };
+
+    ghost invariant = { λ cell. AreDomains cell.domains.entries };
+}
+
+impl Drop for Domains {
+    fn drop(self) {
+        let Domains { domains: _domains } = self;
+    }
+}
+
+/// The workflows of these domains, in order of domain and then of name.
+fn named_in<'d>(
+    alloc: Global,
+    domains: &'d BTreeMap<Name, Domain>,
+    names: &[Name],
+) -> Result<Vec<&'d Workflow>, AllocError>
+    ensures { IfOk result (λ list. map (λ w. w.now) list.items ≡ workflows_named names.now domains.now.entries) }
+{
+    let mut list = Vec::new(alloc);
+    for (name, domain) in domains.iter() {
+        if has_name(names, name) {
+            let mut more = domain.list(alloc)?;
+            list.append(&mut more)?;
+        }
+    }
+    Ok(list)
+}
+
+/// Whether the name is one of these.
+fn has_name(names: &[Name], name: &Name) -> bool
+    ensures { result ≡ list_any (λ one. bytes_eq one name.now) names.now }
+{
+    names.iter().any(|one| *one == *name)
+}
+
+impl Domains {
+    ghost use Rattle.std.specs.Prelude.{◌≡◌, map, IfSome, IfNone, IfOk, OnOk, OnErr};
+    ghost use Rattle.std.specs.Option.{option_copied};
+    ghost use Rattle.ndc_model_cells.specs.Arrival.{arrival_of, arrived_at, learned_by};
+    ghost use Rattle.ndc_model_cells.specs.Cells.{empty_cell, learned_of, IsCell};
+    ghost use Rattle.ndc_model_cells.specs.Writing.{with_batches};
+    ghost use Rattle.ndc_event.specs.declared.name.Name.{Name as Text};
+    ghost use Rattle.ndc_shard_runs.specs.Kept.{is_due};
+    ghost use Rattle.ndc_model_sets.specs.Sound.{IsSound};
+    ghost use Rattle.ndc_model_cells.specs.Allowed.{MayArrive};
+    ghost use Rattle.ndc_model_cells.specs.Messages.{carrying};
+    ghost use Rattle.ndc_shard_workflows.specs.Workflow.{empty_workflow, IsWorkflow};
+    ghost use Rattle.ndc_model_cells.specs.Workflow.{workflow_of};
+    ghost use Rattle.ndc_shard_workflows.specs.Reading.{HoldLearned};
+    ghost use Rattle.ndc_shard_workflows.specs.Writing.{MayBeWritten};
+
+    /// Nothing has arrived.
+    pub(crate) fn new(alloc: Global) -> Domains
+        ensures { result ≡ empty_cell }
+    {
+        Domains {
+            domains: BTreeMap::new(alloc),
+        }
+    }
+
+    /// The workflow of these names. There is none only where nothing of it has arrived. In the logarithm of the domains and
+    /// of the domain's workflows. What is learned of it is sound, and the cell is in order.
+    pub(crate) fn find(&self, domain: &Name, workflow: &Name) -> Option<&Workflow>
+        ensures found { IfSome result (λ found. found.now ≡ workflow_of domain.now workflow.now self.now) }
+        ensures none { IfNone result (workflow_of domain.now workflow.now self.now ≡ empty_workflow) }
+        ensures workflow { IsWorkflow (workflow_of domain.now workflow.now self.now) }
+        ensures sound { IsSound (learned_of domain.now workflow.now self.now) }
+        ensures cell { IsCell self.now }
+    {
+        self.domains.get(domain)?.get(workflow)
+    }
+
+    /// Whether reapplication is due in the workflow of these names, as [`Workflow::is_due`] finds it.
+    pub(crate) fn is_due(
+        &mut self,
+        alloc: Global,
+        domain: &Name,
+        workflow: &Name,
+    ) -> Result<bool, AllocError>
+        ensures due { IfOk result (λ due. due ≡ is_due (learned_of domain.now workflow.now self.old)) }
+        ensures same { self.new ≡ self.old }
+    {
+        if let Some(found) = self.domains.get_mut(domain) {
+            return found.is_due(alloc, workflow);
+        }
+        Ok(false)
+    }
+
+    /// The workflows of these domains, in order of domain and then of name. They hold, in order, all that is learned of
+    /// these domains.
+    pub(crate) fn of_domains(
+        &self,
+        alloc: Global,
+        names: &[Name],
+    ) -> Result<Vec<&Workflow>, AllocError>
+        ensures { IfOk result (λ list. HoldLearned names.now (map (λ w. w.now) list.items) self.now) }
+    {
+        named_in(alloc, &self.domains, names)
+    }
+
+    /// The cell is in order, and so is each workflow of it.
+    pub(crate) fn is_in_order(&self)
+        ensures cell { IsCell self.now }
+        ensures workflows { (domain workflow : Text) → IsWorkflow (workflow_of domain workflow self.now) }
+    {
+        let _domains = &self.domains;
+    }
+
+    /// A message arrives in its workflow. After want of memory nothing is said of what has arrived.
+    pub(crate) fn arrive<L>(
+        &mut self,
+        alloc: Global,
+        message: Message,
+        steps: &mut Steps<L>,
+    ) -> Result<Arrival, AllocError>
+        requires { MayArrive message self.old }
+        ensures outcome { IfOk result (λ arrival. arrival.outcome ≡ arrival_of message self.old) }
+        ensures learned { IfOk result (λ arrival. arrival.learned ≡ learned_by message self.old) }
+        ensures cell { OnOk result (self.new ≡ arrived_at message self.old) }
+    {
+        if let Some(domain) = self.domains.get_mut(&message.batch.domain) {
+            return domain.arrive(alloc, message, steps);
+        }
+        let name = message.batch.domain.try_copy()?;
+        let mut domain = Domain::new(alloc);
+        let arrival = domain.arrive(alloc, message, steps)?;
+        self.domains.insert(name, domain)?;
+        Ok(arrival)
+    }
+
+    /// Learns a batch that is written in this cell, and the one that it carries, in their workflow. For want of memory
+    /// nothing changes.
+    pub(crate) fn write<L>(
+        &mut self,
+        alloc: Global,
+        batch: &Batch,
+        second: Option<&Batch>,
+        steps: &mut Steps<L>,
+    ) -> Result<(), AllocError>
+        requires { MayBeWritten (carrying batch.now (option_copied second)) (workflow_of batch.now.domain batch.now.workflow self.old) }
+        ensures ok { OnOk result (self.new ≡ with_batches (record { batch = batch.now; second = option_copied second.entry }) self.old) }
+        ensures err { OnErr result (self.new ≡ self.old) }
+    {
+        if let Some(domain) = self.domains.get_mut(&batch.domain) {
+            return domain.write(alloc, batch, second, steps);
+        }
+        let name = batch.domain.try_copy()?;
+        let mut domain = Domain::new(alloc);
+        domain.write(alloc, batch, second, steps)?;
+        self.domains.insert(name, domain)?;
+        Ok(())
+    }
+}

@@ -1,0 +1,195 @@
+use crate::arrival::Arrival;
+use crate::learning::{learn, take_in};
+use ndc_event::{Batch, BatchKey};
+use ndc_model_cells::Message;
+use ndc_shard_runs::Runs;
+use ndc_shard_waiting::{PutOff, Waiting};
+use ndc_state::Steps;
+use std::alloc::{AllocError, Global};
+use std::marker::Model;
+
+/// One workflow in one cell: what is learned of it, with its states, and what is put off until an ancestor arrives.
+/// Seen as the batches that have arrived, in key order, and the messages of what is put off, in key order.
+pub struct Workflow {
+    runs: Runs,
+    waiting: Waiting,
+}
+
+impl Model for Workflow {
+    ghost use Rattle.ndc_model_cells.specs.Workflow.{WorkflowValue};
+
+    ghost Value = { WorkflowValue };
+
+    ghost use Rattle.ndc_shard_workflows.specs.WorkflowFields.{workflow_in, IsWorkflowInside};
+
+    ghost view = { workflow_in };
+
+    ghost invariant = { IsWorkflowInside };
+}
+
+impl Drop for Workflow {
+    fn drop(self) {
+        let Workflow {
+            runs: _runs,
+            waiting: _waiting,
+        } = self;
+    }
+}
+
+impl Workflow {
+    ghost use Rattle.std.specs.Prelude.{◌≡◌, [], ◌∷◌, false, length, map, true, Some, IfOk, OnOk, OnErr};
+    ghost use Rattle.std.specs.List.{AllByRecursion};
+    ghost use Rattle.std.specs.Option.{option_copied};
+    ghost use Rattle.ndc_model_cells.specs.Cells.{both};
+    ghost use Rattle.ndc_shard_runs.specs.Kept.{is_due};
+    ghost use Rattle.ndc_model_sets.specs.Learned.{has_key, learned};
+    ghost use Rattle.ndc_model_sets.specs.Sets.{batch_at, earlier};
+    ghost use Rattle.ndc_model_sets.specs.Sound.{IsSound};
+    ghost use Rattle.ndc_state.specs.Counted.{counted};
+    ghost use Rattle.ndc_model_sets.specs.Reading.{current_key};
+    ghost use Rattle.ndc_shard_waiting.specs.Learning.{with_message};
+    ghost use Rattle.ndc_model_cells.specs.Messages.{waits_for, IsMessage, IsNewTo};
+    ghost use Rattle.ndc_model_cells.specs.Messages.{carrying, HasSmallIds};
+    ghost use Rattle.ndc_shard_workflows.specs.Workflow.{IsWorkflow, empty_workflow, has_arrived, missing_at, all_missing, answer_to, made_learned, after_arrival, with_written, counted_for};
+
+    /// Nothing has arrived.
+    pub fn new(alloc: Global) -> Workflow
+        ensures { result ≡ empty_workflow }
+    {
+        Workflow {
+            runs: Runs::new(alloc),
+            waiting: Waiting::new(alloc),
+        }
+    }
+
+    /// What is learned, to be read; beside it the messages are put off.
+    pub fn runs(&self) -> &Runs
+        ensures learned { result.now ≡ learned self.now.arrived }
+        ensures workflow { IsWorkflow self.now }
+    {
+        &self.runs
+    }
+
+    /// The messages that are put off, to be read.
+    pub fn put_off(&self) -> &Waiting
+        ensures { result.now ≡ self.now.waiting }
+    {
+        &self.waiting
+    }
+
+    /// The batch of this key, where it has arrived.
+    pub fn get(&self, key: BatchKey) -> Option<&Batch>
+        ensures { option_copied result ≡ batch_at key self.now.arrived }
+    {
+        match self.runs.get(key) {
+            Some(batch) => Some(batch),
+            None => self.waiting.get(key),
+        }
+    }
+
+    /// Whether the batch of this key has arrived.
+    pub fn has_arrived(&self, key: BatchKey) -> bool
+        ensures { result ≡ has_arrived key self.now }
+    {
+        self.get(key).is_some()
+    }
+
+    /// Finds what the strays are, where it is not known; then they are known. In time of all learned events where it is
+    /// not known. For want of memory it stays unknown.
+    pub fn find_strays(&mut self, alloc: Global) -> Result<(), AllocError>
+        ensures { self.new ≡ self.old }
+    {
+        self.runs.find_strays(alloc)
+    }
+
+    /// Whether reapplication is due: there are strays, and the current run is open. Where it is open, the strays are known
+    /// then, as by [`Workflow::find_strays`].
+    pub fn is_due(&mut self, alloc: Global) -> Result<bool, AllocError>
+        ensures due { IfOk result (λ due. due ≡ is_due (learned self.old.arrived)) }
+        ensures same { self.new ≡ self.old }
+    {
+        self.runs.is_due(alloc)
+    }
+
+    /// The nearest ancestor that has not arrived of the batch of this key, where the batch is put off. Over many calls
+    /// in the logarithm of the put-off messages, without memory.
+    pub fn missing(&mut self, key: BatchKey) -> Option<BatchKey>
+        ensures missing { result ≡ missing_at key self.old }
+        ensures same { self.new ≡ self.old }
+    {
+        if self.waiting.has(key) {
+            Some(self.waiting.missing(key))
+        } else {
+            None
+        }
+    }
+
+    /// Of each batch that is put off, those that are carried too, in key order, its key and the nearest ancestor that has
+    /// not arrived. In time of the put-off batches times the logarithm of them.
+    pub fn all_missing(&self, alloc: Global) -> Result<Vec<PutOff>, AllocError>
+        ensures { IfOk result (λ list. map (λ one. (one.key, Some one.missing)) list.items ≡ all_missing self.now) }
+    {
+        self.waiting.all_missing(alloc)
+    }
+
+    /// A message arrives. A known one changes nothing. One of which the batch's earlier key is not learned is put off,
+    /// and any other is learned with all that waits for it. For want of memory nothing has arrived any more: the
+    /// workflow is empty.
+    ///
+    /// Where it is not known, it is a message as cells write them, neither of its batches has arrived, and what is
+    /// learned behind it is sound; event ids are at most 10^12.
+    #[tactic(auto, unfolding(crate::specs::Workflow::answer_to, crate::specs::Workflow::made_learned, crate::specs::Workflow::after_arrival))]
+    pub fn arrive<L>(
+        &mut self,
+        alloc: Global,
+        message: Message,
+        steps: &mut Steps<L>,
+    ) -> Result<Arrival, AllocError>
+        requires message { IsMessage message }
+        requires new { has_arrived message.batch.key self.old ≡ false → IsNewTo self.old.arrived message }
+        requires sound { IsSound (learned (after_arrival message self.old).arrived) }
+        requires ids { AllByRecursion HasSmallIds (both message) }
+        ensures outcome { IfOk result (λ arrival. arrival.outcome ≡ answer_to message self.old) }
+        ensures learned { IfOk result (λ arrival. arrival.learned ≡ made_learned message self.old) }
+        ensures ok { OnOk result (self.new ≡ after_arrival message self.old) }
+        ensures err { OnErr result (self.new ≡ empty_workflow) }
+    {
+        if self.has_arrived(message.batch.key) {
+            return Ok(Arrival::known(alloc));
+        }
+        match take_in(&mut self.runs, &mut self.waiting, alloc, message, steps) {
+            Ok(arrival) => Ok(arrival),
+            Err(error) => {
+                self.runs = Runs::new(alloc);
+                self.waiting = Waiting::new(alloc);
+                Err(error)
+            }
+        }
+    }
+
+    /// Learns a batch that is written in this cell, and the one that it carries. For want of memory nothing changes. A
+    /// batch that goes on from the current branch of its run takes a step for each event of both.
+    ///
+    /// The batch points back to a learned one, or has no earlier key, neither of the two has arrived, no message that is
+    /// put off waits for either, and what is learned with them is sound; event ids are at most 10^12.
+    pub fn write<L>(
+        &mut self,
+        alloc: Global,
+        batch: &Batch,
+        second: Option<&Batch>,
+        steps: &mut Steps<L>,
+    ) -> Result<(), AllocError>
+        requires message { IsMessage (carrying batch.now (option_copied second)) }
+        requires new { IsNewTo self.old.arrived (carrying batch.now (option_copied second)) }
+        requires reached { has_key (earlier batch.now) (learned self.old.arrived) ≡ true }
+        requires awaited { AllByRecursion (λ sent. waits_for (both (carrying batch.now (option_copied second))) sent ≡ false) self.old.waiting }
+        requires sound { IsSound (with_message (carrying batch.now (option_copied second)) (learned self.old.arrived)) }
+        requires ids { AllByRecursion HasSmallIds (both (carrying batch.now (option_copied second))) }
+        ensures ok { OnOk result (self.new ≡ with_written (carrying batch.now (option_copied second.entry)) self.old) }
+        ensures learned { OnOk result (learned self.new.arrived ≡ with_message (carrying batch.now (option_copied second.entry)) (learned self.old.arrived)) }
+        ensures err { OnErr result (self.new ≡ self.old) }
+        ensures steps { OnOk result (batch.now.parent ≡ current_key batch.now.run (learned self.old.arrived) → steps.new ≡ counted (counted_for (option_copied second.entry) steps.old) (length batch.now.events)) }
+    {
+        learn(&mut self.runs, alloc, batch, second, steps)
+    }
+}

@@ -1,0 +1,365 @@
+ghost use Rattle.std.specs.Prelude.{◌≡◌, [], map, true, false, None, IfOk, OnOk, OnErr};
+ghost use Rattle.std.specs.List.{filter_map};
+ghost use Rattle.std.specs.Option.{option_copied, option_map};
+ghost use Rattle.ndc_model_cells.specs.Arrival.{arrival_of, arrived_at, learned_by};
+ghost use Rattle.ndc_model_cells.specs.Cells.{learned_of, IsCell};
+ghost use Rattle.ndc_model_cells.specs.Places.{place_of};
+ghost use Rattle.ndc_shard_runs.specs.Kept.{is_due, StaysSettled};
+ghost use Rattle.ndc_model_cells.specs.Allowed.{MayArrive};
+ghost use Rattle.ndc_shard_workflows.specs.Workflow.{put_off_in as put_off_of, IsWorkflow};
+ghost use Rattle.ndc_model_cells.specs.Workflow.{workflow_of};
+ghost use Rattle.ndc_shard_workflows.specs.Behind.{HoldBehind, first_behind, first_batch};
+ghost use Rattle.ndc_shard_workflows.specs.Due.{HoldDue};
+ghost use Rattle.ndc_shard_workflows.specs.Listed.{IsListedBefore, IsListedWhereBehind, IsListedWhereDue};
+
+use crate::arrival::Arrival;
+use crate::domains::Domains;
+use crate::listing::Listing;
+use crate::workflow::Workflow;
+use ndc_event::{Batch, Name};
+use ndc_model_cells::{Message, Place};
+use ndc_shard_runs::Runs;
+use ndc_state::Steps;
+use std::alloc::{AllocError, Global};
+use std::marker::Model;
+
+/// All workflows of a cell, found by domain and then by workflow, which of them reapplication may be due in, and which of
+/// them something is put off of. Seen as the cell, as which it has written nothing: what has arrived, and what waits, both
+/// in order of place.
+pub struct Workflows {
+    domains: Domains,
+    due: Listing,
+    behind: Listing,
+}
+
+impl Model for Workflows {
+    ghost use Rattle.ndc_model_cells.specs.Cells.{Cell};
+    ghost use Rattle.ndc_shard_workflows.specs.Behind.{HoldBehind};
+    ghost use Rattle.ndc_shard_workflows.specs.Due.{HoldDue};
+
+    ghost Value = { Cell };
+
+    ghost view = { λ workflows. workflows.domains };
+
+    ghost invariant = { λ workflows. HoldDue workflows.due workflows.domains × HoldBehind workflows.behind workflows.domains };
+}
+
+impl Drop for Workflows {
+    fn drop(self) {
+        let Workflows {
+            domains: _domains,
+            due: _due,
+            behind: _behind,
+        } = self;
+    }
+}
+
+impl Workflows {
+    ghost use Rattle.std.specs.Prelude.{◌≡◌, map, IfSome, IfNone, IfOk, OnOk, OnErr};
+    ghost use Rattle.std.specs.Option.{option_copied};
+    ghost use Rattle.ndc_model_cells.specs.Arrival.{arrival_of, arrived_at, learned_by};
+    ghost use Rattle.ndc_model_cells.specs.Cells.{empty_cell, learned_of, put_off_in, IsCell};
+    ghost use Rattle.ndc_model_cells.specs.Jobs.{workflows_of};
+    ghost use Rattle.ndc_model_cells.specs.Places.{place_of};
+    ghost use Rattle.ndc_model_cells.specs.Writing.{with_batches};
+    ghost use Rattle.ndc_shard_runs.specs.Kept.{is_due};
+    ghost use Rattle.ndc_model_sets.specs.Sound.{IsSound};
+    ghost use Rattle.ndc_model_cells.specs.Allowed.{MayArrive};
+    ghost use Rattle.ndc_model_cells.specs.Messages.{carrying};
+    ghost use Rattle.ndc_shard_workflows.specs.Workflow.{empty_workflow, IsWorkflow};
+    ghost use Rattle.ndc_model_cells.specs.Workflow.{workflow_of};
+    ghost use Rattle.ndc_shard_workflows.specs.Due.{AreDue};
+    ghost use Rattle.ndc_shard_workflows.specs.Reading.{HoldLearned};
+    ghost use Rattle.ndc_shard_workflows.specs.Writing.{MayBeWritten};
+
+    /// Nothing has arrived.
+    pub fn new(alloc: Global) -> Workflows
+        ensures { result ≡ empty_cell }
+    {
+        Workflows {
+            domains: Domains::new(alloc),
+            due: Listing::new(alloc),
+            behind: Listing::new(alloc),
+        }
+    }
+
+    /// The workflow of these names. There is none only where nothing of it has arrived. In the logarithm of the domains and
+    /// of the domain's workflows. What is learned of it is sound, and the cell is in order.
+    pub fn find(&self, domain: &Name, workflow: &Name) -> Option<&Workflow>
+        ensures found { IfSome result (λ found. found.now ≡ workflow_of domain.now workflow.now self.now) }
+        ensures none { IfNone result (workflow_of domain.now workflow.now self.now ≡ empty_workflow) }
+        ensures workflow { IsWorkflow (workflow_of domain.now workflow.now self.now) }
+        ensures sound { IsSound (learned_of domain.now workflow.now self.now) }
+        ensures cell { IsCell self.now }
+    {
+        self.domains.find(domain, workflow)
+    }
+
+    /// A message arrives in its workflow. After want of memory nothing has arrived any more.
+    pub fn arrive<L>(
+        &mut self,
+        alloc: Global,
+        message: Message,
+        steps: &mut Steps<L>,
+    ) -> Result<Arrival, AllocError>
+        requires { MayArrive message self.old }
+        ensures outcome { IfOk result (λ arrival. arrival.outcome ≡ arrival_of message self.old) }
+        ensures learned { IfOk result (λ arrival. arrival.learned ≡ learned_by message self.old) }
+        ensures cell { OnOk result (self.new ≡ arrived_at message self.old) }
+        ensures err { OnErr result (self.new ≡ empty_cell) }
+    {
+        match arrive_in(
+            &mut self.domains,
+            &mut self.due,
+            &mut self.behind,
+            alloc,
+            message,
+            steps,
+        ) {
+            Ok(arrival) => Ok(arrival),
+            Err(error) => {
+                self.domains = Domains::new(alloc);
+                self.due = Listing::new(alloc);
+                self.behind = Listing::new(alloc);
+                Err(error)
+            }
+        }
+    }
+
+    /// Learns a batch that is written in this cell, and the one that it carries, in their workflow. For want of memory
+    /// nothing changes.
+    pub fn write<L>(
+        &mut self,
+        alloc: Global,
+        batch: &Batch,
+        second: Option<&Batch>,
+        steps: &mut Steps<L>,
+    ) -> Result<(), AllocError>
+        requires { MayBeWritten (carrying batch.now (option_copied second)) (workflow_of batch.now.domain batch.now.workflow self.old) }
+        ensures ok { OnOk result (self.new ≡ with_batches (record { batch = batch.now; second = option_copied second.entry }) self.old) }
+        ensures err { OnErr result (self.new ≡ self.old) }
+    {
+        list_before(&self.domains, &mut self.due, alloc, batch, second)?;
+        self.domains.write(alloc, batch, second, steps)
+    }
+
+    /// The workflows of these domains, in order of domain and then of name. They hold, in order, all that is learned of
+    /// these domains, and each has of its workflow all that has arrived. In time of the domains of the cell and the workflows
+    /// of these.
+    pub fn of_domains(&self, alloc: Global, domains: &[Name]) -> Result<Vec<&Workflow>, AllocError>
+        ensures { IfOk result (λ list. HoldLearned domains.now (map (λ w. w.now) list.items) self.now) }
+    {
+        self.domains.of_domains(alloc, domains)
+    }
+
+    /// Of each workflow of which something is put off the place of the first batch that is, in order of place. In time of
+    /// what is put off, however many other workflows there are.
+    pub fn behind(&self, alloc: Global) -> Result<Vec<Place>, AllocError>
+        ensures { IfOk result (λ list. list.items ≡ map place_of (workflows_of (put_off_in self.now))) }
+    {
+        self.domains.is_in_order();
+        let list = self.behind.list(alloc)?;
+        let places = first_places(&self.domains, alloc, list)?;
+        Ok(places)
+    }
+
+    /// The workflows in which reapplication may be due, each as its domain and its name, in order. A workflow is among them
+    /// from when something is learned of it that may leave strays until [`Workflows::is_due`] finds that nothing is due.
+    pub fn due(&self, alloc: Global) -> Result<Vec<(Name, Name)>, AllocError>
+        ensures list { IfOk result (λ list. AreDue list.items self.now) }
+        ensures cell { IsCell self.now }
+    {
+        self.domains.is_in_order();
+        self.due.list(alloc)
+    }
+
+    /// Whether reapplication is due in a workflow: there are strays, and the current run is open. Then the strays are known
+    /// to its [`Runs`]. Where it is not due, [`Workflows::due`] has the workflow no more. In time of all learned events of
+    /// the workflow where the strays are not known, else of some look-ups.
+    pub fn is_due(
+        &mut self,
+        alloc: Global,
+        domain: &Name,
+        workflow: &Name,
+    ) -> Result<bool, AllocError>
+        ensures due { IfOk result (λ due. due ≡ is_due (learned_of domain.now workflow.now self.old)) }
+        ensures same { self.new ≡ self.old }
+    {
+        let is_due = self.domains.is_due(alloc, domain, workflow)?;
+        if !is_due {
+            self.due.take(domain, workflow)?;
+        }
+        Ok(is_due)
+    }
+}
+
+/// A message arrives in its workflow, which is listed where reapplication may be due in it then, and where something is put
+/// off of it.
+fn arrive_in<L>(
+    domains: &mut Domains,
+    due: &mut Listing,
+    behind: &mut Listing,
+    alloc: Global,
+    message: Message,
+    steps: &mut Steps<L>,
+) -> Result<Arrival, AllocError>
+    requires may { MayArrive message domains.old }
+    requires hold { HoldDue due.old domains.old }
+    requires behind { HoldBehind behind.old domains.old }
+    ensures outcome { IfOk result (λ arrival. arrival.outcome ≡ arrival_of message domains.old) }
+    ensures learned { IfOk result (λ arrival. arrival.learned ≡ learned_by message domains.old) }
+    ensures cell { OnOk result (domains.new ≡ arrived_at message domains.old) }
+    ensures hold { OnOk result (HoldDue due.new domains.new) }
+    ensures behind { OnOk result (HoldBehind behind.new domains.new) }
+{
+    let domain = message.batch.domain.try_copy()?;
+    let workflow = message.batch.workflow.try_copy()?;
+    let arrival = domains.arrive(alloc, message, steps)?;
+    list_where_due(domains, due, &domain, &workflow)?;
+    list_where_behind(domains, behind, &domain, &workflow)?;
+    Ok(arrival)
+}
+
+/// Lists a workflow where reapplication may be due in it.
+fn list_where_due(
+    domains: &Domains,
+    due: &mut Listing,
+    domain: &Name,
+    workflow: &Name,
+) -> Result<(), AllocError>
+    ensures { OnOk result (IsListedWhereDue domain.now workflow.now domains.now due.old due.new) }
+{
+    if !may_be_due(domains, domain, workflow) {
+        return Ok(());
+    }
+    due.put(domain, workflow)
+}
+
+/// Whether reapplication may be due in a workflow, by what is known of it.
+fn may_be_due(domains: &Domains, domain: &Name, workflow: &Name) -> bool
+    ensures { result ≡ false → is_due (learned_of domain.now workflow.now domains.now) ≡ false }
+{
+    match domains.find(domain, workflow) {
+        Some(found) => found.runs().may_be_due(),
+        None => false,
+    }
+}
+
+/// Lists a workflow where something is put off of it; else it is listed no more.
+fn list_where_behind(
+    domains: &Domains,
+    behind: &mut Listing,
+    domain: &Name,
+    workflow: &Name,
+) -> Result<(), AllocError>
+    ensures { OnOk result (IsListedWhereBehind domain.now workflow.now domains.now behind.old behind.new) }
+{
+    if is_behind(domains, domain, workflow) {
+        return behind.put(domain, workflow);
+    }
+    if behind.is_empty() {
+        return Ok(());
+    }
+    behind.take(domain, workflow)
+}
+
+/// Whether something is put off of a workflow.
+fn is_behind(domains: &Domains, domain: &Name, workflow: &Name) -> bool
+    ensures { result ≡ false → (workflow_of domain.now workflow.now domains.now).waiting ≡ [] }
+{
+    match domains.find(domain, workflow) {
+        Some(found) => !found.put_off().is_empty(),
+        None => false,
+    }
+}
+
+/// The places of the first batches that are put off of these workflows.
+fn first_places(
+    domains: &Domains,
+    alloc: Global,
+    list: Vec<(Name, Name)>,
+) -> Result<Vec<Place>, AllocError>
+    ensures { IfOk result (λ places. places.items ≡ filter_map (first_behind domains.now) list.items) }
+{
+    let mut places = Vec::new(alloc);
+    for (domain, workflow) in list {
+        if let Some(place) = first_place(domains, alloc, &domain, &workflow)? {
+            places.push(place)?;
+        }
+    }
+    Ok(places)
+}
+
+/// The place of the first batch that is put off of a workflow, where there is one.
+fn first_place(
+    domains: &Domains,
+    alloc: Global,
+    domain: &Name,
+    workflow: &Name,
+) -> Result<Option<Place>, AllocError>
+    ensures { IfOk result (λ place. place ≡ first_behind domains.now (domain.now, workflow.now)) }
+{
+    match domains.find(domain, workflow) {
+        Some(found) => first_put_off(alloc, found),
+        None => Ok(None),
+    }
+}
+
+/// The same of one workflow.
+fn first_put_off(alloc: Global, workflow: &Workflow) -> Result<Option<Place>, AllocError>
+    requires { IsWorkflow workflow.now }
+    ensures { IfOk result (λ place. place ≡ option_map place_of (first_batch (put_off_of workflow.now))) }
+{
+    let batches = workflow.put_off().batches(alloc)?;
+    place_in(batches.as_slice())
+}
+
+/// The place of the first of these batches, where there is one.
+fn place_in(batches: &[&Batch]) -> Result<Option<Place>, AllocError>
+    ensures { IfOk result (λ place. place ≡ option_map place_of (first_batch (map (λ b. b.now) batches.now))) }
+{
+    match batches {
+        [] => Ok(None),
+        [batch, ..] => Ok(Some(Place {
+            domain: batch.domain.try_copy()?,
+            workflow: batch.workflow.try_copy()?,
+            key: batch.key,
+        })),
+    }
+}
+
+/// Lists the workflow of a batch that is to be written, unless the batch leaves no stray, by what is known of it.
+fn list_before(
+    domains: &Domains,
+    due: &mut Listing,
+    alloc: Global,
+    batch: &Batch,
+    second: Option<&Batch>,
+) -> Result<(), AllocError>
+    ensures ok { OnOk result (IsListedBefore batch.now (option_copied second.entry) domains.now due.old due.new) }
+    ensures err { OnErr result (due.new ≡ due.old) }
+    ensures workflow { IsWorkflow (workflow_of batch.now.domain batch.now.workflow domains.now) }
+    ensures cell { IsCell domains.now }
+{
+    if stays_settled(domains, alloc, batch, second) {
+        return Ok(());
+    }
+    due.put(&batch.domain, &batch.workflow)
+}
+
+/// Whether a batch that carries none leaves no stray in its workflow, by what is known of it.
+fn stays_settled(domains: &Domains, alloc: Global, batch: &Batch, second: Option<&Batch>) -> bool
+    ensures alone { result ≡ true → option_copied second.entry ≡ None }
+    ensures settled { result ≡ true → StaysSettled batch.now (learned_of batch.now.domain batch.now.workflow domains.now) }
+    ensures workflow { IsWorkflow (workflow_of batch.now.domain batch.now.workflow domains.now) }
+    ensures cell { IsCell domains.now }
+{
+    let found = domains.find(&batch.domain, &batch.workflow);
+    if second.is_some() {
+        return false;
+    }
+    match found {
+        Some(found) => found.runs().stays_settled(batch),
+        None => Runs::new(alloc).stays_settled(batch),
+    }
+}

@@ -1,9 +1,0 @@
-use Rattle.std.proofs.Common.{◌≡◌, length, ap, ◌∙◌, arith}
-use Rattle.ndc_model.specs.World.{World}
-use Rattle.ndc_steps.proofs.HandoverLemmas.{over_length}
-use Rattle.ndc_steps.proofs.handovers.complete_by.Goals as goal
-
-pub table_of-requires : goal.table_of-requires
-table_of-requires g c =
-    let same : length c.hand_over.new.network.clusters ≡ length c.args.network.now.clusters = ap (λ (w : World). length w.clusters) c.in_ok-hand_over-in-Ok.ensures ∙ over_length c.args.handover.now c.args.network.now in
-    omega (arith, c.requires.to, same)

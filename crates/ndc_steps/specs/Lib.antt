@@ -1,5 +1,0 @@
-pub mod Links
-pub mod Telling
-pub mod Told
-pub mod Versions
-pub mod Waiting

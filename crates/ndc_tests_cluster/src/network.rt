@@ -1,0 +1,174 @@
+ghost use Rattle.std.specs.Prelude.{◌≡◌, length, IfOk};
+ghost use Rattle.ndc_domain.specs.Clusters.{count_of};
+ghost use Rattle.ndc_laws_reached.specs.Sometime.{IsReachedSometime};
+ghost use Rattle.ndc_model.specs.Facts.{IsReached};
+ghost use Rattle.ndc_world_network.specs.Networks.{opening_site};
+ghost use Rattle.ndc_world_network.specs.Orderly.{IsOrderly};
+
+use crate::given::{ListCell, name, table_naming};
+use ndc_cluster::Site;
+use ndc_cluster_links::{Learns, Serves, Writes};
+use ndc_cluster_reads::{Lacking, Reads};
+use ndc_cluster_rounds::Works;
+use ndc_domain::{ClusterNo, Clusters};
+use ndc_event::{BatchKey, Name};
+use ndc_graceful::{Handover, Places};
+use ndc_model_cells::{Message, Place};
+use ndc_port::OpenGate;
+use ndc_script_types::Header;
+use ndc_shard_runs::Runs;
+use ndc_world_network::Network;
+use std::alloc::{AllocError, Global};
+use std::test::Fail;
+
+impl Serves for ListCell {
+    fn learned_of(&self, alloc: Global, _domains: &[Name]) -> Result<Vec<Message>, AllocError> {
+        Ok(Vec::new(alloc))
+    }
+}
+
+impl Reads for ListCell {
+    fn runs(&self, _domain: &Name, _workflow: &Name) -> Option<&Runs> {
+        None
+    }
+
+    fn has_arrived(&self, _domain: &Name, _workflow: &Name, _key: BatchKey) -> bool {
+        false
+    }
+
+    fn behind(&self, alloc: Global) -> Result<Vec<Place>, AllocError> {
+        Ok(Vec::new(alloc))
+    }
+
+    fn put_off(
+        &self,
+        alloc: Global,
+        _domain: &Name,
+        _workflow: &Name,
+    ) -> Result<Vec<Lacking>, AllocError> {
+        Ok(Vec::new(alloc))
+    }
+
+    fn message_at(
+        &self,
+        _alloc: Global,
+        _domain: &Name,
+        _workflow: &Name,
+        _key: BatchKey,
+    ) -> Result<Option<Message>, AllocError> {
+        Ok(None)
+    }
+}
+
+/// A cluster with one cell.
+fn site(alloc: Global) -> Result<Site<ListCell>, AllocError>
+    ensures { IfOk result (λ site. site ≡ opening_site 1) }
+{
+    let mut cells = Vec::new(alloc);
+    cells.push(ListCell {
+        written: Vec::new(alloc),
+    })?;
+    Site::new(alloc, cells, 1)
+}
+
+/// Two clusters with one shard, in the beginning.
+#[derive(Drop)]
+struct Opened {
+    header: Header,
+    network: Network<ListCell>,
+}
+
+/// Two clusters with one shard, in the beginning.
+fn in_the_beginning(alloc: Global) -> Result<Opened, Fail>
+    ensures clusters { IfOk result (λ opened. length opened.network.clusters ≡ 2) }
+    ensures members { IfOk result (λ opened. count_of opened.header.clusters ≡ 2) }
+    ensures shards { IfOk result (λ opened. opened.header.shards ≡ 1) }
+    ensures reached { IfOk result (λ opened. IsReached opened.header 0 opened.network) }
+    ensures sometime { IfOk result (λ opened. IsReachedSometime opened.header opened.network) }
+    ensures orderly { IfOk result (λ opened. IsOrderly opened.header opened.network) }
+{
+    let mut members = Vec::new(alloc);
+    members.push((Name::new(alloc, b"A".as_slice())?, 1))?;
+    members.push((Name::new(alloc, b"B".as_slice())?, 2))?;
+    let header = Header {
+        clusters: Clusters::build(10, members)?,
+        shards: 1,
+        limit: 100,
+    };
+    let mut sites = Vec::new(alloc);
+    sites.push(site(alloc)?)?;
+    sites.push(site(alloc)?)?;
+    let network = Network::new(alloc, &header, sites)?;
+    Ok(Opened { header, network })
+}
+
+#[test]
+fn nothing_is_pulled_in_the_beginning(rt: HostRuntime) -> Result<(), Fail> {
+    let alloc = rt.alloc();
+    let Opened {
+        header,
+        mut network,
+    } = in_the_beginning(alloc)?;
+    let reader = ClusterNo { number: 0 };
+    let source = ClusterNo { number: 1 };
+    assert!(rt; network.pull(alloc, &header, reader, source)? == 0);
+    Ok(())
+}
+
+#[test]
+fn nothing_arrives_in_the_beginning(rt: HostRuntime) -> Result<(), Fail> {
+    let alloc = rt.alloc();
+    let Opened {
+        header,
+        mut network,
+    } = in_the_beginning(alloc)?;
+    let reader = ClusterNo { number: 0 };
+    let done = network.arrive(&rt, alloc, &OpenGate {}, 2, &header, reader)?;
+    assert!(rt; done.jobs.is_empty() && done.replies.is_empty());
+    assert!(rt; network.sites().len() == 2);
+    Ok(())
+}
+
+#[test]
+fn a_cluster_without_memory_reapplies_nothing(rt: HostRuntime) -> Result<(), Fail> {
+    let alloc = rt.alloc();
+    let Opened {
+        header,
+        mut network,
+    } = in_the_beginning(alloc)?;
+    let cluster = ClusterNo { number: 1 };
+    assert!(rt;
+        network
+            .reapply(&rt, alloc, &OpenGate {}, 2, &header, cluster)
+            .is_err()
+    );
+    Ok(())
+}
+
+/// A handover of alpha.
+fn handover(alloc: Global) -> Result<Handover, AllocError> {
+    Ok(Handover {
+        domain: name(alloc, "alpha")?,
+        from: ClusterNo { number: 0 },
+        to: ClusterNo { number: 1 },
+        old: 1,
+        new: 2,
+        places: Places::new(Vec::new(alloc)),
+    })
+}
+
+#[test]
+fn a_table_is_replaced_and_a_handover_opened(rt: HostRuntime) -> Result<(), Fail> {
+    let alloc = rt.alloc();
+    let Opened {
+        header: _header,
+        mut network,
+    } = in_the_beginning(alloc)?;
+    let (source, reader) = (ClusterNo { number: 0 }, ClusterNo { number: 1 });
+    let table = table_naming(alloc, &[source, reader])?;
+    let before = network.replace_table(alloc, source, table)?;
+    assert!(rt; before.records().is_empty());
+    network.open_handover(handover(alloc)?)?;
+    assert_eq!(rt; network.handovers().len(), 1);
+    Ok(())
+}

@@ -1,0 +1,64 @@
+-- What is shown of a dump, and why showing one ends with a fault.
+use Rattle.std.specs.Prelude.{◌≡◌, ◌⊎◌, ℕ, ◌<◌, ◌≤◌, ⊤, IsOkAnd, IfSome, length, Some, List, [], Option, Err}
+use Rattle.ndc_port.specs.Bytes.{Appends, AppendsFront}
+use Rattle.ndc_port.specs.Fault.{Rose}
+use Rattle.ndc_text.specs.Views.{dump_text, tree_text}
+use Rattle.ndc_dump.specs.Read.{dump_of}
+use Rattle.ndc_dump.specs.declared.dump.Dump.{Dump}
+use Rattle.ndc_dump_causes.specs.declared.error.DumpError.{DumpError}
+use Rattle.ndc_dump_causes.specs.declared.error.DumpError.TheVariants as error
+use Rattle.ndc_tool_top.specs.Faulty.{dump_line, dump_batch_line}
+use Rattle.ndc_tool_top.specs.Top.{Streams, Tells, most_bytes}
+use Rattle.ndc_tool_top.specs.declared.fault.Fault.{Fault}
+use Rattle.ndc_tool_top.specs.declared.fault.Fault.TheVariants as fault
+use Rattle.ndc_tool_top.specs.declared.show.ShownAs.{ShownAs}
+use Rattle.ndc_tool_top.specs.declared.show.ShownAs.TheVariants as shown
+
+-- what is shown of a dump: its text, printed again from its batches, or the tree of its workflow
+unfoldable pub shown_text : ShownAs → Dump → List ℕ
+shown_text shown.Dump dump = dump_text dump.domain dump.workflow dump.view
+shown_text shown.Tree dump = tree_text dump.domain dump.workflow dump.view
+
+-- all was read, it was a dump, and what is shown of it was written whole
+abbrev pub Shows : ShownAs → Option (List ℕ) → Option (List ℕ) → Option (List ℕ) → Option (List ℕ) → Type 0
+Shows how left rest before after =
+    IfSome left (λ bytes. (length bytes ≤ most_bytes) × (rest ≡ Some []) × IsOkAnd (dump_of bytes) (λ dump. Appends before after (shown_text how dump)))
+
+-- a dump was read, and a front of what is shown of it was written
+abbrev pub StopsShowing : ShownAs → Option (List ℕ) → Option (List ℕ) → Option (List ℕ) → Type 0
+StopsShowing how left before after =
+    IfSome left (λ bytes. (length bytes ≤ most_bytes) × IsOkAnd (dump_of bytes) (λ dump. AppendsFront before after (shown_text how dump)))
+
+-- nothing was written, or a dump was read and a front of what is shown of it was written
+abbrev pub ShowsFront : ShownAs → Option (List ℕ) → Option (List ℕ) → Option (List ℕ) → Type 0
+ShowsFront how left before after = (after ≡ before) ⊎ StopsShowing how left before after
+
+-- why reading a dump ends with a fault
+abbrev pub DumpFault : Option (List ℕ) → ℕ → ℕ → Fault → Type 0
+DumpFault left before after fault.Words = ⊥
+DumpFault left before after (fault.Script line cause) = ⊥
+DumpFault left before after (fault.DumpLine line cause) = IfSome left (λ bytes. (length bytes ≤ most_bytes) × (dump_of bytes ≡ Err (error.Line line cause)))
+DumpFault left before after (fault.DumpBatch key cause) = IfSome left (λ bytes. (length bytes ≤ most_bytes) × (dump_of bytes ≡ Err (error.Key key cause)))
+DumpFault left before after fault.Read = Rose before after
+DumpFault left before after fault.Write = ⊥
+DumpFault left before after fault.Limit = IfSome left (λ bytes. most_bytes < length bytes)
+DumpFault left before after fault.Memory = ⊤
+
+-- why showing a dump ends with a fault, between what was there and what is there
+abbrev pub ShowFault : ShownAs → Streams → Streams → Fault → Type 0
+ShowFault how old new fault.Words = ⊥
+ShowFault how old new (fault.Script line cause) = ⊥
+ShowFault how old new (fault.DumpLine line cause) =
+    DumpFault old.left old.source_faults new.source_faults (fault.DumpLine line cause) × (new.written ≡ old.written)
+ShowFault how old new (fault.DumpBatch key cause) =
+    DumpFault old.left old.source_faults new.source_faults (fault.DumpBatch key cause) × (new.written ≡ old.written)
+ShowFault how old new fault.Read = Rose old.source_faults new.source_faults × (new.written ≡ old.written)
+ShowFault how old new fault.Write = Rose old.out_faults new.out_faults × StopsShowing how old.left old.written new.written
+ShowFault how old new fault.Limit = IfSome old.left (λ bytes. most_bytes < length bytes) × (new.written ≡ old.written)
+ShowFault how old new fault.Memory = new.written ≡ old.written
+
+-- the line on a faulty dump was written, or a front of it and a fault came
+abbrev pub TellsDumpError : Option (List ℕ) → Option (List ℕ) → ℕ → ℕ → DumpError → Type 0
+TellsDumpError before after faults_before faults_after (error.Line line cause) = Tells before after faults_before faults_after (dump_line line cause)
+TellsDumpError before after faults_before faults_after (error.Key key cause) = Tells before after faults_before faults_after (dump_batch_line key cause)
+TellsDumpError before after faults_before faults_after error.Memory = ⊥

@@ -1,6 +1,0 @@
-use Rattle.ndc_tree.proofs.MapLemmas.{key_cmp-by}
-use Rattle.ndc_waiting.proofs.MapLemmas.{least-of}
-use Rattle.ndc_waiting.proofs.keys.Keys.take_least.Goals as goal
-
-pub returns-clause-least : goal.returns-clause-least
-returns-clause-least c = least-of _ key_cmp-by c.pop_first.result c.pop_first.new.self.keys c.pop_first.ensures.all_above

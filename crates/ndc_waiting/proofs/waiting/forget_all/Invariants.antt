@@ -1,6 +1,0 @@
-use Rattle.std.proofs.Common.{drop}
-use Rattle.ndc_waiting.proofs.ShortcutLemmas.{IsLeaving}
-use Rattle.ndc_waiting.proofs.waiting.forget_all.Given as goal
-
-abbrev pub invariant-loop-sent : goal.invariant-loop-sent
-invariant-loop-sent l = IsLeaving l.fn.shortcuts l.shortcuts (drop l.sent-index l.messages) l.messages

@@ -1,7 +1,0 @@
-use Rattle.std.proofs.Common.{◌≡◌, ◌++◌}
-use Rattle.ndc_waiting.specs.Waiting.{batches_of}
-use Rattle.ndc_workflow.proofs.arrival.batches_in.Given as goal
-
--- what is taken, and what is left
-abbrev pub invariant-loop-sent : goal.invariant-loop-sent
-invariant-loop-sent l = l.batches.items ++ batches_of l.sent-iterator.rest.items ≡ batches_of l.fn.messages.items

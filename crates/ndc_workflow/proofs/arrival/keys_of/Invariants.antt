@@ -1,6 +1,0 @@
-use Rattle.std.proofs.Common.{◌≡◌, map, take}
-use Rattle.ndc_workflow.proofs.arrival.keys_of.Given as goal
-
--- the keys of those gone over
-abbrev pub invariant-loop-batch : goal.invariant-loop-batch
-invariant-loop-batch l = l.keys.items ≡ map (λ b. b.key) (take l.batch-index l.batches)

@@ -1,5 +1,0 @@
-pub mod Workflow
-pub mod WorkflowFields
-pub mod Learnable
-pub mod Worked
-pub mod Allowed

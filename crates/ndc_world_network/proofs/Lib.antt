@@ -1,0 +1,14 @@
+pub mod AgainLemmas
+pub mod AllowedLemmas
+pub mod FindLemmas
+pub mod FlightLemmas
+pub mod LinkLemmas
+pub mod OpeningLemmas
+pub mod OrderlyLemmas
+pub mod PlaceLemmas
+pub mod ShapeLemmas
+pub mod ShardLemmas
+pub mod TakeLemmas
+pub mod TraceLemmas
+pub mod TrimLemmas
+pub mod WorkLemmas

@@ -1,0 +1,57 @@
+-- A world of which one cluster is another.
+use Rattle.std.proofs.Common.{◌≡◌, ◌<◌, true, false, List, ◌++◌, length, map, get_or, set, refl, ap, sym, ◌∙◌}
+use Rattle.std.proofs.Math.Seq.{map-set_same}
+use Rattle.std.proofs.lemmas.List.{map-set}
+use Rattle.ndc_model_cells.specs.Cells.{Cell}
+use Rattle.ndc_model_cells.specs.Writing.{same_cluster}
+use Rattle.ndc_domain.specs.declared.clusters.ClusterNo.{ClusterNo}
+use Rattle.ndc_domain.specs.declared.record.DomainRecord.{DomainRecord}
+use Rattle.ndc_graceful.specs.declared.handover.Handover.{Handover}
+use Rattle.ndc_letters.specs.declared.letter.Letter.{Letter}
+use Rattle.ndc_progress.specs.declared.report.Report.{Report}
+use Rattle.ndc_model.specs.Letters.{with_letters}
+use Rattle.ndc_model.specs.Progress.{with_reports}
+use Rattle.ndc_model.specs.World.{Cluster, Link, World, cluster_at, newly_naming, with_cells, with_cluster, with_late, with_table}
+use Rattle.ndc_world_network.proofs.LinkLemmas.{stands}
+use Rattle.ndc_world_network.specs.Networks.{StandsAt, world_of}
+use Rattle.ndc_cluster.specs.Sites.{SiteValue, with_site_cells}
+
+module _ (sites : List SiteValue) (links : List Link) (handovers : List Handover) (cluster : ClusterNo) (site : SiteValue)
+    (below : cluster.number < length sites) (at : site ≡ get_or sites cluster.number site) where
+  -- one cluster is changed, its queues are trimmed as before, and nothing else is changed
+  pub cluster_change : (change : Cluster → Cluster) → world_of (set sites cluster.number (record site { cluster = change site.cluster })) links handovers
+      ≡ with_cluster cluster (change (cluster_at cluster (world_of sites links handovers))) (world_of sites links handovers)
+  cluster_change change =
+      let own : StandsAt (world_of sites links handovers) cluster site = stands sites links handovers cluster site below at in
+      let new : SiteValue = record site { cluster = change site.cluster } in
+      let changed : map (λ (s : SiteValue). s.cluster) (set sites cluster.number new) ≡ set (map (λ (s : SiteValue). s.cluster) sites) cluster.number (change (cluster_at cluster (world_of sites links handovers))) =
+      map-set (λ (s : SiteValue). s.cluster) sites cluster.number new ∙ ap (λ (c : Cluster). set (map (λ (s : SiteValue). s.cluster) sites) cluster.number (change c)) (sym own.cluster_is) in
+      let kept : map (λ (s : SiteValue). s.trimmed) (set sites cluster.number new) ≡ map (λ (s : SiteValue). s.trimmed) sites =
+      map-set_same (λ (s : SiteValue). s.trimmed) sites cluster.number new site (ap (λ (s : SiteValue). s.trimmed) at) in
+      λ i. record { clusters = changed i; links = links; trimmed = kept i; handovers = handovers }
+
+  pub cells_change : (cells : List Cell) → world_of (set sites cluster.number (with_site_cells cells site)) links handovers ≡ with_cells cluster cells (world_of sites links handovers)
+  cells_change cells = cluster_change (λ (c : Cluster). record c { cells = cells })
+
+  pub letters_change : (letters : List Letter) → world_of (set sites cluster.number (record site { cluster = record site.cluster { letters = letters } })) links handovers ≡ with_letters cluster letters (world_of sites links handovers)
+  letters_change letters = cluster_change (λ (c : Cluster). record c { letters = letters })
+
+  pub reports_change : (reports : List Report) → world_of (set sites cluster.number (record site { cluster = record site.cluster { reports = reports } })) links handovers ≡ with_reports cluster reports (world_of sites links handovers)
+  reports_change reports = cluster_change (λ (c : Cluster). record c { reports = reports })
+
+  -- its table is another, and the links become those of readers that noted what comes to name them
+  pub table_change : (table : List DomainRecord) → world_of (set sites cluster.number (record site { cluster = record site.cluster { table = table } })) (map (with_late cluster site.cluster.table table) links) handovers
+      ≡ with_table cluster table (world_of sites links handovers)
+  unfolding with_table
+  table_change table =
+      let own : StandsAt (world_of sites links handovers) cluster site = stands sites links handovers cluster site below at in
+      ap (λ (w : World). record w { links = map (with_late cluster site.cluster.table table) links }) (cluster_change (λ (c : Cluster). record c { table = table }))
+      ∙ ap (λ (c : Cluster). record (with_cluster cluster (record (cluster_at cluster (world_of sites links handovers)) { table = table }) (world_of sites links handovers)) { links = map (with_late cluster c.table table) links }) (sym own.cluster_is)
+
+-- the readers of a source note what comes to name them
+pub late_own : (source : ClusterNo) (before after : List DomainRecord) (link : Link) → same_cluster link.source source ≡ true → record link { late = link.late ++ newly_naming link.reader before after } ≡ with_late source before after link
+late_own source before after link own = rw own refl
+
+-- those of other sources do not
+pub late_other : (source : ClusterNo) (before after : List DomainRecord) (link : Link) → same_cluster link.source source ≡ false → link ≡ with_late source before after link
+late_other source before after link other = rw other refl

@@ -1,0 +1,24 @@
+use Rattle.std.proofs.Common.{refl, sym, subst, ap, ◌≡◌, ◌∙◌, arith}
+use Rattle.std.specs.List.{fold}
+use Rattle.ndc_domain.specs.Merge.{merged}
+use Rattle.ndc_model.specs.World.{cluster_at, with_table}
+use Rattle.ndc_world_network.proofs.OrderlyLemmas.{orderly_table}
+use Rattle.ndc_world_network.proofs.TraceLemmas.{other_in, step_all, step_more, nth_cluster}
+use Rattle.ndc_world_network.specs.Orderly.{IsOrderly}
+use Rattle.ndc_world_network.proofs.network.Network.merge_others.Goals as goal
+
+pub merge_table-requires-clause-from : goal.merge_table-requires-clause-from
+merge_table-requires-clause-from g c = other_in c.args.header.now c.args.cluster c.args.others.now c.loop-other.other-index c.requires.others c.loop-other-test.true
+
+pub loop-other-preserved : goal.loop-other-preserved
+loop-other-preserved g c = record {
+  orderly = subst (IsOrderly c.args.header.now) (sym c.in_ok-merge_table.ensures)
+      (orderly_table c.args.header.now c.loop-other.self c.loop-other.invariant.orderly c.args.cluster (merged (cluster_at c.args.cluster c.loop-other.self).table (cluster_at (nth_cluster c.args.others.now c.loop-other.other-index) c.loop-other.self).table) c.requires.cluster);
+  tables = step_more (λ v other. with_table c.args.cluster (merged (cluster_at c.args.cluster v).table (cluster_at other v).table) v) c.loop-other.self c.merge_table.new.self c.args.others.now c.loop-other.other-index c.loop-other-test.true c.in_ok-merge_table.ensures
+      ∙ c.loop-other.invariant.tables;
+}
+
+pub returns-clause-merged : goal.returns-clause-merged
+returns-clause-merged g c =
+    step_all (λ v other. with_table c.args.cluster (merged (cluster_at c.args.cluster v).table (cluster_at other v).table) v) c.loop-other.self (fold (λ v other. with_table c.args.cluster (merged (cluster_at c.args.cluster v).table (cluster_at other v).table) v) c.args.self.now c.args.others.now) c.args.others.now c.loop-other.other-index c.loop-other.invariant.tables (omega (arith, c.loop-other-test.false))
+    ∙ ap (fold (λ v other. with_table c.args.cluster (merged (cluster_at c.args.cluster v).table (cluster_at other v).table) v) c.args.self.now) c.requires.others

@@ -1,0 +1,6 @@
+pub mod Dones
+pub mod Flights
+pub mod Found
+pub mod Networks
+pub mod Orderly
+pub mod Trims

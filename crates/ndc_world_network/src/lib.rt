@@ -1,0 +1,23 @@
+//! All clusters with their queues, the links between them, and the open handovers.
+#![tactic(auto)]
+
+mod bootstrapping;
+mod due;
+mod flights;
+mod handovers;
+mod key_set;
+mod network;
+mod opening;
+mod pulling;
+mod records;
+mod renewing;
+mod resending;
+mod settling;
+pub mod sites;
+mod taking;
+mod trimming;
+mod working;
+
+pub use key_set::KeySet;
+pub use network::Network;
+pub use working::{Done, Worked};

@@ -1,0 +1,29 @@
+ghost use Rattle.std.specs.Prelude.{◌≡◌, length, map};
+ghost use Rattle.ndc_script_types.specs.WellFormed.{IsCluster};
+ghost use Rattle.ndc_model.specs.Moves.{renewed, renewed_link};
+ghost use Rattle.ndc_model.specs.World.{World};
+ghost use Rattle.ndc_world_network.specs.Orderly.{IsOrderly};
+
+use crate::network::Network;
+use ndc_cluster::Site;
+use ndc_cluster_links::{Link, Writes};
+use ndc_domain::ClusterNo;
+use ndc_script_types::Header;
+
+impl<C: Writes + Drop> Network<C> {
+    /// Renews the levels of a reader, of each source and shard. Takes no memory.
+    pub fn renew(&mut self, header: &Header, reader: ClusterNo)
+        requires reader { IsCluster header.now reader }
+        requires orderly { IsOrderly header.now self.old }
+        ensures { self.new ≡ renewed self.old reader }
+    {
+        for place in 0..self.links.len() {
+            let link = &mut self.links[place];
+            if link.reader().number == reader.number {
+                let source = &self.sites[link.source().number as usize];
+                let own = &self.sites[reader.number as usize];
+                link.renew(source.table(), own.cells(), source.queues());
+            }
+        }
+    }
+}

@@ -1,0 +1,66 @@
+ghost use Rattle.std.specs.Prelude.{◌≡◌, ◌<◌, ◌++◌, length, map, IfOk, OnOk};
+ghost use Rattle.std.specs.List.{AllByRecursion, range_with_len};
+ghost use Rattle.ndc_model.specs.Moves.{all_arrive, arrives, by_link, in_flight};
+ghost use Rattle.ndc_world_network.specs.Flights.{emptied, emptied_at};
+
+use ndc_cluster_links::Link;
+use ndc_domain::ClusterNo;
+use ndc_model_cells::{Job, ShardJob};
+use ndc_queue::Message;
+use std::alloc::{AllocError, Global};
+
+/// A job for each of these messages to arrive, in order.
+pub(crate) fn add_jobs(
+    jobs: &mut Vec<ShardJob>,
+    shard: u32,
+    messages: Vec<Message>,
+) -> Result<(), AllocError>
+    ensures { OnOk result (jobs.new.items ≡ jobs.old.items ++ map (arrives shard) messages.items) }
+{
+    for message in messages {
+        jobs.push(ShardJob {
+            shard,
+            job: Job::Arrive { message },
+        })?;
+    }
+    Ok(())
+}
+
+/// Takes what is in flight to a reader for a shard, link by link, as jobs.
+fn take_shard(
+    jobs: &mut Vec<ShardJob>,
+    links: &mut Vec<Link>,
+    reader: ClusterNo,
+    shard: u32,
+) -> Result<(), AllocError>
+    requires { AllByRecursion (λ link. shard < length link.lanes) links.old.items }
+    ensures links { OnOk result (links.new.items ≡ map (emptied_at reader shard) links.old.items) }
+    ensures jobs { OnOk result (jobs.new.items ≡ jobs.old.items ++ map (arrives shard) (by_link reader in_flight links.old.items shard)) }
+{
+    for place in 0..links.len() {
+        let link = &mut links[place];
+        if link.reader().number == reader.number {
+            let messages = link.take_flight(shard as usize);
+            add_jobs(jobs, shard, messages)?;
+        }
+    }
+    Ok(())
+}
+
+/// Takes all that is in flight to a reader, by shard and then link by link, as jobs.
+pub(crate) fn take_all(
+    alloc: Global,
+    links: &mut Vec<Link>,
+    reader: ClusterNo,
+    shards: u32,
+) -> Result<Vec<ShardJob>, AllocError>
+    requires { AllByRecursion (λ link. length link.lanes ≡ shards) links.old.items }
+    ensures links { OnOk result (links.new.items ≡ map (emptied reader) links.old.items) }
+    ensures jobs { IfOk result (λ jobs. jobs.items ≡ all_arrive (by_link reader in_flight links.old.items) (range_with_len 0 shards)) }
+{
+    let mut jobs = Vec::new(alloc);
+    for shard in 0..shards {
+        take_shard(&mut jobs, links, reader, shard)?;
+    }
+    Ok(jobs)
+}

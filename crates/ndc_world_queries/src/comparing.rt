@@ -1,0 +1,60 @@
+ghost use Rattle.std.specs.Prelude.{◌≡◌, ◌↔◌, map, option_copied, IfOk, IsTrue};
+ghost use Rattle.std.specs.List.{AllByRecursion};
+ghost use Rattle.ndc_model.specs.Reading.{compare_answer};
+ghost use Rattle.ndc_world_network.specs.Found.{learned_by};
+ghost use Rattle.ndc_text.specs.Ranges.{InRange};
+
+use ndc_event::{Batch, Name};
+use ndc_shard_runs::Runs;
+use std::alloc::{AllocError, Global};
+
+/// Whether two lists of batches are one.
+fn are_equal(one: &[&Batch], two: &[&Batch]) -> bool
+    ensures { IsTrue result ↔ (map (λ b. b.now) one.now ≡ map (λ b. b.now) two.now) }
+{
+    if one.len() != two.len() {
+        return false;
+    }
+    for place in 0..one.len() {
+        if !one[place].is_same(two[place]) {
+            return false;
+        }
+    }
+    true
+}
+
+/// The batches, none where nothing is learned.
+fn batches_of<'a>(alloc: Global, runs: Option<&'a Runs>) -> Result<Vec<&'a Batch>, AllocError>
+    ensures { IfOk result (λ list. map (λ b. b.now) list.items ≡ learned_by (option_copied runs.entry)) }
+{
+    match runs {
+        Some(runs) => runs.batches(alloc),
+        None => Ok(Vec::new(alloc)),
+    }
+}
+
+/// Whether two clusters have learned the same of a workflow. In time of the batches; no dump is made.
+pub fn are_same(alloc: Global, one: Option<&Runs>, two: Option<&Runs>) -> Result<bool, AllocError>
+    ensures { IfOk result (λ same. IsTrue same ↔ (learned_by (option_copied one.entry) ≡ learned_by (option_copied two.entry))) }
+{
+    let first = batches_of(alloc, one)?;
+    let second = batches_of(alloc, two)?;
+    Ok(are_equal(first.as_slice(), second.as_slice()))
+}
+
+/// What `compare` answers: whether two clusters show the same of a workflow. The numbers of the batches are in the
+/// ranges of batch texts.
+pub fn compare(
+    alloc: Global,
+    domain: &Name,
+    workflow: &Name,
+    one: Option<&Runs>,
+    two: Option<&Runs>,
+) -> Result<Vec<u8>, AllocError>
+    requires one { AllByRecursion InRange (learned_by (option_copied one)) }
+    requires two { AllByRecursion InRange (learned_by (option_copied two)) }
+    ensures { IfOk result (λ text. text.items ≡ compare_answer domain.now workflow.now (learned_by (option_copied one.entry)) (learned_by (option_copied two.entry))) }
+{
+    let is_same = are_same(alloc, one, two)?;
+    ndc_world_answers::compared(alloc, is_same)
+}

@@ -1,0 +1,143 @@
+ghost use Rattle.std.specs.Prelude.{◌≡◌, ◌<◌, IfOk};
+ghost use Rattle.std.specs.List.{AllByRecursion};
+ghost use Rattle.ndc_script_types.specs.WellFormed.{IsCluster};
+ghost use Rattle.ndc_model.specs.Fair.{IsShaped};
+ghost use Rattle.ndc_model.specs.Reading.{branches_answer, compare_answer, current_answer, dump_answer, history_answer, learned_at, read_answer, state_answer};
+ghost use Rattle.ndc_text.specs.Ranges.{InRange};
+
+use ndc_cluster_reads::Reads;
+use ndc_domain::ClusterNo;
+use ndc_event::Name;
+use ndc_script_types::Header;
+use ndc_state::Steps;
+use ndc_world_network::Network;
+use ndc_world_network::sites::runs_of;
+use std::alloc::{AllocError, Global};
+
+/// Steps of restoring states are counted under this name.
+struct Restoring;
+
+/// `history`.
+pub fn history<C: Reads + Drop>(
+    network: &Network<C>,
+    alloc: Global,
+    header: &Header,
+    cluster: ClusterNo,
+    domain: &Name,
+    workflow: &Name,
+) -> Result<Vec<u8>, AllocError>
+    requires shards { 0 < header.now.shards }
+    requires cluster { IsCluster header.now cluster }
+    requires shaped { IsShaped header.now network.now }
+    ensures { IfOk result (λ text. text.items ≡ read_answer history_answer (learned_at header.now cluster domain.now workflow.now network.now)) }
+{
+    match runs_of(network, header, cluster, domain, workflow) {
+        Some(runs) => crate::queries::history(alloc, runs),
+        None => ndc_world_answers::no_workflow(alloc),
+    }
+}
+
+/// `branches`.
+pub fn branches<C: Reads + Drop>(
+    network: &Network<C>,
+    alloc: Global,
+    header: &Header,
+    cluster: ClusterNo,
+    domain: &Name,
+    workflow: &Name,
+) -> Result<Vec<u8>, AllocError>
+    requires shards { 0 < header.now.shards }
+    requires cluster { IsCluster header.now cluster }
+    requires shaped { IsShaped header.now network.now }
+    ensures { IfOk result (λ text. text.items ≡ read_answer branches_answer (learned_at header.now cluster domain.now workflow.now network.now)) }
+{
+    let mut steps: Steps<Restoring> = Steps::new();
+    match runs_of(network, header, cluster, domain, workflow) {
+        Some(runs) => crate::queries::branches(alloc, runs, &mut steps),
+        None => ndc_world_answers::no_workflow(alloc),
+    }
+}
+
+/// `current`.
+pub fn current<C: Reads + Drop>(
+    network: &Network<C>,
+    alloc: Global,
+    header: &Header,
+    cluster: ClusterNo,
+    domain: &Name,
+    workflow: &Name,
+) -> Result<Vec<u8>, AllocError>
+    requires shards { 0 < header.now.shards }
+    requires cluster { IsCluster header.now cluster }
+    requires shaped { IsShaped header.now network.now }
+    ensures { IfOk result (λ text. text.items ≡ read_answer current_answer (learned_at header.now cluster domain.now workflow.now network.now)) }
+{
+    match runs_of(network, header, cluster, domain, workflow) {
+        Some(runs) => crate::queries::current(alloc, runs),
+        None => ndc_world_answers::no_workflow(alloc),
+    }
+}
+
+/// `state`.
+pub fn state<C: Reads + Drop>(
+    network: &Network<C>,
+    alloc: Global,
+    header: &Header,
+    cluster: ClusterNo,
+    domain: &Name,
+    workflow: &Name,
+) -> Result<Vec<u8>, AllocError>
+    requires shards { 0 < header.now.shards }
+    requires cluster { IsCluster header.now cluster }
+    requires shaped { IsShaped header.now network.now }
+    ensures { IfOk result (λ text. text.items ≡ read_answer state_answer (learned_at header.now cluster domain.now workflow.now network.now)) }
+{
+    match runs_of(network, header, cluster, domain, workflow) {
+        Some(runs) => crate::queries::state(alloc, runs),
+        None => ndc_world_answers::no_workflow(alloc),
+    }
+}
+
+/// `dump`.
+pub fn dump<C: Reads + Drop>(
+    network: &Network<C>,
+    alloc: Global,
+    header: &Header,
+    cluster: ClusterNo,
+    domain: &Name,
+    workflow: &Name,
+) -> Result<Vec<u8>, AllocError>
+    requires shards { 0 < header.now.shards }
+    requires cluster { IsCluster header.now cluster }
+    requires shaped { IsShaped header.now network.now }
+    ensures { IfOk result (λ text. text.items ≡ read_answer (dump_answer domain.now workflow.now) (learned_at header.now cluster domain.now workflow.now network.now)) }
+{
+    let mut steps: Steps<Restoring> = Steps::new();
+    match runs_of(network, header, cluster, domain, workflow) {
+        Some(runs) => crate::queries::dump(alloc, domain, workflow, runs, &mut steps),
+        None => ndc_world_answers::no_workflow(alloc),
+    }
+}
+
+/// `compare`. The numbers of what both have learned are in the ranges of batch texts.
+pub fn compare<C: Reads + Drop>(
+    network: &Network<C>,
+    alloc: Global,
+    header: &Header,
+    one: ClusterNo,
+    two: ClusterNo,
+    domain: &Name,
+    workflow: &Name,
+) -> Result<Vec<u8>, AllocError>
+    requires shards { 0 < header.now.shards }
+    requires one { IsCluster header.now one }
+    requires two { IsCluster header.now two }
+    requires shaped { IsShaped header.now network.now }
+    requires range_one { AllByRecursion InRange (learned_at header.now one domain.now workflow.now network.now) }
+    requires range_two { AllByRecursion InRange (learned_at header.now two domain.now workflow.now network.now) }
+    ensures { IfOk result (λ text. text.items ≡ compare_answer domain.now workflow.now (learned_at header.now one domain.now workflow.now network.now) (learned_at header.now two domain.now workflow.now network.now)) }
+{
+    let first = runs_of(network, header, one, domain, workflow);
+    let second = runs_of(network, header, two, domain, workflow);
+    crate::comparing::compare(alloc, domain, workflow, first, second)
+}

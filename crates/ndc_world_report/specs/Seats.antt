@@ -1,0 +1,58 @@
+-- What indexers that were asked for show behind a script.
+use Rattle.std.specs.Prelude.{◌≡◌, ℕ, List, [], ◌∷◌, ◌++◌, Option, Some, None}
+use Rattle.std.specs.List.{AllByRecursion}
+use Rattle.ndc_script_types.specs.declared.script.Script.{Script}
+use Rattle.ndc_event.specs.declared.name.Name.{Name}
+use Rattle.ndc_index.specs.Lines.{Asked}
+use Rattle.ndc_index.specs.Seats.{IndexerValue, SeatValue, after_all, indexer_of, seat_line}
+use Rattle.ndc_index.specs.declared.seen.Seen.{Seen}
+use Rattle.ndc_model.specs.Lines.{answers_of, ran_of, seen_in}
+use Rattle.ndc_model.specs.Report.{report_of}
+use Rattle.ndc_port.specs.Bytes.{Appends, AppendsFront}
+
+-- the numbers of an indexer's calls that fail
+abbrev pub failing_of : Option IndexerValue → List ℕ
+failing_of None = []
+failing_of (Some one) = one.failing
+
+-- the first indexer of a name among these, with a text of its own, as a report asks it
+abbrev pub asked_for : List IndexerValue → Name → List ℕ → Asked
+asked_for all name own = record { name = name; failing = failing_of (indexer_of name all); own = own }
+
+-- the indexers of names, each with a text of its own, where there is one for it
+abbrev pub all_asked : List IndexerValue → List Name → List (List ℕ) → List Asked
+all_asked all [] owns = []
+all_asked all (name ∷ names) [] = asked_for all name [] ∷ all_asked all names []
+all_asked all (name ∷ names) (own ∷ owns) = asked_for all name own ∷ all_asked all names owns
+
+-- each of these indexers was told nothing yet
+abbrev pub AreNew : List IndexerValue → Type 0
+AreNew all = AllByRecursion (λ one. one.list ≡ []) all
+
+-- the lines of seats that were told all of this, each with a text of its own, where there is one for it
+abbrev pub seat_lines : List Seen → List SeatValue → List (List ℕ) → List ℕ
+seat_lines seen [] owns = []
+seat_lines seen (seat ∷ seats) [] = seat_line (after_all seen seat) [] ++ seat_lines seen seats []
+seat_lines seen (seat ∷ seats) (own ∷ owns) = seat_line (after_all seen seat) own ++ seat_lines seen seats owns
+
+-- the answers of a script, and the lines of the seats that are told as it runs and of those that are told late
+abbrev pub told_text : Script → List SeatValue → List SeatValue → List (List ℕ) → List (List ℕ) → List ℕ
+told_text script asked late owns late_owns = answers_of (ran_of script) ++ (seat_lines (seen_in (ran_of script)) asked owns ++ seat_lines (seen_in (ran_of script)) late late_owns)
+
+-- all of that was written, for some texts of the indexers' own
+abbrev pub WritesAll : Script → List SeatValue → List SeatValue → Option (List ℕ) → Option (List ℕ) → Type 0
+WritesAll script asked late before after = (owns : List (List ℕ)) × (late_owns : List (List ℕ)) × Appends before after (told_text script asked late owns late_owns)
+
+-- a front of it was written
+abbrev pub WritesFront : Script → List SeatValue → List SeatValue → Option (List ℕ) → Option (List ℕ) → Type 0
+WritesFront script asked late before after = (owns : List (List ℕ)) × (late_owns : List (List ℕ)) × AppendsFront before after (told_text script asked late owns late_owns)
+
+-- the report of a script was written, for some texts of the indexers' own
+abbrev pub Reports : Script → List IndexerValue → List Name → List Name → Option (List ℕ) → Option (List ℕ) → Type 0
+Reports script all names late before after =
+    (owns : List (List ℕ)) × (late_owns : List (List ℕ)) × Appends before after (report_of script (all_asked all names owns) (all_asked all late late_owns))
+
+-- a front of the report of a script was written, for some texts of the indexers' own
+abbrev pub ReportsFront : Script → List IndexerValue → List Name → List Name → Option (List ℕ) → Option (List ℕ) → Type 0
+ReportsFront script all names late before after =
+    (owns : List (List ℕ)) × (late_owns : List (List ℕ)) × AppendsFront before after (report_of script (all_asked all names owns) (all_asked all late late_owns))

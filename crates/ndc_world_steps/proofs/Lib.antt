@@ -1,0 +1,6 @@
+pub mod ActivityLemmas
+pub mod AskLemmas
+pub mod DamageLemmas
+pub mod HandoverLemmas
+pub mod MergeLemmas
+pub mod TellLemmas

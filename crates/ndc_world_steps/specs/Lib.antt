@@ -1,0 +1,4 @@
+pub mod Links
+pub mod Telling
+pub mod Told
+pub mod Versions

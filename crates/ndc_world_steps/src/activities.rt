@@ -1,0 +1,180 @@
+ghost use Rattle.std.specs.Prelude.{◌≡◌, map, not, Some, IfOk};
+ghost use Rattle.ndc_model_cells.specs.Writing.{as_command_error, may_write_by};
+ghost use Rattle.ndc_command.specs.Stage.{needs_started, refuse, stage_of};
+ghost use Rattle.ndc_command.specs.declared.refusal.CommandError.TheVariants.{Memory};
+ghost use Rattle.ndc_command.specs.declared.refusal.Refusal.TheVariants as refusal;
+ghost use Rattle.ndc_domain.specs.Records.{record_of};
+ghost use Rattle.ndc_event.specs.Outcome.{Gives};
+ghost use Rattle.ndc_model.specs.Progress.{pending_activity, started_activity, version_of_event};
+ghost use Rattle.ndc_model_sets.specs.Branches.{workflow_tip};
+ghost use Rattle.ndc_model_sets.specs.Current.{state_to};
+ghost use Rattle.ndc_model_sets.specs.Paths.{events_to};
+ghost use Rattle.ndc_state.specs.Replay.{history_of};
+ghost use Rattle.ndc_world_steps.specs.Versions.{told_from, version_found};
+
+use ndc_command::{CommandError, Refusal};
+use ndc_domain::{ClusterNo, DomainTable};
+use ndc_event::{Batch, BatchKey, Event, Name};
+use ndc_progress::ActivityRef;
+use ndc_script_types::Header;
+use ndc_shard_entries::may_write;
+use ndc_shard_runs::Runs;
+use ndc_state::{Pending, State};
+use std::alloc::{AllocError, Global};
+
+/// The version of the event with this id, where it is one of these.
+fn version_in(events: &[Event], id: u64) -> Option<u64>
+    ensures { result ≡ version_found id events.now }
+{
+    for event in events {
+        if event.id == id {
+            return Some(event.version);
+        }
+    }
+    None
+}
+
+/// The version of the event with this id on a path, 0 where there is none.
+fn version_on(path: &[&Batch], id: u64) -> u64
+    ensures { result ≡ version_of_event id (history_of (map (λ b. b.now) path.now)) }
+{
+    for place in 0..path.len() {
+        if let Some(version) = version_in(path[place].events.as_slice(), id) {
+            return version;
+        }
+    }
+    0
+}
+
+/// The version of the event with this id on the path to a batch, 0 where there is none.
+fn version_to(alloc: Global, runs: &Runs, key: BatchKey, id: u64) -> Result<u64, AllocError>
+    ensures { IfOk result (λ version. version ≡ version_of_event id (events_to key runs.now)) }
+{
+    match runs.path(alloc, key)? {
+        Some(path) => Ok(version_on(path.as_slice(), id)),
+        None => Ok(0),
+    }
+}
+
+/// The pending activity of this id on the branch of a tip.
+pub(crate) fn pending_activity(
+    alloc: Global,
+    domain: &Name,
+    workflow: &Name,
+    id: &Name,
+    runs: &Runs,
+    tip: &Batch,
+    state: &State,
+) -> Result<ActivityRef, CommandError>
+    requires { state.now ≡ state_to tip.now.run tip.now.key runs.now }
+    ensures { Gives Memory (λ activity. activity) result (pending_activity domain.now workflow.now id.now runs.now tip.now) }
+{
+    let Some(pending) = state.activity(id) else {
+        return Err(CommandError::Refused(Refusal::NoSuchActivity));
+    };
+    let version = version_to(alloc, runs, tip.key, pending.scheduled)?;
+    Ok(ActivityRef {
+        domain: domain.try_copy()?,
+        workflow: workflow.try_copy()?,
+        run: state.run(),
+        scheduled: pending.scheduled,
+        version,
+    })
+}
+
+/// Refused where the run is closed.
+#[tactic(auto, unfolding(ndc_command::specs::Stage::refuse))]
+fn needs_open(state: &State) -> Result<(), CommandError>
+    ensures { result ≡ refuse (not state.now.running) refusal.Closed }
+{
+    if !state.is_running() {
+        return Err(CommandError::Refused(Refusal::Closed));
+    }
+    Ok(())
+}
+
+/// Refused where nothing is pending, or it has not started.
+#[tactic(auto, unfolding(ndc_command::specs::Stage::needs_started))]
+fn needs_started(pending: Option<Pending>) -> Result<(), CommandError>
+    ensures { result ≡ needs_started (stage_of pending) refusal.NoSuchActivity refusal.ActivityNotStarted }
+{
+    let Some(pending) = pending else {
+        return Err(CommandError::Refused(Refusal::NoSuchActivity));
+    };
+    match pending.started {
+        Some(_) => Ok(()),
+        None => Err(CommandError::Refused(Refusal::ActivityNotStarted)),
+    }
+}
+
+/// The same activity, where the run is open and it is started.
+fn started_below(
+    alloc: Global,
+    domain: &Name,
+    workflow: &Name,
+    id: &Name,
+    runs: &Runs,
+    tip: &Batch,
+    state: &State,
+) -> Result<ActivityRef, CommandError>
+    requires { state.now ≡ state_to tip.now.run tip.now.key runs.now }
+    ensures { Gives Memory (λ activity. activity) result (started_activity domain.now workflow.now id.now runs.now (Some tip.now)) }
+{
+    needs_open(state)?;
+    needs_started(state.activity(id))?;
+    let activity = pending_activity(alloc, domain, workflow, id, runs, tip, state)?;
+    Ok(activity)
+}
+
+/// The activity of this id that is started on the current branch of the current run.
+fn started_activity(
+    alloc: Global,
+    domain: &Name,
+    workflow: &Name,
+    id: &Name,
+    runs: &Runs,
+) -> Result<ActivityRef, CommandError>
+    ensures { Gives Memory (λ activity. activity) result (started_activity domain.now workflow.now id.now runs.now (workflow_tip runs.now)) }
+{
+    let Some(tip) = runs.tip() else {
+        return Err(CommandError::Refused(Refusal::NoWorkflow));
+    };
+    let Some(state) = runs.state() else {
+        return Err(CommandError::Refused(Refusal::NoWorkflow));
+    };
+    started_below(alloc, domain, workflow, id, runs, tip, state)
+}
+
+/// The version with which a cluster may write to a workflow of which this is learned.
+fn version_for(
+    header: &Header,
+    cluster: ClusterNo,
+    table: &DomainTable,
+    domain: &Name,
+    runs: &Runs,
+) -> Result<u64, CommandError>
+    ensures { result ≡ as_command_error (may_write_by (record { clusters = header.now.clusters; me = cluster; limit = header.now.limit; table = table.now }) (record_of table.now domain.now) runs.now) }
+{
+    match may_write(&header.clusters, cluster, table.find(domain), runs) {
+        Ok(version) => Ok(version),
+        Err(why) => Err(CommandError::Refused(why)),
+    }
+}
+
+/// The version with which a cluster may tell of an activity, and the activity, where this is learned of its workflow.
+pub(crate) fn told_of(
+    alloc: Global,
+    header: &Header,
+    cluster: ClusterNo,
+    table: &DomainTable,
+    domain: &Name,
+    workflow: &Name,
+    id: &Name,
+    runs: &Runs,
+) -> Result<(u64, ActivityRef), CommandError>
+    ensures { Gives Memory (λ told. told) result (told_from (record { clusters = header.now.clusters; me = cluster; limit = header.now.limit; table = table.now }) domain.now workflow.now id.now runs.now) }
+{
+    let version = version_for(header, cluster, table, domain, runs)?;
+    let activity = started_activity(alloc, domain, workflow, id, runs)?;
+    Ok((version, activity))
+}

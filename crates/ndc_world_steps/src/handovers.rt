@@ -1,0 +1,308 @@
+ghost use Rattle.std.specs.Prelude.{◌≡◌, ◌<◌, ◌≤◌, length, is_some, find, option_copied, position, IfOk, OnOk, Ok};
+ghost use Rattle.std.specs.List.{AllByRecursion, list_any};
+ghost use Rattle.std.specs.Str.{bytes_eq};
+ghost use Rattle.ndc_script_types.specs.WellFormed.{IsCluster};
+ghost use Rattle.ndc_graceful.specs.Begin.{begin_of};
+ghost use Rattle.ndc_graceful.specs.Ready.{ready_of};
+ghost use Rattle.ndc_domain.specs.Records.{record_of};
+ghost use Rattle.ndc_model.specs.Fair.{IsShaped};
+ghost use Rattle.ndc_model.specs.Handovers.{complete_by, complete_step, handed_over, handover_begun, handover_step, is_handover_of, open_handover, queue_ends, ready_in, version_or_zero};
+ghost use Rattle.ndc_model.specs.World.{cluster_at, link_at};
+ghost use Rattle.ndc_world_steps.specs.Links.{IsBetween, is_handover_to, is_late_by, levels_by};
+ghost use Rattle.ndc_world_steps.specs.Told.{leaving};
+
+use crate::step::{Step, answered};
+use ndc_cluster_links::{Link, Writes};
+use ndc_domain::{ClusterNo, DomainTable};
+use ndc_event::Name;
+use ndc_graceful::{BeginError, Handover, ReadyError};
+use ndc_queue::Levels;
+use ndc_script_types::Header;
+use ndc_world_network::Network;
+use ndc_world_network::sites::{link_of, queue_of, table_of};
+use std::alloc::{AllocError, Global};
+
+/// Whether one of these handovers is of a domain.
+fn has_handover(handovers: &[Handover], domain: &Name) -> bool
+    ensures { result ≡ list_any (is_handover_of domain.now) handovers.now }
+{
+    handovers.iter().any(|handover| handover.domain == *domain)
+}
+
+/// Whether a handover of a domain is open.
+#[tactic(auto, using(ndc_world_network::proofs::FindLemmas::any_found))]
+fn is_open<C: Writes + Drop>(network: &Network<C>, domain: &Name) -> bool
+    ensures { result ≡ is_some (open_handover domain.now network.now) }
+{
+    has_handover(network.handovers(), domain)
+}
+
+/// Where the queues of a cluster end, by shard.
+fn queue_ends<C: Writes + Drop>(
+    network: &Network<C>,
+    alloc: Global,
+    header: &Header,
+    cluster: ClusterNo,
+) -> Result<Vec<u64>, AllocError>
+    requires cluster { IsCluster header.now cluster }
+    requires shaped { IsShaped header.now network.now }
+    ensures { IfOk result (λ ends. ends.items ≡ queue_ends header.now cluster network.now) }
+{
+    let mut ends = Vec::new(alloc);
+    for shard in 0..header.shards {
+        ends.push(queue_of(network, cluster, shard).len())?;
+    }
+    Ok(ends)
+}
+
+/// A handover begins, where none of the domain is open.
+fn begin<C: Writes + Drop>(
+    network: &mut Network<C>,
+    alloc: Global,
+    header: &Header,
+    at: ClusterNo,
+    domain: &Name,
+    target: ClusterNo,
+) -> Result<Step, AllocError>
+    requires at { IsCluster header.now at }
+    requires shaped { IsShaped header.now network.old }
+    ensures { IfOk result (λ step. leaving network.new step
+        ≡ handover_begun at network.old (begin_of header.now.clusters at domain.now target (queue_ends header.now at network.old) (cluster_at at network.old).table)) }
+{
+    let places = queue_ends(network, alloc, header, at)?;
+    let mut table = table_of(network, at).try_copy()?;
+    match Handover::begin(&mut table, &header.clusters, at, domain, target, places) {
+        Ok(begun) => open(network, alloc, at, table, begun),
+        Err(BeginError::Memory) => Err(AllocError),
+        Err(error) => Ok(answered(alloc, ndc_world_answers::begin_refused(alloc, error)?)),
+    }
+}
+
+/// A cluster gets another table, and a handover is opened.
+fn open<C: Writes + Drop>(
+    network: &mut Network<C>,
+    alloc: Global,
+    at: ClusterNo,
+    table: DomainTable,
+    begun: Handover,
+) -> Result<Step, AllocError>
+    requires { at.number < length network.old.clusters }
+    ensures { IfOk result (λ step. leaving network.new step ≡ handover_begun at network.old (Ok (begun, table))) }
+{
+    let new = begun.new;
+    network.replace_table(alloc, at, table)?;
+    network.open_handover(begun)?;
+    Ok(answered(alloc, ndc_world_answers::counted(alloc, new)?))
+}
+
+/// `handover`.
+pub fn handover<C: Writes + Drop>(
+    network: &mut Network<C>,
+    alloc: Global,
+    header: &Header,
+    at: ClusterNo,
+    domain: &Name,
+    target: ClusterNo,
+) -> Result<Step, AllocError>
+    requires at { IsCluster header.now at }
+    requires shaped { IsShaped header.now network.old }
+    ensures { IfOk result (λ step. leaving network.new step ≡ handover_step header.now at domain.now target network.old) }
+{
+    if is_open(network, domain) {
+        return Ok(answered(alloc, ndc_world_answers::still_open(alloc)?));
+    }
+    begin(network, alloc, header, at, domain, target)
+}
+
+/// Whether a handover is of a domain, and to a target.
+fn is_to(handover: &Handover, target: ClusterNo, domain: &Name) -> bool
+    ensures { result ≡ is_handover_to target domain.now handover.now }
+{
+    handover.domain == *domain && handover.to.number == target.number
+}
+
+/// Where it stands among handovers.
+fn handover_place(handovers: &[Handover], target: ClusterNo, domain: &Name) -> Option<usize>
+    ensures { result ≡ position (is_handover_to target domain.now) handovers.now }
+{
+    handovers.iter().position(|one| is_to(one, target, domain))
+}
+
+/// The open handover of a domain to a target, where there is one.
+fn find_handover<'a>(
+    handovers: &'a [Handover],
+    target: ClusterNo,
+    domain: &Name,
+) -> Option<&'a Handover>
+    ensures { option_copied result ≡ find (is_handover_to target domain.now) handovers.now }
+{
+    let Some(place) = handover_place(handovers, target, domain) else {
+        return None;
+    };
+    Some(&handovers[place])
+}
+
+/// A copy of it.
+fn handover_to(
+    handovers: &[Handover],
+    target: ClusterNo,
+    domain: &Name,
+) -> Result<Option<Handover>, AllocError>
+    ensures { IfOk result (λ found. found ≡ find (is_handover_to target domain.now) handovers.now) }
+{
+    match find_handover(handovers, target, domain) {
+        Some(handover) => Ok(Some(handover.try_copy()?)),
+        None => Ok(None),
+    }
+}
+
+/// The levels of a reader for the queues of a source, by shard.
+fn levels_of(alloc: Global, link: Option<&Link>) -> Result<Vec<Levels>, AllocError>
+    ensures { IfOk result (λ levels. levels.items ≡ levels_by (option_copied link.entry)) }
+{
+    let mut levels = Vec::new(alloc);
+    if let Some(link) = link {
+        for lane in link.lanes() {
+            levels.push(*lane.levels())?;
+        }
+    }
+    Ok(levels)
+}
+
+/// Whether the domain is one of these.
+fn has_domain(names: &[Name], domain: &Name) -> bool
+    ensures { result ≡ list_any (λ name. bytes_eq name domain.now) names.now }
+{
+    names.iter().any(|name| *name == *domain)
+}
+
+/// Whether a domain is one of those that the reader of a link still lacks.
+fn is_late(link: Option<&Link>, domain: &Name) -> bool
+    ensures { result ≡ is_late_by domain.now (option_copied link.entry) }
+{
+    match link {
+        Some(link) => has_domain(link.late(), domain),
+        None => false,
+    }
+}
+
+/// Whether a handover is ready by these levels, or what keeps it.
+fn ready_by(
+    handover: &Handover,
+    levels: &[Levels],
+    late: bool,
+    table: &DomainTable,
+) -> Result<(), ReadyError>
+    requires alike { length levels.now ≡ length handover.now.places }
+    requires few { length handover.now.places ≤ 64 }
+    ensures { result ≡ ready_of handover.now levels.now late table.now }
+{
+    handover.ready(levels, late, table)
+}
+
+/// Whether a handover is ready, or what keeps it.
+fn ready_in<C: Writes + Drop>(
+    network: &Network<C>,
+    alloc: Global,
+    handover: &Handover,
+) -> Result<Result<(), ReadyError>, AllocError>
+    requires to { handover.now.to.number < length network.now.clusters }
+    requires places { length (link_at handover.now.to handover.now.from network.now).lanes ≡ length handover.now.places }
+    requires few { length handover.now.places ≤ 64 }
+    ensures { IfOk result (λ ready. ready ≡ ready_in handover.now network.now) }
+{
+    let link = link_of(network, handover.to, handover.from);
+    let levels = levels_of(alloc, link)?;
+    let late = is_late(link, &handover.domain);
+    let table = table_of(network, handover.to);
+    Ok(ready_by(handover, levels.as_slice(), late, table))
+}
+
+/// The target merges the one record, and the handover ends.
+fn hand_over<C: Writes + Drop>(
+    network: &mut Network<C>,
+    alloc: Global,
+    handover: &Handover,
+) -> Result<(), AllocError>
+    requires to { handover.now.to.number < length network.old.clusters }
+    requires from { handover.now.from.number < length network.old.clusters }
+    ensures { OnOk result (network.new ≡ handed_over handover.now network.old) }
+{
+    let only = table_of(network, handover.from).only(&handover.domain)?;
+    let mut table = table_of(network, handover.to).try_copy()?;
+    table.merge(&only)?;
+    network.replace_table(alloc, handover.to, table)?;
+    network.close_handover(&handover.domain);
+    Ok(())
+}
+
+/// The version of the record of a domain, 0 where there is none.
+fn version_of(table: &DomainTable, domain: &Name) -> u64
+    ensures { result ≡ version_or_zero (record_of table.now domain.now) }
+{
+    match table.find(domain) {
+        Some(record) => record.version,
+        None => 0,
+    }
+}
+
+/// A handover is completed where it is ready.
+fn complete_by<C: Writes + Drop>(
+    network: &mut Network<C>,
+    alloc: Global,
+    handover: &Handover,
+    ready: Result<(), ReadyError>,
+) -> Result<Step, AllocError>
+    requires to { handover.now.to.number < length network.old.clusters }
+    requires from { handover.now.from.number < length network.old.clusters }
+    ensures { IfOk result (λ step. leaving network.new step ≡ complete_by handover.now network.old ready) }
+{
+    match ready {
+        Ok(()) => {
+            hand_over(network, alloc, handover)?;
+            let version = version_of(table_of(network, handover.to), &handover.domain);
+            Ok(answered(alloc, ndc_world_answers::counted(alloc, version)?))
+        }
+        Err(error) => {
+            if let ReadyError::Overtaken { .. } = error {
+                network.close_handover(&handover.domain);
+            }
+            Ok(answered(alloc, ndc_world_answers::ready_refused(alloc, error)?))
+        }
+    }
+}
+
+/// The target completes a handover to it, which is between clusters of the header and has a place for each shard.
+fn complete_one<C: Writes + Drop>(
+    network: &mut Network<C>,
+    alloc: Global,
+    header: &Header,
+    handover: &Handover,
+) -> Result<Step, AllocError>
+    requires shaped { IsShaped header.now network.old }
+    requires few { header.now.shards ≤ 64 }
+    requires fit { IsBetween header.now handover.now }
+    ensures { IfOk result (λ step. leaving network.new step ≡ complete_by handover.now network.old (ready_in handover.now network.old)) }
+{
+    let ready = ready_in(network, alloc, handover)?;
+    complete_by(network, alloc, handover, ready)
+}
+
+/// `complete`. Each open handover is between clusters of the header and has a place for each shard.
+pub fn complete<C: Writes + Drop>(
+    network: &mut Network<C>,
+    alloc: Global,
+    header: &Header,
+    at: ClusterNo,
+    domain: &Name,
+) -> Result<Step, AllocError>
+    requires shaped { IsShaped header.now network.old }
+    requires few { header.now.shards ≤ 64 }
+    requires fit { AllByRecursion (IsBetween header.now) network.old.handovers }
+    ensures { IfOk result (λ step. leaving network.new step ≡ complete_step at domain.now network.old) }
+{
+    let Some(handover) = handover_to(network.handovers(), at, domain)? else {
+        return Ok(answered(alloc, ndc_world_answers::no_handover(alloc)?));
+    };
+    complete_one(network, alloc, header, &handover)
+}

@@ -1,0 +1,174 @@
+ghost use Rattle.std.specs.Prelude.{◌≡◌, ◌<◌, [], ◌∷◌, ◌++◌, length, IfOk, OnOk};
+ghost use Rattle.std.specs.List.{flat_map};
+ghost use Rattle.ndc_script_types.specs.WellFormed.{AreTwoClusters, IsCluster};
+ghost use Rattle.ndc_laws_reached.specs.Sometime.{IsReachedSometime};
+ghost use Rattle.ndc_world_answers.specs.Tallies.{with_notes};
+ghost use Rattle.ndc_world_steps.specs.Telling.{tally_of};
+ghost use Rattle.ndc_model.specs.Sending.{bootstrap_step, resend_step, settle_step, work_step};
+ghost use Rattle.ndc_model.specs.Steps.{seen_of};
+ghost use Rattle.ndc_model.specs.World.{link_at};
+ghost use Rattle.ndc_model.specs.Conditions.{MayDoAll, MaySettle, MayWork, again_jobs, late_jobs};
+ghost use Rattle.ndc_world_network.specs.Dones.{notes_in};
+ghost use Rattle.ndc_world_network.specs.Orderly.{IsOrderly};
+ghost use Rattle.ndc_world_steps.specs.Told.{leaving};
+
+use crate::step::Step;
+use ndc_cluster_links::{Serves, Writes};
+use ndc_cluster_reads::Reads;
+use ndc_domain::ClusterNo;
+use ndc_index::Seen;
+use ndc_port::Gate;
+use ndc_script_types::Header;
+use ndc_world_answers::{Tally, add_seen};
+use ndc_world_network::sites::link_of;
+use ndc_world_network::{Done, Network, Worked};
+use std::alloc::{AllocError, Global};
+use std::thread::Threads;
+
+/// Counts what was done, and adds what it made learned.
+fn tell(tally: &mut Tally, seen: &mut Vec<Seen>, done: Done) -> Result<(), AllocError>
+    ensures tally { OnOk result (tally.new ≡ with_notes (notes_in done) tally.old) }
+    ensures seen { OnOk result (seen.new.items ≡ seen.old.items ++ seen_of (notes_in done)) }
+{
+    let Done {
+        cluster,
+        jobs,
+        replies,
+    } = done;
+    tally.add(jobs.as_slice(), replies.as_slice())?;
+    add_seen(seen, cluster, jobs.as_slice(), replies)?;
+    Ok(())
+}
+
+/// What jobs came to: how much, and what they made learned, in the order of being told.
+#[derive(Drop)]
+pub(crate) struct Telling {
+    pub(crate) tally: Tally,
+    pub(crate) seen: Vec<Seen>,
+}
+
+/// Counts all that was done, in order, and lists what it made learned.
+pub(crate) fn tell_all(alloc: Global, dones: Vec<Done>) -> Result<Telling, AllocError>
+    ensures tally { IfOk result (λ telling. telling.tally ≡ tally_of (flat_map notes_in dones.items)) }
+    ensures seen { IfOk result (λ telling. telling.seen.items ≡ seen_of (flat_map notes_in dones.items)) }
+{
+    let mut tally = Tally::new();
+    let mut seen = Vec::new(alloc);
+    for done in dones {
+        tell(&mut tally, &mut seen, done)?;
+    }
+    Ok(Telling { tally, seen })
+}
+
+/// What was done first, and what was done then.
+fn in_turn(alloc: Global, first: Done, second: Done) -> Result<Vec<Done>, AllocError>
+    ensures { IfOk result (λ dones. dones.items ≡ first ∷ second ∷ []) }
+{
+    let mut dones = Vec::new(alloc);
+    dones.push(first)?;
+    dones.push(second)?;
+    Ok(dones)
+}
+
+/// `work`.
+pub fn work<R: Threads + Sync, G: Gate, C: Writes + Drop + Send>(
+    network: &mut Network<C>,
+    rt: &R,
+    alloc: Global,
+    gate: &G,
+    workers: u32,
+    header: &Header,
+    cluster: ClusterNo,
+) -> Result<Step, AllocError>
+    requires workers { 0 < workers }
+    requires cluster { IsCluster header.now cluster }
+    requires orderly { IsOrderly header.now network.old }
+    requires allowed { MayWork C.allows header.now cluster network.old }
+    ensures { IfOk result (λ step. leaving network.new step ≡ work_step header.now cluster network.old) }
+{
+    let Worked { arrived, reapplied } = network.work(rt, alloc, gate, workers, header, cluster)?;
+    let dones = in_turn(alloc, arrived, reapplied)?;
+    let Telling { tally, seen } = tell_all(alloc, dones)?;
+    let answer = ndc_world_answers::worked(alloc, tally)?;
+    Ok(Step::new(answer, seen))
+}
+
+/// `resend`.
+pub fn resend<R: Threads + Sync, G: Gate, C: Reads + Drop + Send>(
+    network: &mut Network<C>,
+    rt: &R,
+    alloc: Global,
+    gate: &G,
+    workers: u32,
+    header: &Header,
+    reader: ClusterNo,
+) -> Result<Step, AllocError>
+    requires workers { 0 < workers }
+    requires reader { IsCluster header.now reader }
+    requires reached { IsReachedSometime header.now network.old }
+    requires allowed { MayDoAll C.allows header.now reader (again_jobs header.now reader network.old) network.old }
+    ensures { IfOk result (λ step. leaving network.new step ≡ resend_step header.now reader network.old) }
+{
+    let done = network.resend(rt, alloc, gate, workers, header, reader)?;
+    let mut dones = Vec::new(alloc);
+    dones.push(done)?;
+    let Telling { tally, seen } = tell_all(alloc, dones)?;
+    let answer = ndc_world_answers::arrived(alloc, tally)?;
+    Ok(Step::new(answer, seen))
+}
+
+/// `bootstrap`.
+pub fn bootstrap<R: Threads + Sync, G: Gate, C: Serves + Drop + Send>(
+    network: &mut Network<C>,
+    rt: &R,
+    alloc: Global,
+    gate: &G,
+    workers: u32,
+    header: &Header,
+    reader: ClusterNo,
+    source: ClusterNo,
+) -> Result<Step, AllocError>
+    requires workers { 0 < workers }
+    requires clusters { AreTwoClusters header.now reader source }
+    requires orderly { IsOrderly header.now network.old }
+    requires allowed { MayDoAll C.allows header.now reader (late_jobs header.now reader source network.old) network.old }
+    ensures { IfOk result (λ step. leaving network.new step ≡ bootstrap_step header.now reader source network.old) }
+{
+    let domains = late_count(network, reader, source);
+    let done = network.bootstrap(rt, alloc, gate, workers, header, reader, source)?;
+    let mut dones = Vec::new(alloc);
+    dones.push(done)?;
+    let Telling { tally, seen } = tell_all(alloc, dones)?;
+    let answer = ndc_world_answers::brought(alloc, domains, tally)?;
+    Ok(Step::new(answer, seen))
+}
+
+/// `settle`.
+pub fn settle<R: Threads + Sync, G: Gate, C: Serves + Drop + Send>(
+    network: &mut Network<C>,
+    rt: &R,
+    alloc: Global,
+    gate: &G,
+    workers: u32,
+    header: &Header,
+) -> Result<Step, AllocError>
+    requires workers { 0 < workers }
+    requires orderly { IsOrderly header.now network.old }
+    requires allowed { MaySettle C.allows header.now network.old }
+    ensures { IfOk result (λ step. leaving network.new step ≡ settle_step header.now network.old) }
+{
+    let dones = network.settle(rt, alloc, gate, workers, header)?;
+    let Telling { tally, seen } = tell_all(alloc, dones)?;
+    let answer = ndc_world_answers::settled(alloc, tally)?;
+    Ok(Step::new(answer, seen))
+}
+
+/// Of how many domains a reader is a member late, as to a source.
+fn late_count<C: Writes + Drop>(network: &Network<C>, reader: ClusterNo, source: ClusterNo) -> u64
+    ensures { result ≡ length (link_at reader source network.now).late }
+{
+    match link_of(network, reader, source) {
+        Some(link) => link.late().len() as u64,
+        None => 0,
+    }
+}

@@ -1,0 +1,253 @@
+ghost use Rattle.std.specs.Prelude.{◌≡◌, ◌≢◌, ◌<◌, ◌^◌, [], Ok, Result, slice_set, length, option_copied, slice_index_or, IfOk, OnOk};
+ghost use Rattle.std.specs.List.{AllByRecursion};
+ghost use Rattle.ndc_script_types.specs.WellFormed.{IsCluster};
+ghost use Rattle.ndc_laws_jobs.specs.Reporting.{shown_of, told_at, told_by};
+ghost use Rattle.ndc_laws_jobs.specs.Standing.{IsLeftBy, StandFor};
+ghost use Rattle.ndc_command.specs.declared.refusal.CommandError.TheVariants.{Memory};
+ghost use Rattle.ndc_command.specs.declared.refusal.CommandError.{CommandError as CommandFault};
+ghost use Rattle.ndc_event.specs.Outcome.{Gives};
+ghost use Rattle.ndc_model.specs.Fair.{IsShaped};
+ghost use Rattle.ndc_progress.specs.declared.report.ActivityRef.{ActivityRef as Reference};
+ghost use Rattle.ndc_model.specs.Progress.{activity_answer, beat_step, progress_answer, sync_step};
+ghost use Rattle.ndc_model.specs.Reading.{learned_at};
+ghost use Rattle.ndc_model.specs.World.{World};
+ghost use Rattle.ndc_progress.specs.Reports.{merge_count, merged, stale_by};
+ghost use Rattle.ndc_world_steps.specs.Told.{only_answer};
+
+use crate::activities::{pending_activity, told_of};
+use crate::step::{Step, answered};
+use ndc_cluster_reads::Reads;
+use ndc_command::CommandError;
+use ndc_domain::ClusterNo;
+use ndc_event::Name;
+use ndc_progress::{ActivityRef, Progress, Report};
+use ndc_script_types::Header;
+use ndc_shard_runs::Runs;
+use ndc_world_network::Network;
+use ndc_world_network::sites::{runs_of, table_of};
+use std::alloc::{AllocError, Global};
+use std::mem;
+
+/// The version of a held report that is above another one.
+fn stale_by(version: u64, held: Option<&Report>) -> Option<u64>
+    ensures { result ≡ stale_by version (option_copied held.entry) }
+{
+    match held {
+        Some(report) if version < report.version => Some(report.version),
+        _ => None,
+    }
+}
+
+/// An activity is told of, where the held report has no greater version.
+fn tell(
+    alloc: Global,
+    own: &mut Progress,
+    version: u64,
+    activity: ActivityRef,
+    details: &Name,
+) -> Result<Step, AllocError>
+    requires { AllByRecursion (λ report. report.beat < 10 ^ 12) own.old }
+    ensures answer { IfOk result (λ step. step ≡ only_answer (told_by details.now own.old (Ok (version, activity))).answer) }
+    ensures reports { OnOk result (own.new ≡ (told_by details.now own.old (Ok (version, activity))).reports) }
+{
+    if let Some(stale) = stale_by(version, own.find(&activity)) {
+        return Ok(answered(alloc, ndc_world_answers::stale(alloc, stale)?));
+    }
+    let beat = own.tell(activity, version, details.try_copy()?)?;
+    Ok(answered(alloc, ndc_world_answers::beaten(alloc, version, beat)?))
+}
+
+/// The version with which a cluster may tell of an activity of a workflow of which this is learned, and the activity.
+fn told_with<C: Reads + Drop>(
+    network: &Network<C>,
+    alloc: Global,
+    header: &Header,
+    cluster: ClusterNo,
+    domain: &Name,
+    workflow: &Name,
+    id: &Name,
+    runs: &Runs,
+) -> Result<(u64, ActivityRef), CommandError>
+    requires there { cluster.number < length network.now.clusters }
+    requires runs { runs.now ≡ learned_at header.now cluster domain.now workflow.now network.now }
+    ensures { Gives Memory (λ told. told) result (told_at header.now cluster domain.now workflow.now id.now network.now) }
+{
+    let table = table_of(network, cluster);
+    told_of(alloc, header, cluster, table, domain, workflow, id, runs)
+}
+
+/// The version with which a cluster may tell of an activity of a workflow, and the activity.
+fn told_at<C: Reads + Drop>(
+    network: &Network<C>,
+    alloc: Global,
+    header: &Header,
+    cluster: ClusterNo,
+    domain: &Name,
+    workflow: &Name,
+    id: &Name,
+) -> Result<(u64, ActivityRef), CommandError>
+    requires shards { 0 < header.now.shards }
+    requires cluster { IsCluster header.now cluster }
+    requires shaped { IsShaped header.now network.now }
+    ensures { Gives Memory (λ told. told) result (told_at header.now cluster domain.now workflow.now id.now network.now) }
+{
+    match runs_of(network, header, cluster, domain, workflow) {
+        Some(runs) => told_with(network, alloc, header, cluster, domain, workflow, id, runs),
+        None => {
+            let none = Runs::new(alloc);
+            told_with(network, alloc, header, cluster, domain, workflow, id, &none)
+        }
+    }
+}
+
+/// `beat`. The reports that clusters hold stand beside them.
+pub fn beat<C: Reads + Drop>(
+    network: &Network<C>,
+    reports: &mut Vec<Progress>,
+    alloc: Global,
+    header: &Header,
+    cluster: ClusterNo,
+    domain: &Name,
+    workflow: &Name,
+    id: &Name,
+    details: &Name,
+) -> Result<Step, AllocError>
+    requires shards { 0 < header.now.shards }
+    requires cluster { IsCluster header.now cluster }
+    requires shaped { IsShaped header.now network.now }
+    requires seat { cluster.number < length reports.old.items }
+    requires beats { AllByRecursion (λ report. report.beat < 10 ^ 12) (slice_index_or reports.old.items cluster.number []) }
+    ensures { IfOk result (λ step. (w : World) → StandFor network.now reports.old.items w
+        → IsLeftBy (beat_step header.now cluster domain.now workflow.now id.now details.now w) network.now reports.new.items step.answer step.seen) }
+{
+    match told_at(network, alloc, header, cluster, domain, workflow, id) {
+        Ok((version, activity)) => {
+            let own = &mut reports[cluster.number as usize];
+            let step = tell(alloc, own, version, activity, details)?;
+            Ok(step)
+        }
+        Err(CommandError::Refused(why)) => {
+            Ok(answered(alloc, ndc_world_answers::refusal(alloc, why)?))
+        }
+        Err(CommandError::Memory) => Err(AllocError),
+    }
+}
+
+/// `sync`.
+pub fn sync<C: Reads + Drop>(
+    network: &Network<C>,
+    reports: &mut Vec<Progress>,
+    alloc: Global,
+    to: ClusterNo,
+    from: ClusterNo,
+) -> Result<Step, AllocError>
+    requires to { to.number < length reports.old.items }
+    requires from { from.number < length reports.old.items }
+    requires differ { to.number ≢ from.number }
+    ensures { IfOk result (λ step. (w : World) → StandFor network.now reports.old.items w → IsLeftBy (sync_step to from w) network.now reports.new.items step.answer step.seen) }
+{
+    let count = take_over(alloc, reports, to.number as usize, from.number as usize)?;
+    Ok(answered(alloc, ndc_world_answers::counted(alloc, count)?))
+}
+
+/// The reports at one place take over those at another, and it is counted of how many activities they then hold another.
+fn take_over(
+    alloc: Global,
+    reports: &mut Vec<Progress>,
+    to: usize,
+    from: usize,
+) -> Result<u64, AllocError>
+    requires to { to < length reports.old.items }
+    requires from { from < length reports.old.items }
+    requires differ { to ≢ from }
+    ensures count { IfOk result (λ count. count ≡ merge_count (slice_index_or reports.old.items to []) (slice_index_or reports.old.items from [])) }
+    ensures reports { OnOk result (reports.new.items ≡ slice_set reports.old.items to (merged (slice_index_or reports.old.items to []) (slice_index_or reports.old.items from []))) }
+{
+    let mut own = mem::replace(&mut reports[to], Progress::new(alloc));
+    let count = own.merge(&reports[from])?;
+    reports[to] = own;
+    Ok(count)
+}
+
+/// What is held of a pending activity, or why there is none.
+fn activity_shown(
+    alloc: Global,
+    own: &Progress,
+    activity: Result<ActivityRef, CommandError>,
+) -> Result<Vec<u8>, AllocError>
+    ensures { IfOk result (λ text. (r : Result Reference CommandFault) → Gives Memory (λ a. a) activity r → text.items ≡ activity_answer own.now r) }
+{
+    match activity {
+        Ok(activity) => ndc_world_answers::report(alloc, own.find(&activity)),
+        Err(CommandError::Refused(why)) => ndc_world_answers::refusal(alloc, why),
+        Err(CommandError::Memory) => Err(AllocError),
+    }
+}
+
+/// What is shown of an activity, where this is learned of its workflow.
+fn shown(
+    alloc: Global,
+    own: &Progress,
+    domain: &Name,
+    workflow: &Name,
+    id: &Name,
+    runs: &Runs,
+) -> Result<Vec<u8>, AllocError>
+    ensures { IfOk result (λ text. text.items ≡ shown_of domain.now workflow.now id.now own.now runs.now) }
+{
+    if runs.is_empty() {
+        return ndc_world_answers::no_workflow(alloc);
+    }
+    let Some(tip) = runs.tip() else {
+        return Ok(Vec::new(alloc));
+    };
+    let Some(state) = runs.state() else {
+        return Ok(Vec::new(alloc));
+    };
+    let activity = pending_activity(alloc, domain, workflow, id, runs, tip, state);
+    activity_shown(alloc, own, activity)
+}
+
+/// What is shown of an activity of a workflow.
+fn shown_at<C: Reads + Drop>(
+    network: &Network<C>,
+    alloc: Global,
+    own: &Progress,
+    header: &Header,
+    cluster: ClusterNo,
+    domain: &Name,
+    workflow: &Name,
+    id: &Name,
+) -> Result<Vec<u8>, AllocError>
+    requires shards { 0 < header.now.shards }
+    requires cluster { IsCluster header.now cluster }
+    requires shaped { IsShaped header.now network.now }
+    ensures { IfOk result (λ text. text.items ≡ shown_of domain.now workflow.now id.now own.now (learned_at header.now cluster domain.now workflow.now network.now)) }
+{
+    match runs_of(network, header, cluster, domain, workflow) {
+        Some(runs) => shown(alloc, own, domain, workflow, id, runs),
+        None => ndc_world_answers::no_workflow(alloc),
+    }
+}
+
+/// `progress`.
+pub fn progress<C: Reads + Drop>(
+    network: &Network<C>,
+    reports: &[Progress],
+    alloc: Global,
+    header: &Header,
+    cluster: ClusterNo,
+    domain: &Name,
+    workflow: &Name,
+    id: &Name,
+) -> Result<Vec<u8>, AllocError>
+    requires shards { 0 < header.now.shards }
+    requires cluster { IsCluster header.now cluster }
+    requires shaped { IsShaped header.now network.now }
+    requires seat { cluster.number < length reports.now }
+    ensures { IfOk result (λ text. (w : World) → StandFor network.now reports.now w → text.items ≡ progress_answer header.now cluster domain.now workflow.now id.now w) }
+{
+    let own = &reports[cluster.number as usize];
+    let text = shown_at(network, alloc, own, header, cluster, domain, workflow, id)?;
+    Ok(text)
+}

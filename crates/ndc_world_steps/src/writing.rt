@@ -1,0 +1,122 @@
+ghost use Rattle.std.specs.Prelude.{◌≡◌, ◌<◌, [], ◌∷◌, IfOk};
+ghost use Rattle.ndc_script_types.specs.WellFormed.{IsCluster};
+ghost use Rattle.ndc_laws_jobs.specs.Lines.{job_for};
+ghost use Rattle.ndc_model_cells.specs.declared.job.Job.TheVariants as job;
+ghost use Rattle.ndc_model.specs.Fair.{IsShaped};
+ghost use Rattle.ndc_model.specs.Steps.{command_step, reset_step, writing_step};
+ghost use Rattle.ndc_model.specs.Conditions.{MayDoAll};
+ghost use Rattle.ndc_world_steps.specs.Told.{first_answer, leaving};
+
+use crate::step::Step;
+use ndc_cluster::shard_of;
+use ndc_cluster_links::Writes;
+use ndc_command::Command;
+use ndc_domain::ClusterNo;
+use ndc_event::Name;
+use ndc_model_cells::{Job, JobReply, ShardJob};
+use ndc_port::Gate;
+use ndc_script_types::Header;
+use ndc_world_answers::add_seen;
+use ndc_world_network::Network;
+use std::alloc::{AllocError, Global};
+use std::thread::Threads;
+
+/// What the first of replies answers.
+fn first_answer(alloc: Global, replies: &[JobReply]) -> Result<Vec<u8>, AllocError>
+    ensures { IfOk result (λ text. text.items ≡ first_answer replies.now) }
+{
+    match replies {
+        [reply, ..] => ndc_world_answers::outcome(alloc, &reply.outcome),
+        [] => Ok(Vec::new(alloc)),
+    }
+}
+
+/// A cluster does one job that writes.
+fn ask<R: Threads + Sync, G: Gate, C: Writes + Drop + Send>(
+    network: &mut Network<C>,
+    rt: &R,
+    alloc: Global,
+    gate: &G,
+    workers: u32,
+    header: &Header,
+    cluster: ClusterNo,
+    asked: ShardJob,
+) -> Result<Step, AllocError>
+    requires workers { 0 < workers }
+    requires cluster { IsCluster header.now cluster }
+    requires shard { asked.shard < header.now.shards }
+    requires shaped { IsShaped header.now network.old }
+    requires allowed { MayDoAll C.allows header.now cluster (asked ∷ []) network.old }
+    ensures { IfOk result (λ step. leaving network.new step ≡ writing_step header.now cluster asked network.old) }
+{
+    let mut jobs = Vec::new(alloc);
+    jobs.push(asked)?;
+    let jobs = jobs.as_slice();
+    let replies = network.do_jobs(rt, alloc, gate, workers, header, cluster, jobs)?;
+    let answer = first_answer(alloc, replies.as_slice())?;
+    let mut seen = Vec::new(alloc);
+    add_seen(&mut seen, cluster, jobs, replies)?;
+    Ok(Step::new(answer, seen))
+}
+
+/// A command line.
+pub fn command<R: Threads + Sync, G: Gate, C: Writes + Drop + Send>(
+    network: &mut Network<C>,
+    rt: &R,
+    alloc: Global,
+    gate: &G,
+    workers: u32,
+    header: &Header,
+    cluster: ClusterNo,
+    domain: &Name,
+    workflow: &Name,
+    command: &Command,
+) -> Result<Step, AllocError>
+    requires workers { 0 < workers }
+    requires cluster { IsCluster header.now cluster }
+    requires shards { 0 < header.now.shards }
+    requires shaped { IsShaped header.now network.old }
+    requires allowed { MayDoAll C.allows header.now cluster (job_for header.now domain.now workflow.now (job.Command domain.now workflow.now command.now) ∷ []) network.old }
+    ensures { IfOk result (λ step. leaving network.new step ≡ command_step header.now cluster domain.now workflow.now command.now network.old) }
+{
+    let asked = ShardJob {
+        shard: shard_of(domain, workflow, header.shards),
+        job: Job::Command {
+            domain: domain.try_copy()?,
+            workflow: workflow.try_copy()?,
+            command: command.try_copy()?,
+        },
+    };
+    ask(network, rt, alloc, gate, workers, header, cluster, asked)
+}
+
+/// `reset`.
+pub fn reset<R: Threads + Sync, G: Gate, C: Writes + Drop + Send>(
+    network: &mut Network<C>,
+    rt: &R,
+    alloc: Global,
+    gate: &G,
+    workers: u32,
+    header: &Header,
+    cluster: ClusterNo,
+    domain: &Name,
+    workflow: &Name,
+    event: u64,
+) -> Result<Step, AllocError>
+    requires workers { 0 < workers }
+    requires cluster { IsCluster header.now cluster }
+    requires shards { 0 < header.now.shards }
+    requires shaped { IsShaped header.now network.old }
+    requires allowed { MayDoAll C.allows header.now cluster (job_for header.now domain.now workflow.now (job.Reset domain.now workflow.now event) ∷ []) network.old }
+    ensures { IfOk result (λ step. leaving network.new step ≡ reset_step header.now cluster domain.now workflow.now event network.old) }
+{
+    let asked = ShardJob {
+        shard: shard_of(domain, workflow, header.shards),
+        job: Job::Reset {
+            domain: domain.try_copy()?,
+            workflow: workflow.try_copy()?,
+            event,
+        },
+    };
+    ask(network, rt, alloc, gate, workers, header, cluster, asked)
+}

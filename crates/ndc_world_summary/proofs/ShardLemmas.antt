@@ -1,0 +1,41 @@
+-- The cells of all clusters for a shard.
+use Rattle.std.proofs.Common.{◌≡◌, ◌<◌, ◌+◌, ℕ, List, [], ◌∷◌, length, map, ap, sym, subst, ◌∙◌, arith}
+use Rattle.std.specs.List.{AllByRecursion, fold, range_with_len}
+use Rattle.std.proofs.lemmas.List.FromFn.{map-range_with_len_more}
+use Rattle.std.proofs.lemmas.List.Sums.{fold_push}
+use Rattle.std.proofs.lemmas.Simd.{map-map}
+use Rattle.ndc_script_types.specs.declared.script.Header.{Header}
+use Rattle.ndc_model_cells.specs.Jobs.{cell_for}
+use Rattle.ndc_model.specs.Fair.{IsShaped}
+use Rattle.ndc_model.specs.World.{Cluster, World}
+use Rattle.ndc_cluster.specs.Sites.{SiteValue}
+use Rattle.ndc_world_summary.specs.Summaries.{added, cells_of}
+use Rattle.ndc_world_summary.specs.declared.parts.Summary.{Summary}
+
+from-clusters : (shards shard : ℕ) (sites : List SiteValue) → shard < shards → AllByRecursion (λ (cluster : Cluster). length cluster.cells ≡ shards) (map (λ (site : SiteValue). site.cluster) sites)
+    → AllByRecursion (λ (site : SiteValue). shard < length site.cluster.cells) sites
+from-clusters shards shard [] below all = tt
+from-clusters shards shard (site ∷ sites) below all = (omega (arith, below, all.0), from-clusters shards shard sites below all.1)
+
+-- each cluster has a cell for each shard
+pub cells_there : (header : Header) (w : World) (shard : ℕ) (sites : List SiteValue) → IsShaped header w → shard < header.shards → map (λ (site : SiteValue). site.cluster) sites ≡ w.clusters
+    → AllByRecursion (λ (site : SiteValue). shard < length site.cluster.cells) sites
+cells_there header w shard sites shaped below same =
+    from-clusters header.shards shard sites below (subst (AllByRecursion (λ (cluster : Cluster). length cluster.cells ≡ header.shards)) (sym same) shaped.cells)
+
+-- and these are the cells of the shard
+pub cells_same : (w : World) (shard : ℕ) (sites : List SiteValue) → map (λ (site : SiteValue). site.cluster) sites ≡ w.clusters
+    → map (λ (site : SiteValue). cell_for shard site.cluster.cells) sites ≡ cells_of w shard
+cells_same w shard sites same =
+    sym (map-map (λ (cluster : Cluster). cell_for shard cluster.cells) (λ (site : SiteValue). site.cluster) sites) ∙ ap (map (λ (cluster : Cluster). cell_for shard cluster.cells)) same
+
+-- the tables of all clusters
+pub tables_same : (w : World) (sites : List SiteValue) → map (λ (site : SiteValue). site.cluster) sites ≡ w.clusters
+    → map (λ (site : SiteValue). site.cluster.table) sites ≡ map (λ (cluster : Cluster). cluster.table) w.clusters
+tables_same w sites same = sym (map-map (λ (cluster : Cluster). cluster.table) (λ (site : SiteValue). site.cluster) sites) ∙ ap (map (λ (cluster : Cluster). cluster.table)) same
+
+-- the part of one shard more is added
+pub whole_more : (start : Summary) (part : ℕ → Summary) (shard : ℕ)
+    → added (fold added start (map part (range_with_len 0 shard))) (part shard) ≡ fold added start (map part (range_with_len 0 (shard + 1)))
+whole_more start part shard =
+    sym (ap (fold added start) (map-range_with_len_more part 0 shard shard (omega arith)) ∙ fold_push added start (map part (range_with_len 0 shard)) (part shard))
