@@ -1,2 +1,1 @@
 pub mod GrowLemmas
-pub mod HashLemmas

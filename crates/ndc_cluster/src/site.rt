@@ -112,27 +112,12 @@ impl<C: Writes + Drop> Site<C> {
         &self.letters
     }
 
-    /// The progress reports. Takes no memory.
-    pub fn reports(&self) -> &Progress
-        ensures { result.now ≡ self.now.cluster.reports }
-    {
-        &self.reports
-    }
-
     /// Puts other letters in the place of its own, which are given back. Takes no memory.
     pub fn replace_letters(&mut self, letters: Letters) -> Letters
         ensures given { result ≡ self.old.cluster.letters }
         ensures replaced { self.new ≡ record self.old { cluster = record self.old.cluster { letters = letters } } }
     {
         mem::replace(&mut self.letters, letters)
-    }
-
-    /// Puts other progress reports in the place of its own, which are given back. Takes no memory.
-    pub fn replace_reports(&mut self, reports: Progress) -> Progress
-        ensures given { result ≡ self.old.cluster.reports }
-        ensures replaced { self.new ≡ record self.old { cluster = record self.old.cluster { reports = reports } } }
-    {
-        mem::replace(&mut self.reports, reports)
     }
 
     /// Drops all entries of a shard's queue below a level, which is not above its length, and counts those that are

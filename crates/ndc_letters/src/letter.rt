@@ -1,6 +1,5 @@
 use ndc_domain::ClusterNo;
 use ndc_event::{BatchKey, Name};
-use std::alloc::AllocError;
 use std::marker::Model;
 
 /// Bytes that came.
@@ -18,7 +17,7 @@ impl Model for Bytes {
 }
 
 impl Bytes {
-    ghost use Rattle.std.specs.Prelude.{◌≡◌, IfOk};
+    ghost use Rattle.std.specs.Prelude.{◌≡◌};
 
     /// The list of these bytes.
     pub fn new(items: Vec<u8>) -> Bytes
@@ -40,15 +39,6 @@ impl Bytes {
     {
         self.items
     }
-
-    /// The same bytes.
-    pub fn try_copy(&self) -> Result<Bytes, AllocError>
-        ensures { IfOk result (λ copy. copy ≡ self.now) }
-    {
-        Ok(Bytes {
-            items: self.items.clone()?,
-        })
-    }
 }
 
 /// What came of a message: the cluster that sent it, the place of the batch that it was, and the bytes that came.
@@ -59,21 +49,4 @@ pub struct Letter {
     pub workflow: Name,
     pub key: BatchKey,
     pub bytes: Bytes,
-}
-
-impl Letter {
-    ghost use Rattle.std.specs.Prelude.{◌≡◌, IfOk};
-
-    /// The same letter.
-    pub fn try_copy(&self) -> Result<Letter, AllocError>
-        ensures { IfOk result (λ copy. copy ≡ self.now) }
-    {
-        Ok(Letter {
-            source: self.source,
-            domain: self.domain.try_copy()?,
-            workflow: self.workflow.try_copy()?,
-            key: self.key,
-            bytes: self.bytes.try_copy()?,
-        })
-    }
 }

@@ -1,3 +1,4 @@
 pub mod CellLemmas
+mod HashLemmas
 pub mod PlaceLemmas
 pub mod SoundLemmas

@@ -7,8 +7,10 @@ pub mod cell_laws;
 mod job;
 mod message;
 mod place;
+mod shard;
 pub mod worked_cells;
 
 pub use job::{Arrived, Job, JobReply, Keys, Outcome, ShardJob, Written};
 pub use message::Message;
 pub use place::Place;
+pub use shard::shard_of;

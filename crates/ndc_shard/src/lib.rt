@@ -8,4 +8,6 @@ mod reading;
 mod shard;
 mod writing;
 
+pub use ndc_model_cells::{Arrived, Job, JobReply, Keys, Outcome, ShardJob, Written, shard_of};
+pub use ndc_model_sets::{Batches, BranchView, BranchViews, RunStatus, RunView, RunViews, View};
 pub use shard::Shard;

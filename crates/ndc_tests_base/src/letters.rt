@@ -19,10 +19,9 @@ fn letter(alloc: Global, bytes: &[u8]) -> Result<Letter, AllocError> {
     })
 }
 
-/// Whether a copy of a letter is taken as whole.
-fn is_whole(letters: &mut Letters, letter: &Letter) -> Result<bool, AllocError> {
-    let copy = letter.try_copy()?;
-    Ok(matches!(letters.take(copy)?, Taken::Whole { .. }))
+/// Whether a letter of these bytes is taken as whole.
+fn is_whole(alloc: Global, letters: &mut Letters, bytes: &[u8]) -> Result<bool, AllocError> {
+    Ok(matches!(letters.take(letter(alloc, bytes)?)?, Taken::Whole { .. }))
 }
 
 #[test]
@@ -30,8 +29,8 @@ fn letters_are_taken_and_purged(rt: HostRuntime) -> Result<(), Fail> {
     let alloc = rt.alloc();
     let mut letters = Letters::new(alloc);
     let cut = &STARTED.as_bytes()[..30];
-    assert!(rt; !is_whole(&mut letters, &letter(alloc, cut)?)?);
-    assert!(rt; is_whole(&mut letters, &letter(alloc, STARTED.as_bytes())?)?);
+    assert!(rt; !is_whole(alloc, &mut letters, cut)?);
+    assert!(rt; is_whole(alloc, &mut letters, STARTED.as_bytes())?);
     assert_eq!(rt; letters.purge(), 1);
     Ok(())
 }

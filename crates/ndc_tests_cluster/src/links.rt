@@ -2,8 +2,7 @@ use crate::given::{ListCell, message, table_naming};
 use ndc_cluster_links::{Lane, Learns, Link, Queues, Writes};
 use ndc_cluster_rounds::Works;
 use ndc_domain::{ClusterNo, DomainTable};
-use ndc_model_cells::Message;
-use ndc_queue::Queue;
+use ndc_queue::{Message, Queue};
 use std::alloc::{AllocError, Global};
 use std::test::Fail;
 

@@ -1,5 +1,5 @@
 use crate::worked::{Test, begun, key};
-use ndc_model_sets::RunStatus;
+use ndc_shard::RunStatus;
 use ndc_shard_runs::Runs;
 use ndc_state::Steps;
 use std::alloc::{AllocError, Global};

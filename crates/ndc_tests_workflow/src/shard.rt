@@ -11,8 +11,7 @@ use ndc_cluster_rounds::{Desk, Works};
 use ndc_command::Command;
 use ndc_domain::{ClusterNo, Clusters, DomainTable, Members};
 use ndc_event::{Batch, BatchKey, Name};
-use ndc_model_cells::{Job, JobReply, Outcome};
-use ndc_shard::Shard;
+use ndc_shard::{Job, JobReply, Outcome, Shard};
 use std::alloc::{AllocError, Global};
 use std::test::Fail;
 

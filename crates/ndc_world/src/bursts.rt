@@ -10,12 +10,11 @@ ghost use Rattle.ndc_model.specs.World.{cluster_at, home_at, with_cells};
 ghost use Rattle.ndc_model.specs.Conditions.{MayDoAll};
 ghost use Rattle.ndc_world.specs.Bursts.{burst_text};
 
-use ndc_cluster::shard_of;
 use ndc_cluster_reads::Reads;
 use ndc_domain::ClusterNo;
-use ndc_model_cells::{Job, JobReply, ShardJob};
 use ndc_port::Gate;
 use ndc_script_types::{BurstJob, Header};
+use ndc_shard::{Job, JobReply, ShardJob, shard_of};
 use ndc_world_answers::{add_seen, behind_number, outcome};
 use ndc_world_network::Network;
 use ndc_world_steps::Step;

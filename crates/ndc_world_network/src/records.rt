@@ -1,13 +1,11 @@
 ghost use Rattle.std.specs.Prelude.{◌≡◌, ◌<◌, length, map, IfOk, OnErr, OnOk};
 ghost use Rattle.ndc_model.specs.Letters.{with_letters};
-ghost use Rattle.ndc_model.specs.Progress.{with_reports};
 ghost use Rattle.ndc_model.specs.World.{cluster_at, with_late, with_table};
 
 use crate::network::Network;
 use ndc_cluster_links::{Link, Writes};
 use ndc_domain::{ClusterNo, DomainTable};
 use ndc_letters::Letters;
-use ndc_progress::Progress;
 use std::alloc::{AllocError, Global};
 
 /// The readers of a source note the domains whose record comes to name them, where another table takes the place of the
@@ -39,16 +37,6 @@ impl<C: Writes + Drop> Network<C> {
     {
         let site = &mut self.sites[cluster.number as usize];
         site.replace_letters(letters)
-    }
-
-    /// Puts other progress reports in the place of a cluster's, which are given back. Takes no memory.
-    pub fn replace_reports(&mut self, cluster: ClusterNo, reports: Progress) -> Progress
-        requires { cluster.number < length self.old.clusters }
-        ensures given { result ≡ (cluster_at cluster self.old).reports }
-        ensures replaced { self.new ≡ with_reports cluster reports self.old }
-    {
-        let site = &mut self.sites[cluster.number as usize];
-        site.replace_reports(reports)
     }
 
     /// Puts another table in the place of a cluster's, which is given back; the readers that a domain comes to name note

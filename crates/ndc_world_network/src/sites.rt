@@ -4,16 +4,16 @@ ghost use Rattle.ndc_model_cells.specs.Jobs.{cell_for};
 ghost use Rattle.ndc_model.specs.Fair.{IsShaped};
 ghost use Rattle.ndc_model.specs.Reading.{learned_at};
 ghost use Rattle.ndc_model.specs.World.{cluster_at, flight_at, is_link, lane_at, link_at, link_found, queue_at, trimmed_at};
-ghost use Rattle.ndc_world_network.specs.Found.{learned_by};
+ghost use Rattle.ndc_world_network.specs.Found.{batches_or_none};
 ghost use Rattle.ndc_queue.specs.Queues.{queue_len};
 
 use crate::network::Network;
-use ndc_cluster::{Site, shard_of};
+use ndc_cluster::Site;
 use ndc_cluster_links::{Link, Writes};
 use ndc_cluster_reads::Reads;
 use ndc_domain::{ClusterNo, DomainTable};
 use ndc_event::Name;
-use ndc_model_cells::Message;
+use ndc_model_cells::{Message, shard_of};
 use ndc_queue::{Levels, Queue};
 use ndc_script_types::Header;
 use ndc_shard_runs::Runs;
@@ -131,7 +131,7 @@ pub fn runs_of<'a, C: Reads + Drop>(
     requires shards { 0 < header.now.shards }
     requires cluster { IsCluster header.now cluster }
     requires shaped { IsShaped header.now network.now }
-    ensures { learned_by (option_copied result) ≡ learned_at header.now cluster domain.now workflow.now network.now }
+    ensures { batches_or_none (option_copied result) ≡ learned_at header.now cluster domain.now workflow.now network.now }
 {
     let shard = shard_of(domain, workflow, header.shards);
     cell_of(network, cluster, shard).runs(domain, workflow)

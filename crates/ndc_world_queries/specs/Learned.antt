@@ -8,7 +8,7 @@ use Rattle.ndc_model_sets.specs.Current.{status_of}
 use Rattle.ndc_state.specs.Replay.{history_of}
 use Rattle.ndc_state.specs.Value.{StateValue}
 use Rattle.ndc_text.specs.Views.{key_text, status_text}
-use Rattle.ndc_world_network.specs.Found.{learned_by}
+use Rattle.ndc_world_network.specs.Found.{batches_or_none}
 
 -- the answer of a line on the current run, by the tip of its current branch and the state of it
 abbrev pub current_text : Batch → StateValue → List ℕ
@@ -16,4 +16,4 @@ current_text tip s = ok (run_text tip.run ∷ key_text tip.key ∷ status_text (
 
 -- the answer of a line on the history, by the path to the tip, where there is one
 abbrev pub history_text : Option (List Batch) → List ℕ
-history_text path = ok (decimal (length (history_of (learned_by path))) ∷ []) ++ flat_map event_line (history_of (learned_by path))
+history_text path = ok (decimal (length (history_of (batches_or_none path))) ∷ []) ++ flat_map event_line (history_of (batches_or_none path))

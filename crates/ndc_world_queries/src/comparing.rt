@@ -1,7 +1,7 @@
 ghost use Rattle.std.specs.Prelude.{◌≡◌, ◌↔◌, map, option_copied, IfOk, IsTrue};
 ghost use Rattle.std.specs.List.{AllByRecursion};
 ghost use Rattle.ndc_model.specs.Reading.{compare_answer};
-ghost use Rattle.ndc_world_network.specs.Found.{learned_by};
+ghost use Rattle.ndc_world_network.specs.Found.{batches_or_none};
 ghost use Rattle.ndc_text.specs.Ranges.{InRange};
 
 use ndc_event::{Batch, Name};
@@ -25,7 +25,7 @@ fn are_equal(one: &[&Batch], two: &[&Batch]) -> bool
 
 /// The batches, none where nothing is learned.
 fn batches_of<'a>(alloc: Global, runs: Option<&'a Runs>) -> Result<Vec<&'a Batch>, AllocError>
-    ensures { IfOk result (λ list. map (λ b. b.now) list.items ≡ learned_by (option_copied runs.entry)) }
+    ensures { IfOk result (λ list. map (λ b. b.now) list.items ≡ batches_or_none (option_copied runs.entry)) }
 {
     match runs {
         Some(runs) => runs.batches(alloc),
@@ -35,7 +35,7 @@ fn batches_of<'a>(alloc: Global, runs: Option<&'a Runs>) -> Result<Vec<&'a Batch
 
 /// Whether two clusters have learned the same of a workflow. In time of the batches; no dump is made.
 pub fn are_same(alloc: Global, one: Option<&Runs>, two: Option<&Runs>) -> Result<bool, AllocError>
-    ensures { IfOk result (λ same. IsTrue same ↔ (learned_by (option_copied one.entry) ≡ learned_by (option_copied two.entry))) }
+    ensures { IfOk result (λ same. IsTrue same ↔ (batches_or_none (option_copied one.entry) ≡ batches_or_none (option_copied two.entry))) }
 {
     let first = batches_of(alloc, one)?;
     let second = batches_of(alloc, two)?;
@@ -51,9 +51,9 @@ pub fn compare(
     one: Option<&Runs>,
     two: Option<&Runs>,
 ) -> Result<Vec<u8>, AllocError>
-    requires one { AllByRecursion InRange (learned_by (option_copied one)) }
-    requires two { AllByRecursion InRange (learned_by (option_copied two)) }
-    ensures { IfOk result (λ text. text.items ≡ compare_answer domain.now workflow.now (learned_by (option_copied one.entry)) (learned_by (option_copied two.entry))) }
+    requires one { AllByRecursion InRange (batches_or_none (option_copied one)) }
+    requires two { AllByRecursion InRange (batches_or_none (option_copied two)) }
+    ensures { IfOk result (λ text. text.items ≡ compare_answer domain.now workflow.now (batches_or_none (option_copied one.entry)) (batches_or_none (option_copied two.entry))) }
 {
     let is_same = are_same(alloc, one, two)?;
     ndc_world_answers::compared(alloc, is_same)

@@ -16,13 +16,12 @@ ghost use Rattle.ndc_world_steps.specs.Told.{leaving};
 
 use crate::moving::{Telling, tell_all};
 use crate::step::{Step, answered};
-use ndc_cluster::shard_of;
 use ndc_cluster_links::Writes;
 use ndc_cluster_reads::Reads;
 use ndc_domain::ClusterNo;
 use ndc_event::Batch;
 use ndc_letters::{Bytes, Letter, Letters, Taken};
-use ndc_model_cells::{Job, ShardJob};
+use ndc_model_cells::{Job, ShardJob, shard_of};
 use ndc_port::Gate;
 use ndc_script_types::Header;
 use ndc_text::print_batch;

@@ -8,12 +8,11 @@ ghost use Rattle.ndc_model.specs.Conditions.{MayDoAll};
 ghost use Rattle.ndc_world_steps.specs.Told.{first_answer, leaving};
 
 use crate::step::Step;
-use ndc_cluster::shard_of;
 use ndc_cluster_links::Writes;
 use ndc_command::Command;
 use ndc_domain::ClusterNo;
 use ndc_event::Name;
-use ndc_model_cells::{Job, JobReply, ShardJob};
+use ndc_model_cells::{Job, JobReply, ShardJob, shard_of};
 use ndc_port::Gate;
 use ndc_script_types::Header;
 use ndc_world_answers::add_seen;

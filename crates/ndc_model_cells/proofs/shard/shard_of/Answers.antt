@@ -1,8 +1,8 @@
 use Rattle.std.proofs.Common.{◌%◌, ◌∙◌, ap}
 use Rattle.std.specs.List.{fold}
 use Rattle.ndc_model_cells.specs.Shards.{hashed, shard_of}
-use Rattle.ndc_cluster.proofs.HashLemmas.{hash_in_parts}
-use Rattle.ndc_cluster.proofs.shard.shard_of.Goals as goal
+use Rattle.ndc_model_cells.proofs.HashLemmas.{hash_in_parts}
+use Rattle.ndc_model_cells.proofs.shard.shard_of.Goals as goal
 
 pub returns : goal.returns
 unfolding shard_of
