@@ -371,7 +371,8 @@ impl<C: Reads + Drop> Network<C> {
 
     /// A reader is sent again what it misses: the ancestors of all that is put off there, that have not arrived, by shard and
     /// then by place, from what their authors have learned; then its levels are renewed. Each that is missing is looked up
-    /// once. After want of memory the reader may have no cells.
+    /// once. That following keys upwards finds just the ancestors that are missing is
+    /// `ndc_laws_jobs::again_laws::what_is_gathered_is_sent_again`. After want of memory the reader may have no cells.
     pub fn resend<R: Threads + Sync, G: Gate>(
         &mut self,
         rt: &R,

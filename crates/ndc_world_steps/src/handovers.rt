@@ -288,7 +288,9 @@ fn complete_one<C: Writes + Drop>(
     complete_by(network, alloc, handover, ready)
 }
 
-/// `complete`. Each open handover is between clusters of the header and has a place for each shard.
+/// `complete`. Each open handover is between clusters of the header and has a place for each shard. That the target has
+/// learned all of the old version by then is
+/// `ndc_laws::handover_laws::at_the_end_of_a_handover_all_of_the_old_version_is_learned`.
 pub fn complete<C: Writes + Drop>(
     network: &mut Network<C>,
     alloc: Global,
