@@ -1,0 +1,100 @@
+"""Scripts and reports of ndc, as the tools beside this file read them."""
+import os
+import re
+import subprocess
+import sys
+
+HERE = os.path.dirname(os.path.abspath(__file__))
+# The program: what NDC names, else ./ndc beside the tools' folder.
+PROGRAM = os.environ.get("NDC") or os.path.join(os.path.dirname(HERE), "ndc")
+MOST_LINES = 100_000
+ANSWER = re.compile(r"(\d+) (ok|refused)(?: (.*))?\Z")
+
+
+class Refused(Exception):
+    """The program took the script for none, or could not run it: its status and its line."""
+
+    def __init__(self, status, line):
+        super().__init__(line)
+        self.status = status
+
+
+class Answer:
+    """What one line of a script came to."""
+
+    def __init__(self, number, outcome, rest):
+        self.number, self.outcome, self.rest, self.further = number, outcome, rest, []
+
+    @property
+    def fields(self):
+        return self.rest.split(" ") if self.rest else []
+
+    @property
+    def text(self):
+        return " ".join([self.outcome, *self.fields])
+
+    @property
+    def lines(self):
+        """The answer without its number, and the lines behind it."""
+        return [self.text, *self.further]
+
+
+def report_of(script, words=(), program=None):
+    """Runs a script (its text) and returns the report's text."""
+    done = subprocess.run([program or PROGRAM, "run", *words], input=script.encode(), capture_output=True)
+    if done.returncode:
+        told = [it for it in done.stderr.decode("ascii", "replace").splitlines() if it.startswith("ndc: ")]
+        raise Refused(done.returncode, told[-1] if told else f"status {done.returncode}")
+    return done.stdout.decode("ascii", "replace")
+
+
+def answers_of(report):
+    """Takes a report apart: the answers in order, and the lines of indexers."""
+    answers, indexes = [], []
+    for line in report.splitlines():
+        found = ANSWER.match(line)
+        if found:
+            answers.append(Answer(int(found[1]), found[2], found[3] or ""))
+        elif line.startswith("index "):
+            indexes.append(line)
+        elif answers:
+            answers[-1].further.append(line)
+    return answers, indexes
+
+
+def words_of(line):
+    """The words of a line; none where it is skipped."""
+    words = line.split(" ")
+    words = [it for it in words if it]
+    return [] if words and words[0].startswith("#") else words
+
+
+def header_length(lines):
+    """How many lines the header has, skipped ones among them."""
+    last = 0
+    for place, line in enumerate(lines):
+        words = words_of(line)
+        if words and words[0] not in ("ndc", "increment", "shards", "limit", "cluster"):
+            return last
+        if words:
+            last = place + 1
+    return last
+
+
+def clusters_of(lines):
+    """The clusters' names, in the header's order."""
+    return [words_of(it)[1] for it in lines[: header_length(lines)] if words_of(it)[:1] == ["cluster"] and len(words_of(it)) == 3]
+
+
+def read_script(name):
+    """A script's text: of a file, or of standard input where the name is -."""
+    if name == "-":
+        return sys.stdin.read()
+    with open(name, encoding="latin-1", newline="") as it:
+        return it.read()
+
+
+def end(refused):
+    """Ends a tool as the program would have ended."""
+    print(refused, file=sys.stderr)
+    sys.exit(refused.status)
