@@ -4,7 +4,7 @@ use Rattle.ndc_state.specs.Marked.{Marked}
 use Rattle.ndc_state.specs.declared.pendings.Pending.{Pending}
 use Rattle.ndc_state.specs.Pendings.{is_waiting, pending_of}
 use Rattle.ndc_state.proofs.PlaceLemmas.{with_started-at, marked_of-started, IsCountWithin-started}
-use Rattle.ndc_state.proofs.pendings.Pendings.start.Goals as goal
+use Rattle.ndc_state.proofs.held.Held.start.Goals as goal
 
 pub invariant_of-self-2 : goal.invariant_of-self-2
 invariant_of-self-2 c =

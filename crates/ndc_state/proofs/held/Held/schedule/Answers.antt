@@ -5,7 +5,7 @@ use Rattle.ndc_state.specs.Marked.{Marked}
 use Rattle.indexmap.proofs.CallerLemmas.{insert_entry-new}
 use Rattle.ndc_state.specs.Pendings.{same_name, pending_of, scheduled_by}
 use Rattle.ndc_state.proofs.PlaceLemmas.{marked_of-scheduled}
-use Rattle.ndc_state.proofs.pendings.Pendings.schedule.Goals as goal
+use Rattle.ndc_state.proofs.held.Held.schedule.Goals as goal
 
 -- the name is new, so its entry goes last
 pub returns-clause-current : goal.returns-clause-current
