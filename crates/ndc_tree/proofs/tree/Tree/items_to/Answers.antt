@@ -5,7 +5,7 @@ use Rattle.ndc_history.specs.History.{rises}
 use Rattle.ndc_model_sets.specs.Reading.{items_of}
 use Rattle.ndc_tree.specs.Tree.{TreeValue, IsTree}
 use Rattle.ndc_tree.proofs.ReadingLemmas.{items-walk, items-less, items-rise, none-of}
-use Rattle.ndc_tree.proofs.tree.Tree.items_by_walk.Goals as goal
+use Rattle.ndc_tree.proofs.tree.Tree.items_to.Goals as goal
 
 pub loop-next-smaller : goal.loop-next-smaller
 loop-next-smaller c =
