@@ -3,7 +3,7 @@ use Rattle.std.specs.Prelude.{ℕ, ◌≤◌, List, length, Option, Some, None}
 use Rattle.indexmap.specs.IndexMap.{IndexMap}
 use Rattle.ndc_event.specs.declared.name.Name.{Name}
 use Rattle.ndc_state.specs.declared.pendings.Pending.{Pending}
-use Rattle.ndc_state.specs.declared.pendings.Pendings.TheInside.{Inside}
+use Rattle.ndc_state.specs.declared.held.Held.TheInside.{Inside}
 use Rattle.ndc_state.specs.Marked.{Marked}
 use Rattle.ndc_state.specs.Pendings.{gone_back}
 
@@ -13,8 +13,8 @@ marked_of None count places entries = gone_back count places entries
 marked_of (Some kept) count places entries = kept.entries
 
 -- the entries now, and at the mark
-abbrev pub pendings_of : Inside → Marked (List (Name × Pending))
-pendings_of p = record {
+abbrev pub held_of : Inside → Marked (List (Name × Pending))
+held_of p = record {
   current = p.entries.entries;
   marked = marked_of p.kept p.count p.started.items p.entries.entries;
 }

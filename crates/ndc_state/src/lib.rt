@@ -1,7 +1,9 @@
 //! The mutable state of a run: what its events amount to, one event after another.
 #![tactic(auto)]
 
+mod held;
 pub mod laws;
+mod listed;
 mod origins;
 mod pendings;
 mod rule;

@@ -1,18 +1,17 @@
 ghost use Rattle.std.specs.Prelude.{◌≡◌};
 ghost use Rattle.ndc_state.specs.Origins.{origin_of};
 
-use indexmap::IndexSet;
+use crate::listed::Listed;
 use ndc_event::{Event, EventKind, Origin, RunId};
 use std::alloc::{AllocError, Global};
 use std::marker::Model;
 
 /// The origins of a run's signals, in order and each once, with what takes them back to how they were at
-/// the last mark. The set finds an origin without going over the others.
+/// the last mark. Where there is none, they hold no memory.
 #[derive(Drop)]
 pub(crate) struct Origins {
-    listed: IndexSet<Origin>,
-    /// How many there were at the mark.
-    count: usize,
+    alloc: Global,
+    listed: Option<Box<Listed>>,
 }
 
 impl Model for Origins {
@@ -22,11 +21,9 @@ impl Model for Origins {
 
     ghost Value = { Marked (List Origin) };
 
-    ghost use Rattle.ndc_state.specs.OriginList.{origins_of, IsMarkWithin};
+    ghost use Rattle.ndc_state.specs.Marked.{boxed_or_nothing};
 
-    ghost view = { origins_of };
-
-    ghost invariant = { IsMarkWithin };
+    ghost view = { λ origins. boxed_or_nothing origins.listed };
 }
 
 /// The origin of a signal event of the run: the one that a copy names, or the event itself.
@@ -54,8 +51,8 @@ impl Origins {
         ensures marked { result.marked ≡ [] }
     {
         Origins {
-            listed: IndexSet::new(alloc),
-            count: 0,
+            alloc,
+            listed: None,
         }
     }
 
@@ -63,21 +60,27 @@ impl Origins {
     pub(crate) fn as_slice(&self) -> &[Origin]
         ensures { result.now ≡ self.now.current }
     {
-        self.listed.as_slice()
+        match &self.listed {
+            None => &[],
+            Some(listed) => listed.as_slice(),
+        }
     }
 
     /// How many there are.
     pub(crate) fn len(&self) -> usize
         ensures { result ≡ length self.now.current }
     {
-        self.listed.len()
+        self.as_slice().len()
     }
 
-    /// Whether the origin is listed.
+    /// Whether the origin is listed. It is found without going over the others.
     pub(crate) fn contains(&self, origin: Origin) -> bool
         ensures { result ≡ is_among origin self.now.current }
     {
-        self.listed.contains(&origin)
+        match &self.listed {
+            None => false,
+            Some(listed) => listed.contains(origin),
+        }
     }
 
     /// Puts the origin last, unless it is listed.
@@ -86,7 +89,12 @@ impl Origins {
         ensures marked { self.new.marked ≡ self.old.marked }
         ensures err { OnErr result (self.new ≡ self.old) }
     {
-        self.listed.insert(origin)?;
+        if let Some(listed) = &mut self.listed {
+            return listed.insert(origin);
+        }
+        let mut listed = Listed::new(self.alloc);
+        listed.insert(origin)?;
+        self.listed = Some(Box::new(self.alloc, listed)?);
         Ok(())
     }
 
@@ -95,7 +103,9 @@ impl Origins {
         ensures current { self.new.current ≡ self.old.current }
         ensures marked { self.new.marked ≡ self.old.current }
     {
-        self.count = self.listed.len();
+        if let Some(listed) = &mut self.listed {
+            listed.mark();
+        }
     }
 
     /// Goes back to the mark.
@@ -103,16 +113,20 @@ impl Origins {
         ensures current { self.new.current ≡ self.old.marked }
         ensures marked { self.new.marked ≡ self.old.marked }
     {
-        self.listed.truncate(self.count);
+        if let Some(listed) = &mut self.listed {
+            listed.revert();
+        }
     }
 
     /// The same origins as they are now.
     pub(crate) fn try_copy(&self) -> Result<Origins, AllocError>
         ensures { IfOk result (λ copy. copy.current ≡ self.now.current) }
     {
-        let listed = self.listed.clone()?;
-        let count = listed.len();
-        Ok(Origins { listed, count })
+        let mut copy = Origins::new(self.alloc);
+        if let Some(listed) = &self.listed {
+            copy.listed = Some(Box::new(self.alloc, listed.try_copy()?)?);
+        }
+        Ok(copy)
     }
 
     /// Lists the origin of the event, where it is a signal.

@@ -1,7 +1,4 @@
-ghost use Rattle.std.specs.Prelude.{◌≡◌};
-ghost use Rattle.ndc_state.specs.Pendings.{gone_back, unstarted_at};
-
-use indexmap::IndexMap;
+use crate::held::Held;
 use ndc_event::Name;
 use std::alloc::{AllocError, Global};
 use std::fmt;
@@ -33,16 +30,11 @@ impl fmt::Display for Pending {
 }
 
 /// What is pending by name, in the order of scheduling, with what takes it back to how it was at the last
-/// mark.
+/// mark. Where nothing is, it holds no memory.
 #[derive(Drop)]
 pub(crate) struct Pendings {
-    entries: IndexMap<Name, Pending>,
-    /// How many entries there were at the mark.
-    count: usize,
-    /// The places of the entries that were started since.
-    started: Vec<usize>,
-    /// The entries at the mark, from the first removal since on.
-    kept: Option<IndexMap<Name, Pending>>,
+    alloc: Global,
+    held: Option<Box<Held>>,
 }
 
 impl Model for Pendings {
@@ -53,35 +45,13 @@ impl Model for Pendings {
 
     ghost Value = { Marked (List (Name × Pending)) };
 
-    ghost use Rattle.ndc_state.specs.Places.{pendings_of, IsMarkWithin};
+    ghost use Rattle.ndc_state.specs.Marked.{boxed_or_nothing};
 
-    ghost view = { pendings_of };
-
-    ghost invariant = { IsMarkWithin };
-}
-
-/// Takes the start of the entry at the place back.
-#[tactic(auto, using(crate::proofs::PlaceLemmas::unstarted_at_write, crate::proofs::PlaceLemmas::unstarted_at_beyond))]
-fn take_back(entries: &mut IndexMap<Name, Pending>, place: usize)
-    ensures { entries.new.entries ≡ unstarted_at place entries.old.entries }
-{
-    if let Some(pending) = entries.get_index_mut(place) {
-        pending.started = None;
-    }
-}
-
-/// Takes the entries back to the first so many, with none of those at the places started.
-fn go_back(entries: &mut IndexMap<Name, Pending>, count: usize, places: &[usize])
-    ensures { entries.new.entries ≡ gone_back count places.now entries.old.entries }
-{
-    entries.truncate(count);
-    for place in places {
-        take_back(entries, *place);
-    }
+    ghost view = { λ pendings. boxed_or_nothing pendings.held };
 }
 
 impl Pendings {
-    ghost use Rattle.std.specs.Prelude.{◌≡◌, [], IsTrue, None, not, is_some, OnOk, OnErr, IfOk, length, slice_get};
+    ghost use Rattle.std.specs.Prelude.{◌≡◌, [], IsTrue, None, OnOk, OnErr, IfOk, length, slice_get};
     ghost use Rattle.std.specs.Map.{values_of};
     ghost use Rattle.ndc_state.specs.Pendings.{pending_of, with_scheduled, with_started, without, is_waiting};
 
@@ -90,19 +60,17 @@ impl Pendings {
         ensures current { result.current ≡ [] }
         ensures marked { result.marked ≡ [] }
     {
-        Pendings {
-            entries: IndexMap::new(alloc),
-            count: 0,
-            started: Vec::new(alloc),
-            kept: None,
-        }
+        Pendings { alloc, held: None }
     }
 
     /// What is pending under the name.
     pub(crate) fn get(&self, name: &Name) -> Option<Pending>
         ensures { result ≡ pending_of name.now self.now.current }
     {
-        self.entries.get(name).copied()
+        match &self.held {
+            None => None,
+            Some(held) => held.get(name),
+        }
     }
 
     /// Puts the name last, scheduled by this event.
@@ -112,13 +80,12 @@ impl Pendings {
         ensures marked { self.new.marked ≡ self.old.marked }
         ensures err { OnErr result (self.new ≡ self.old) }
     {
-        self.entries.insert(
-            name,
-            Pending {
-                scheduled: id,
-                started: None,
-            },
-        )?;
+        if let Some(held) = &mut self.held {
+            return held.schedule(name, id);
+        }
+        let mut held = Held::new(self.alloc);
+        held.schedule(name, id)?;
+        self.held = Some(Box::new(self.alloc, held)?);
         Ok(())
     }
 
@@ -129,38 +96,36 @@ impl Pendings {
         ensures marked { self.new.marked ≡ self.old.marked }
         ensures err { OnErr result (self.new ≡ self.old) }
     {
-        let Some(place) = self.entries.get_index_of(name) else {
-            return Ok(());
-        };
-        self.started.push(place)?;
-        self.entries[place].started = Some(id);
+        if let Some(held) = &mut self.held {
+            return held.start(name, id);
+        }
         Ok(())
     }
 
     /// Takes the name out.
-    #[tactic(auto, using(crate::proofs::PlaceLemmas::without_first))]
     pub(crate) fn remove(&mut self, name: &Name) -> Result<(), AllocError>
         ensures current { OnOk result (self.new.current ≡ without name.now self.old.current) }
         ensures marked { self.new.marked ≡ self.old.marked }
         ensures err { OnErr result (self.new ≡ self.old) }
     {
-        if self.kept.is_none() {
-            let mut kept = self.entries.clone()?;
-            go_back(&mut kept, self.count, self.started.as_slice());
-            self.kept = Some(kept);
+        if let Some(held) = &mut self.held {
+            return held.remove(name);
         }
-        self.entries.shift_remove(name);
         Ok(())
     }
 
-    /// Makes what is pending now the mark.
+    /// Makes what is pending now the mark. Where nothing is, the memory is given back.
     pub(crate) fn mark(&mut self)
         ensures current { self.new.current ≡ self.old.current }
         ensures marked { self.new.marked ≡ self.old.current }
     {
-        self.count = self.entries.len();
-        self.started.clear();
-        self.kept = None;
+        if self.len() == 0 {
+            self.held = None;
+            return;
+        }
+        if let Some(held) = &mut self.held {
+            held.mark();
+        }
     }
 
     /// Goes back to the mark.
@@ -168,45 +133,44 @@ impl Pendings {
         ensures current { self.new.current ≡ self.old.marked }
         ensures marked { self.new.marked ≡ self.old.marked }
     {
-        match self.kept.take() {
-            Some(kept) => self.entries = kept,
-            None => go_back(&mut self.entries, self.count, self.started.as_slice()),
+        if let Some(held) = &mut self.held {
+            held.revert();
         }
-        self.count = self.entries.len();
-        self.started.clear();
     }
 
     /// How many names are pending.
     pub(crate) fn len(&self) -> usize
         ensures { result ≡ length self.now.current }
     {
-        self.entries.len()
+        match &self.held {
+            None => 0,
+            Some(held) => held.len(),
+        }
     }
 
     /// What is pending at a place in the order of scheduling.
     pub(crate) fn at(&self, place: usize) -> Option<Pending>
         ensures { result ≡ slice_get (values_of self.now.current) place }
     {
-        let (_, pending) = self.entries.get_index(place)?;
-        Some(*pending)
+        match &self.held {
+            None => None,
+            Some(held) => held.at(place),
+        }
     }
 
     /// The same names, pending as they are now.
     pub(crate) fn try_copy(&self) -> Result<Pendings, AllocError>
         ensures { IfOk result (λ copy. copy.current ≡ self.now.current) }
     {
-        let entries = self.entries.clone()?;
-        let count = entries.len();
-        Ok(Pendings {
-            entries,
-            count,
-            started: Vec::new(*self.entries.allocator()),
-            kept: None,
-        })
+        let mut copy = Pendings::new(self.alloc);
+        if let Some(held) = &self.held {
+            copy.held = Some(Box::new(self.alloc, held.try_copy()?)?);
+        }
+        Ok(copy)
     }
 
     /// What its memory comes from.
     pub(crate) fn allocator(&self) -> Global {
-        *self.entries.allocator()
+        self.alloc
     }
 }

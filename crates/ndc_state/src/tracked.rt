@@ -66,7 +66,7 @@ fn is_waiting(pending: Option<Pending>) -> bool
 }
 
 /// Whether something is pending and started.
-fn is_started(pending: Option<Pending>) -> bool
+pub(crate) fn is_started(pending: Option<Pending>) -> bool
     ensures { result ≡ is_started pending }
 {
     match pending {

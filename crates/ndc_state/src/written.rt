@@ -1,8 +1,7 @@
 ghost use Rattle.std.specs.Prelude.{◌≡◌, IfOk, codes};
-ghost use Rattle.ndc_state.specs.Pendings.{is_started};
 
-use crate::pendings::Pending;
 use crate::state::State;
+use crate::tracked::is_started;
 use ndc_event::{EventKind, Name, NameError};
 use std::alloc::{AllocError, Global};
 
@@ -46,16 +45,6 @@ impl State {
             kinds.push(EventKind::DecisionTaskScheduled)?;
         }
         Ok(())
-    }
-}
-
-/// Whether a decision is started.
-fn is_started(decision: Option<Pending>) -> bool
-    ensures { result ≡ is_started decision }
-{
-    match decision {
-        None => false,
-        Some(pending) => pending.started.is_some(),
     }
 }
 

@@ -1,4 +1,6 @@
-pub mod MapLemmas
+pub mod SortedLemmas
+pub mod KeyPlaces
+pub mod SegmentLemmas
 pub mod GrowLemmas
 pub mod EventLemmas
 pub mod FitLemmas
@@ -7,4 +9,3 @@ pub mod PathLemmas
 pub mod LastLemmas
 pub mod VersionLemmas
 pub mod ReadingLemmas
-pub mod NotedLemmas

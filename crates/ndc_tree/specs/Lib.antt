@@ -2,6 +2,7 @@ pub mod Tree
 pub mod Fitting
 pub mod Tips
 pub mod Inserting
-pub mod Fields
+pub mod Sorted
+pub mod Places
+pub mod Segments
 pub mod TreeFields
-pub mod Noted

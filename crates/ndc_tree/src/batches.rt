@@ -1,12 +1,25 @@
+ghost use Rattle.std.specs.Prelude.{◌≡◌, ◌<◌, ◌≤◌, IfOk, IfErr, length, drop, slice_get};
+ghost use Rattle.std.specs.Option.{option_copied};
+ghost use Rattle.ndc_tree.specs.Sorted.{Hits, Parts};
+ghost use Rattle.ndc_tree.specs.Segments.{AreSegments, against, flat};
+
+use crate::chain::Chain;
+use crate::sorted::put;
 use ndc_event::{Batch, BatchKey};
 use std::alloc::{AllocError, Global};
-use std::collections::BTreeMap;
 use std::marker::Model;
 
-/// Batches that are found by key. Seen as their list in key order.
+/// The batches of one version.
+#[derive(Drop)]
+pub(crate) struct Segment {
+    version: u64,
+    chain: Chain,
+}
+
+/// Batches that are found by key, with a segment for each of their versions. Seen as their list in key order.
 #[derive(Drop)]
 pub(crate) struct Batches {
-    map: BTreeMap<BatchKey, Batch>,
+    segments: Vec<Segment>,
 }
 
 impl Model for Batches {
@@ -15,11 +28,36 @@ impl Model for Batches {
 
     ghost Value = { List Batch };
 
-    ghost use Rattle.ndc_tree.specs.Fields.{batches_of, StandUnderKeys};
+    ghost use Rattle.ndc_tree.specs.Segments.{flat, AreSegments};
 
-    ghost view = { batches_of };
+    ghost view = { λ batches. flat batches.segments.items };
 
-    ghost invariant = { StandUnderKeys };
+    ghost invariant = { λ batches. AreSegments batches.segments.items };
+}
+
+/// Where the segment of the version stands, or where it would go. It is looked for at the hinted place first.
+fn place_of(segments: &[Segment], version: u64, hint: usize) -> Result<usize, usize>
+    requires { AreSegments segments.now }
+    ensures found { IfOk result (Hits (against version) segments.now) }
+    ensures in_range { IfOk result (λ place. place < length segments.now) }
+    ensures absent { IfErr result (Parts (against version) segments.now) }
+    ensures in_gap { IfErr result (λ place. place ≤ length segments.now) }
+{
+    if hint < segments.len() && segments[hint].version == version {
+        return Ok(hint);
+    }
+    segments.binary_search_by(|segment| segment.version.cmp(&version))
+}
+
+/// The first batch of the segment at the place, where there is one.
+fn first_at(segments: &[Segment], place: usize) -> Option<&Batch>
+    requires { AreSegments segments.now }
+    ensures { option_copied result ≡ slice_get (flat (drop place segments.now)) 0 }
+{
+    if segments.len() <= place {
+        return None;
+    }
+    segments[place].chain.first()
 }
 
 impl Batches {
@@ -33,7 +71,20 @@ impl Batches {
         ensures { result ≡ [] }
     {
         Batches {
-            map: BTreeMap::new(alloc),
+            segments: Vec::new(alloc),
+        }
+    }
+
+    /// The place of the last segment, 0 where there is none.
+    pub(crate) fn last_place(&self) -> usize {
+        self.segments.len().saturating_sub(1)
+    }
+
+    /// Where the segment of the version stands, or would go. It is looked for at the hinted place first.
+    pub(crate) fn place_near(&self, version: u64, hint: usize) -> usize {
+        match place_of(self.segments.as_slice(), version, hint) {
+            Ok(place) => place,
+            Err(place) => place,
         }
     }
 
@@ -41,39 +92,69 @@ impl Batches {
     pub(crate) fn get(&self, key: BatchKey) -> Option<&Batch>
         ensures { option_copied result ≡ batch_at key self.now }
     {
-        self.map.get(&key)
+        self.get_near(key, self.last_place())
+    }
+
+    /// The batch of this key, whose segment is looked for at the hinted place first.
+    pub(crate) fn get_near(&self, key: BatchKey, hint: usize) -> Option<&Batch>
+        ensures { option_copied result ≡ batch_at key self.now }
+    {
+        match place_of(self.segments.as_slice(), key.version, hint) {
+            Ok(place) => self.segments[place].chain.get(key),
+            Err(_) => None,
+        }
     }
 
     /// Whether there is no batch.
     pub(crate) fn is_empty(&self) -> bool
         ensures { result ≡ is_nil self.now }
     {
-        self.map.is_empty()
+        self.segments.as_slice().is_empty()
     }
 
     /// The first batch whose key is not before this one.
     pub(crate) fn first_from(&self, key: BatchKey) -> Option<&Batch>
         ensures { option_copied result ≡ first_from key self.now }
     {
-        let (_, batch) = self.map.range(key..).next()?;
-        Some(batch)
+        self.first_near(key, self.last_place())
+    }
+
+    /// The first batch whose key is not before this one. The segment of the key's version is looked for at the hinted
+    /// place first.
+    pub(crate) fn first_near(&self, key: BatchKey, hint: usize) -> Option<&Batch>
+        ensures { option_copied result ≡ first_from key self.now }
+    {
+        let segments = self.segments.as_slice();
+        match place_of(segments, key.version, hint) {
+            Ok(place) => match segments[place].chain.first_from(key) {
+                Some(batch) => Some(batch),
+                None => first_at(segments, place + 1),
+            },
+            Err(place) => first_at(segments, place),
+        }
     }
 
     /// The last batch.
     pub(crate) fn last(&self) -> Option<&Batch>
         ensures { option_copied result ≡ last_batch self.now }
     {
-        let (_, batch) = self.map.last_key_value()?;
-        Some(batch)
+        let segment = self.segments.last()?;
+        segment.chain.last()
     }
 
-    /// Puts the batch, whose key is new, to its place.
+    /// Puts the batch to its place, where none of its key is there.
     pub(crate) fn insert(&mut self, batch: Batch) -> Result<(), AllocError>
-        requires { batch_at batch.key self.old ≡ None }
         ensures ok { OnOk result (self.new ≡ arrived batch self.old) }
         ensures err { OnErr result (self.new ≡ self.old) }
     {
-        self.map.insert(batch.key, batch)?;
-        Ok(())
+        let version = batch.key.version;
+        let hint = self.last_place();
+        match place_of(self.segments.as_slice(), version, hint) {
+            Ok(place) => self.segments[place].chain.insert(batch),
+            Err(place) => {
+                let chain = Chain::of(*self.segments.allocator(), batch)?;
+                put(&mut self.segments, place, Segment { version, chain })
+            }
+        }
     }
 }

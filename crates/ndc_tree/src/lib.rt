@@ -3,7 +3,9 @@
 
 mod answer;
 mod batches;
+mod chain;
 pub mod laws;
+mod sorted;
 mod tips;
 mod tree;
 

@@ -1,12 +1,16 @@
+ghost use Rattle.std.specs.Prelude.{◌≡◌, IfOk, IfErr};
+ghost use Rattle.ndc_tree.specs.Sorted.{InOrder};
+ghost use Rattle.ndc_tree.specs.Places.{key_before, IsKeyAt, IsKeyGap};
+
+use crate::sorted::put;
 use ndc_event::BatchKey;
 use std::alloc::{AllocError, Global};
-use std::collections::BTreeSet;
 use std::marker::Model;
 
 /// The keys of tips. Seen as their list, ascending.
 #[derive(Drop)]
 pub(crate) struct Tips {
-    keys: BTreeSet<BatchKey>,
+    keys: Vec<BatchKey>,
 }
 
 impl Model for Tips {
@@ -15,7 +19,21 @@ impl Model for Tips {
 
     ghost Value = { List BatchKey };
 
-    ghost view = { λ tips. tips.keys.keys };
+    ghost use Rattle.ndc_tree.specs.Sorted.{InOrder};
+    ghost use Rattle.ndc_tree.specs.Places.{key_before};
+
+    ghost view = { λ tips. tips.keys.items };
+
+    ghost invariant = { λ tips. InOrder key_before tips.keys.items };
+}
+
+/// Where the key stands, or where it would go.
+fn place_of(keys: &[BatchKey], key: BatchKey) -> Result<usize, usize>
+    requires { InOrder key_before keys.now }
+    ensures found { IfOk result (IsKeyAt keys.now key) }
+    ensures absent { IfErr result (IsKeyGap keys.now key) }
+{
+    keys.binary_search_by(|other| other.cmp(&key))
 }
 
 impl Tips {
@@ -28,7 +46,7 @@ impl Tips {
         ensures { result ≡ [] }
     {
         Tips {
-            keys: BTreeSet::new(alloc),
+            keys: Vec::new(alloc),
         }
     }
 
@@ -36,7 +54,7 @@ impl Tips {
     pub(crate) fn has(&self, key: BatchKey) -> bool
         ensures { result ≡ is_key_among key self.now }
     {
-        self.keys.contains(&key)
+        place_of(self.keys.as_slice(), key).is_ok()
     }
 
     /// Puts the key to its place, where it is not there.
@@ -44,15 +62,19 @@ impl Tips {
         ensures ok { OnOk result (self.new ≡ with_key key self.old) }
         ensures err { OnErr result (self.new ≡ self.old) }
     {
-        self.keys.insert(key)?;
-        Ok(())
+        match place_of(self.keys.as_slice(), key) {
+            Ok(_) => Ok(()),
+            Err(place) => put(&mut self.keys, place, key),
+        }
     }
 
     /// Takes the key out, where it is there.
     pub(crate) fn take(&mut self, key: BatchKey)
         ensures { self.new ≡ without_key key self.old }
     {
-        self.keys.remove(&key);
+        if let Ok(place) = place_of(self.keys.as_slice(), key) {
+            self.keys.remove(place);
+        }
     }
 
     /// Takes the parent out, where there is one.

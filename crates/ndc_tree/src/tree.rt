@@ -20,10 +20,6 @@ pub struct Tree {
     run: RunId,
     batches: Batches,
     tips: Tips,
-    /// The batch whose path's version history is noted: the last one, where memory allowed.
-    noted_to: Option<BatchKey>,
-    /// The items of that history.
-    noted: Vec<Item>,
 }
 
 impl Model for Tree {
@@ -44,8 +40,6 @@ impl Drop for Tree {
             run: _run,
             batches: _batches,
             tips: _tips,
-            noted_to: _noted_to,
-            noted: _noted,
         } = self;
     }
 }
@@ -67,7 +61,6 @@ impl Tree {
     ghost use Rattle.ndc_model_sets.specs.Paths.{path_to};
     ghost use Rattle.ndc_history.specs.History.{rises};
     ghost use Rattle.ndc_tree.specs.Inserting.{end_of};
-    ghost use Rattle.ndc_tree.specs.Noted.{BeginsEach, IsNoted};
     ghost use Rattle.ndc_model_sets.specs.Reading.{current_key, path_at, path_keys, history_at, elder_of, items_of, named};
 
     /// The tree of a run without a batch.
@@ -78,8 +71,6 @@ impl Tree {
             run,
             batches: Batches::new(alloc),
             tips: Tips::new(alloc),
-            noted_to: None,
-            noted: Vec::new(alloc),
         }
     }
 
@@ -143,20 +134,8 @@ impl Tree {
     }
 
     /// Takes in a batch that joins the tree, as [`Tree::judge`] tells where it neither refuses nor knows it. For want
-    /// of memory the tree is as it was. In time of the logarithm of its batches, of the batch's copy, and of the versions
-    /// on its path.
+    /// of memory the tree is as it was. In time of the logarithm of its batches, and of the batch's copy.
     pub fn join(&mut self, batch: &Batch) -> Result<(), AllocError>
-        requires { Joins self.old.run self.old.batches batch.now }
-        ensures ok { OnOk result (self.new ≡ record self.old { batches = arrived batch.now self.old.batches }) }
-        ensures err { OnErr result (self.new ≡ self.old) }
-    {
-        self.take_in(batch)?;
-        self.note(batch.key);
-        Ok(())
-    }
-
-    /// Takes in a batch that joins the tree.
-    fn take_in(&mut self, batch: &Batch) -> Result<(), AllocError>
         requires { Joins self.old.run self.old.batches batch.now }
         ensures ok { OnOk result (self.new ≡ record self.old { batches = arrived batch.now self.old.batches }) }
         ensures err { OnErr result (self.new ≡ self.old) }
@@ -172,30 +151,6 @@ impl Tree {
                 self.tips.take(batch.key);
                 Err(error)
             }
-        }
-    }
-
-    /// Notes the version history of the path to the batch of this key, where it is the last one and memory allows.
-    fn note(&mut self, key: BatchKey)
-        ensures { self.new ≡ self.old }
-    {
-        if let Some(items) = self.items_to_last(key) {
-            self.noted = items;
-            self.noted_to = Some(key);
-        }
-    }
-
-    /// The items of the version history of the path to the last batch, where its key is this one and memory allows.
-    fn items_to_last(&self, key: BatchKey) -> Option<Vec<Item>>
-        ensures { IfSome result (λ items. IsNoted self.now.batches (Some key) items.items) }
-    {
-        let last = self.batches.last()?;
-        if last.key != key {
-            return None;
-        }
-        match self.items_to(*self.noted.allocator(), last) {
-            Ok(items) => Some(items),
-            Err(_) => None,
         }
     }
 
@@ -241,8 +196,8 @@ impl Tree {
     }
 
     /// The version history of the path to the batch of this key; none exactly where it is not there. In time of the
-    /// versions on the path, with two look-ups where the batch's version, or that before it, is on the path to the last
-    /// batch, and else two for each version.
+    /// versions on the path, with a look-up in each, and one for the version where it is not the one just below in the
+    /// tree.
     pub fn history_of(
         &self,
         alloc: Global,
@@ -274,90 +229,53 @@ impl Tree {
         Ok(path)
     }
 
-    /// The items of the path's version history to this batch, in order.
+    /// The items of the path's version history to this batch, in order: from version to version upwards. The place of
+    /// a version's segment is most often that before the last one's.
     fn items_to(&self, alloc: Global, batch: &Batch) -> Result<Vec<Item>, AllocError>
-        requires { Has self.now.batches batch.now }
-        ensures items { IfOk result (λ list. list.items ≡ items_of (Some batch.now) self.now.batches) }
-        ensures rise { IfOk result (λ list. IsTrue (rises list.items)) }
-    {
-        match self.items_by_noted(alloc, batch)? {
-            Some(items) => Ok(items),
-            None => self.items_by_walk(alloc, batch),
-        }
-    }
-
-    /// The same by going from version to version.
-    fn items_by_walk(&self, alloc: Global, batch: &Batch) -> Result<Vec<Item>, AllocError>
         requires { Has self.now.batches batch.now }
         ensures items { IfOk result (λ list. list.items ≡ items_of (Some batch.now) self.now.batches) }
         ensures rise { IfOk result (λ list. IsTrue (rises list.items)) }
     {
         let mut items = Vec::new(alloc);
         let mut next = self.batches.get(batch.key);
+        let mut place = self.batches.last_place();
         while let Some(one) = next {
+            place = self.batches.place_near(one.key.version, place);
             items.push(end_of(Some(one)))?;
-            next = self.elder(one);
+            next = self.elder(one, place);
+            place = place.saturating_sub(1);
         }
         items.reverse();
         Ok(items)
     }
 
-    /// The same by the history that is noted, where this has the batch's version, or that before it.
-    fn items_by_noted(&self, alloc: Global, batch: &Batch) -> Result<Option<Vec<Item>>, AllocError>
-        requires { Has self.now.batches batch.now }
-        ensures items { IfOk result (λ found. IfSome found (λ list. list.items ≡ items_of (Some batch.now) self.now.batches)) }
-        ensures rise { IfOk result (λ found. IfSome found (λ list. IsTrue (rises list.items))) }
-    {
-        if self.noted.is_empty() {
-            return Ok(None);
-        }
-        if let Some(front) = self.noted_before(batch.key.version) {
-            let items = with_end(alloc, front, end_of(Some(batch)))?;
-            return Ok(Some(items));
-        }
-        let Some(elder) = self.elder(batch) else {
-            return Ok(None);
-        };
-        let Some(front) = self.noted_before(elder.key.version) else {
-            return Ok(None);
-        };
-        let mut items = with_end(alloc, front, end_of(Some(elder)))?;
-        items.push(end_of(Some(batch)))?;
-        Ok(Some(items))
-    }
-
-    /// The items of the noted history before that of this version, where it has one.
-    fn noted_before(&self, version: u64) -> Option<&[Item]>
-        ensures { IfSome result (λ front. BeginsEach front.now version self.now.batches) }
-    {
-        let items = self.noted.as_slice();
-        let place = items.partition_point(|item| item.version < version);
-        let (front, rest) = items.split_at(place);
-        match rest.first() {
-            Some(item) if item.version == version => Some(front),
-            _ => None,
-        }
-    }
-
     /// The last batch of a smaller version on the path to this one, where there is one: the parent of the first batch
-    /// of its version.
-    fn elder(&self, batch: &Batch) -> Option<&Batch>
+    /// of its version. The segment of its version is looked for at the place first, and the elder's at the one before.
+    fn elder(&self, batch: &Batch, place: usize) -> Option<&Batch>
         ensures { option_copied result ≡ elder_of batch.now self.now.batches }
     {
         let start = BatchKey {
             version: batch.key.version,
             task: 0,
         };
-        self.named(parent_of(self.batches.first_from(start)))
+        let key = parent_of(self.batches.first_near(start, place));
+        self.named_near(key, place.saturating_sub(1))
     }
 
     /// The batch of the key, where there is one.
     fn named(&self, key: Option<BatchKey>) -> Option<&Batch>
         ensures { option_copied result ≡ named key self.now.batches }
     {
+        self.named_near(key, self.batches.last_place())
+    }
+
+    /// The batch of the key, where there is one. The segment of its version is looked for at the hinted place first.
+    fn named_near(&self, key: Option<BatchKey>, hint: usize) -> Option<&Batch>
+        ensures { option_copied result ≡ named key self.now.batches }
+    {
         match key {
             None => None,
-            Some(key) => self.batches.get(key),
+            Some(key) => self.batches.get_near(key, hint),
         }
     }
 
@@ -526,16 +444,6 @@ fn keys_of(alloc: Global, batches: &[&Batch]) -> Result<Vec<BatchKey>, AllocErro
     ensures { IfOk result (λ keys. keys.items ≡ map (λ b. b.now.key) batches.now) }
 {
     batches.iter().map(|batch| batch.key).collect(alloc)
-}
-
-/// The items, and one more.
-fn with_end(alloc: Global, front: &[Item], end: Item) -> Result<Vec<Item>, AllocError>
-    ensures { IfOk result (λ list. list.items ≡ front.now ++ end ∷ []) }
-{
-    let mut items = Vec::new(alloc);
-    items.extend_from_slice(front)?;
-    items.push(end)?;
-    Ok(items)
 }
 
 /// The version history of these items.

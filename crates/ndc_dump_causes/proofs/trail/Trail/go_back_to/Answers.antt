@@ -1,7 +1,7 @@
 use Rattle.std.proofs.Common.{take, sym, ◌∙◌, subst}
 use Rattle.ndc_event.specs.Key.{key_eq}
 use Rattle.ndc_model_sets.proofs.KeyLemmas.{same-keys}
-use Rattle.ndc_tree.proofs.NotedLemmas.{sure}
+use Rattle.std.proofs.lemmas.Bool.{not-false}
 use Rattle.ndc_dump_causes.specs.Trails.{AreOpen, IsListed, IsTrail}
 use Rattle.ndc_dump_causes.proofs.TrailLemmas.{open-back, open-last, open-take}
 use Rattle.ndc_dump_causes.proofs.trail.Trail.go_back_to.Goals as goal
@@ -21,7 +21,7 @@ returns-clause-trail c =
 
 pub returns-clause-at : goal.returns-clause-at
 returns-clause-at c = λ _.
-    subst (IsListed c.args.batches.now c.truncate-2.new.self.keys) (same-keys c.in-Some.last.key c.args.key (sure (key_eq c.in-Some.last.key c.args.key) c.if-ne.ensures))
+    subst (IsListed c.args.batches.now c.truncate-2.new.self.keys) (same-keys c.in-Some.last.key c.args.key (not-false (key_eq c.in-Some.last.key c.args.key) (sym c.if-ne.ensures)))
     (subst (λ l. IsListed c.args.batches.now l c.in-Some.last.key) (sym c.truncate-2.ensures.keys)
     (open-last c.args.batches.now c.self.inside.origins.keys 0 c.pop.new.self.items c.in-Some.last
     (subst (AreOpen c.args.batches.now c.self.inside.origins.keys 0) (sym c.truncate.ensures.items ∙ c.in-Some.ensures.items)

@@ -1,0 +1,24 @@
+use Rattle.std.proofs.Common.{◌∙◌, sym, subst, IsTrue, Option, Some, List}
+use Rattle.ndc_event.specs.declared.name.Name.{Name}
+use Rattle.ndc_state.specs.Marked.{Marked}
+use Rattle.ndc_state.specs.declared.pendings.Pending.{Pending}
+use Rattle.ndc_state.specs.Pendings.{is_waiting, pending_of}
+use Rattle.ndc_state.proofs.PlaceLemmas.{with_started-at, marked_of-started, IsCountWithin-started}
+use Rattle.ndc_state.proofs.held.Held.start.Goals as goal
+
+pub invariant_of-self-2 : goal.invariant_of-self-2
+invariant_of-self-2 c =
+    IsCountWithin-started c.self.inside.kept c.self.inside.count c.self.inside.entries.entries c.in-Some.place _ c.self.invariant
+
+pub returns-clause-current : goal.returns-clause-current
+returns-clause-current c =
+    rw (← c.self.view_is)
+    (with_started-at c.args.name.now c.args.id c.self.inside.entries.entries c.in-Some.place c.index_mut.result.now c.index_mut.ensures.value (sym c.in-Some.ensures.index))
+
+-- the entry waited, so the mark has it unstarted
+pub returns-clause-marked : goal.returns-clause-marked
+returns-clause-marked c =
+    let waiting : IsTrue (is_waiting (Some c.index_mut.result.now)) =
+    subst (λ (p : Option Pending). IsTrue (is_waiting p)) (sym c.in-Some.ensures.value ∙ c.index_mut.ensures.value) (subst (λ (v : Marked (List (Name × Pending))). IsTrue (is_waiting (pending_of c.args.name.now v.current))) (sym c.self.view_is) c.requires) in
+    rw (c.in_ok-push.ensures.items, ← c.self.view_is)
+    (marked_of-started c.self.inside.kept c.self.inside.count c.args.id c.self.inside.started.items c.self.inside.entries.entries c.in-Some.place c.index_mut.result.now c.index_mut.ensures.value waiting)
