@@ -1,6 +1,6 @@
 -- Paths of batches: their events, the steps that they take, and the last that is kept.
-use Rattle.std.proofs.Common.{◌≡◌, ℕ, ◌+◌, ◌-◌, ◌<◌, ◌≤◌, ◌^◌, List, [], ◌∷◌, ◌++◌, true, length, take, drop, get_or, None, Some, Result, Ok, Err, refl, ap, sym, ◌∙◌, subst, append_assoc, arith, add-one, length-append, length-drop, All, Bool, false, if◌then◌else◌}
-use Rattle.std.proofs.lemmas.List.{take-append-drop, take_more, get_or-drop}
+use Rattle.std.proofs.Common.{◌≡◌, ℕ, zero, suc, map, ◌+◌, ◌-◌, ◌<◌, ◌≤◌, ◌^◌, List, [], ◌∷◌, ◌++◌, true, length, take, drop, get_or, None, Some, Result, Ok, Err, refl, ap, sym, ◌∙◌, subst, append_assoc, arith, add-one, length-append, length-drop, All, Bool, false, if◌then◌else◌}
+use Rattle.std.proofs.lemmas.List.{take-append-drop, take_more, get_or-drop, length-map}
 use Rattle.std.proofs.Math.Seq.{drop-cons}
 use Rattle.ndc_event.specs.declared.batch.Batch.{Batch}
 use Rattle.ndc_event.specs.declared.batch.Event.{Event}
@@ -66,6 +66,31 @@ allowed_count-front s (e ∷ xs) ys = by (applied s e) (λ t. allowed_count-fron
 -- the events of the batches from a place on
 pub history_of-drop : (xs : List Batch) (i : ℕ) (x : Batch) → i < length xs → x ≡ get_or xs i x → history_of (drop i xs) ≡ x.events ++ history_of (drop (i + 1) xs)
 history_of-drop xs i x lt at = rw (drop-cons xs i x lt, ← at, add-one i) refl
+
+-- batches that are lent, as the batches
+module _ {R : Type 0} (f : R → Batch) where
+  pub lent-at : (xs : List R) (i : ℕ) (x : R) → x ≡ get_or xs i x → f x ≡ get_or (map f xs) i (f x)
+  lent-at [] i x at = refl
+  lent-at (y ∷ ys) zero x at = ap f at
+  lent-at (y ∷ ys) (suc i) x at = lent-at ys i x at
+
+  pub lent-drop : (xs : List R) (i : ℕ) (x : R) → i < length xs → x ≡ get_or xs i x → history_of (drop i (map f xs)) ≡ (f x).events ++ history_of (drop (i + 1) (map f xs))
+  lent-drop xs i x lt at = history_of-drop (map f xs) i (f x) (omega (arith, lt, length-map xs f)) (lent-at xs i x at)
+
+  pub lent-ids : (xs : List R) (i : ℕ) (x : R) → HaveSmallIds (map f xs) → i < length xs → x ≡ get_or xs i x → All (λ event. event.id ≤ 10 ^ 12) (f x).events
+  lent-ids xs i x ids lt at =
+      subst (λ (b : Batch). All (λ event. event.id ≤ 10 ^ 12) b.events) (sym (lent-at xs i x at)) (ids i (f x) (omega (arith, lt, length-map xs f)))
+
+  -- where the batch before a place is not kept, and none from it on, none from the batch on is
+  pub lent-none : (states : List (BatchKey × StateValue)) (xs : List R) (count : ℕ) (x : R) → 0 < count → count ≤ length xs → x ≡ get_or xs (count - 1) x
+      → kept_at (f x).key states ≡ None → last_kept states (drop count (map f xs)) ≡ None → last_kept states (drop (count - 1) (map f xs)) ≡ None
+  lent-none states xs count x some within at here none =
+      let ys = map f xs in
+      let one : suc (count - 1) ≡ count = omega (arith, some) in
+      let cut : drop (count - 1) ys ≡ f x ∷ drop count ys =
+      drop-cons ys (count - 1) (f x) (omega (arith, some, within, length-map xs f)) ∙ ap (λ b. b ∷ drop (suc (count - 1)) ys) (sym (lent-at xs (count - 1) x at))
+      ∙ ap (λ n. f x ∷ drop n ys) one in
+      ap (last_kept states) cut ∙ ap (λ o. or_earlier o (behind_kept (drop count ys) (kept_at (f x).key states))) none ∙ ap (behind_kept (drop count ys)) here
 
 -- how far a replay has come: the steps done, and how many events and allowed events there are in all
 pub record Counts (before now : ℕ) (s : StateValue) (rest : List Event) (total most : ℕ) : Type 0 where

@@ -1,8 +1,8 @@
-ghost use Rattle.std.specs.Prelude.{◌≡◌, IfOk};
+ghost use Rattle.std.specs.Prelude.{◌≡◌, map, IfOk};
 ghost use Rattle.ndc_state.specs.Replay.{history_of, collected};
 ghost use Rattle.ndc_rebuild.specs.Kept.{reaches};
 
-use crate::replay::{rebuild, replay_batches};
+use crate::replay::{lent, rebuild_along, replay_batches};
 use indexmap::IndexMap;
 use ndc_event::{Batch, BatchKey, RunId};
 use ndc_state::{State, StateError, Steps, Tracked};
@@ -37,7 +37,7 @@ impl Drop for Checkpoints {
 }
 
 impl Checkpoints {
-    ghost use Rattle.std.specs.Prelude.{◌≡◌, [], None, length, OnOk, OnErr, MatchOption};
+    ghost use Rattle.std.specs.Prelude.{◌≡◌, [], None, length, map, OnOk, OnErr, MatchOption};
     ghost use Rattle.std.specs.Option.{option_copied};
     ghost use Rattle.ndc_event.specs.Outcome.{Gives};
     ghost use Rattle.ndc_state.specs.declared.rule.StateError.TheVariants.{Memory};
@@ -100,7 +100,7 @@ impl Checkpoints {
         self.states.shift_remove(&tip);
     }
 
-    /// The state of a path of this run, as [`rebuild`] gives it, with a step for each event behind the last
+    /// The state of a path of this run, as [`rebuild`](crate::rebuild) gives it, with a step for each event behind the last
     /// batch of the path that is kept. Refused with [`StateError::Invalid`] for the first event that is
     /// forbidden, with its first rule.
     pub fn restore<L>(&self, path: &[Batch], steps: &mut Steps<L>) -> Result<State, StateError>
@@ -110,9 +110,25 @@ impl Checkpoints {
         ensures ok_steps { OnOk result (steps.new ≡ counted steps.old (length (events_behind self.now.states path.now))) }
         ensures most_steps { CountsWithin steps.old (length (events_behind self.now.states path.now)) steps.new }
     {
+        let lent = lent(*self.states.allocator(), path)?;
+        self.restore_along(lent.as_slice(), steps)
+    }
+
+    /// Does what [`Checkpoints::restore`] does, for a path of batches that are lent: none of them is copied.
+    pub fn restore_along<L>(
+        &self,
+        path: &[&Batch],
+        steps: &mut Steps<L>,
+    ) -> Result<State, StateError>
+        requires ids { HaveSmallIds (map (λ b. b.now) path.now) }
+        requires kept { FitsPath self.now (map (λ b. b.now) path.now) }
+        ensures answer { Gives Memory (λ state. state) result (replay_of self.now.run (history_of (map (λ b. b.now) path.now))) }
+        ensures ok_steps { OnOk result (steps.new ≡ counted steps.old (length (events_behind self.now.states (map (λ b. b.now) path.now)))) }
+        ensures most_steps { CountsWithin steps.old (length (events_behind self.now.states (map (λ b. b.now) path.now))) steps.new }
+    {
         let (count, kept) = match self.last_kept(path) {
             Some(found) => found,
-            None => return rebuild(*self.states.allocator(), self.run, path, steps),
+            None => return rebuild_along(*self.states.allocator(), self.run, path, steps),
         };
         let (front, behind) = path.split_at(count);
         let mut state = refilled(kept, front)?;
@@ -130,15 +146,15 @@ impl Checkpoints {
     }
 
     /// How many batches of the path there are up to the last one that is kept, with what is kept for it.
-    fn last_kept(&self, path: &[Batch]) -> Option<(usize, &State)>
-        ensures { MatchOption result (last_kept self.now.states path.now ≡ None) (λ found. IsFoundAt self.now.states path.now found.0 found.1.now) }
+    fn last_kept(&self, path: &[&Batch]) -> Option<(usize, &State)>
+        ensures { MatchOption result (last_kept self.now.states (map (λ b. b.now) path.now) ≡ None) (λ found. IsFoundAt self.now.states (map (λ b. b.now) path.now) found.0 found.1.now) }
     {
         let mut count = path.len();
         while count > 0 {
-            if let Some(state) = self.kept(path[count - 1].key) {
-                return Some((count, state));
+            match self.kept(path[count - 1].key) {
+                Some(state) => return Some((count, state)),
+                None => count -= 1,
             }
-            count -= 1;
         }
         None
     }
@@ -154,8 +170,8 @@ fn reaches(events: u64, next: u64) -> bool
 }
 
 /// A copy of the state, with the origins of the signals in the batches behind those that it lists.
-fn refilled(state: &State, batches: &[Batch]) -> Result<State, AllocError>
-    ensures { IfOk result (λ copy. copy ≡ record state.now { origins = collected state.now.run state.now.origins (history_of batches.now) }) }
+fn refilled(state: &State, batches: &[&Batch]) -> Result<State, AllocError>
+    ensures { IfOk result (λ copy. copy ≡ record state.now { origins = collected state.now.run state.now.origins (history_of (map (λ b. b.now) batches.now)) }) }
 {
     let mut copy = state.try_copy()?;
     for batch in batches {
