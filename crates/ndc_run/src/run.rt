@@ -4,7 +4,7 @@ ghost use Rattle.ndc_model_sets.specs.Keys.{is_key};
 ghost use Rattle.ndc_run.specs.Leading.{leading_of, beside_of};
 
 use crate::answer::{Learned, RunError};
-use crate::growing::{copies, grow};
+use crate::growing::grow;
 use ndc_event::{Batch, BatchKey, RunId};
 use ndc_rebuild::Checkpoints;
 use ndc_state::{State, Steps};
@@ -54,7 +54,7 @@ impl Drop for Run {
 }
 
 impl Run {
-    ghost use Rattle.std.specs.Prelude.{◌≡◌, ◌≢◌, ◌+◌, ◌≤◌, ◌^◌, ◌↔◌, [], All, length, Bool, true, false, None, Some, Ok, Err, is_some, IfOk, IfErr, OnOk, OnErr};
+    ghost use Rattle.std.specs.Prelude.{◌≡◌, ◌≢◌, ◌+◌, ◌≤◌, ◌^◌, ◌↔◌, [], All, length, map, Bool, true, false, None, Some, Ok, Err, is_some, IfOk, IfErr, OnOk, OnErr};
     ghost use Rattle.ndc_event.specs.Batch.{fault_of};
     ghost use Rattle.ndc_event.specs.Outcome.{Gives};
     ghost use Rattle.ndc_event.specs.declared.key.BatchKey.{BatchKey as Key};
@@ -304,20 +304,20 @@ impl Run {
         ensures steps { CountsWithin steps.old 511 steps.new }
     {
         let path = self.path_to(alloc, key)?;
-        match self.kept.restore(path.as_slice(), steps) {
+        match self.kept.restore_along(path.as_slice(), steps) {
             Ok(state) => Ok(state),
             Err(_) => Err(AllocError),
         }
     }
 
-    /// Copies of the batches of the path to the one of this key.
-    fn path_to(&self, alloc: Global, key: BatchKey) -> Result<Vec<Batch>, AllocError>
+    /// The batches of the path to the one of this key.
+    fn path_to(&self, alloc: Global, key: BatchKey) -> Result<Vec<&Batch>, AllocError>
         requires { is_some (batch_at key self.now.batches) ≡ true }
-        ensures { IfOk result (λ path. path.items ≡ path_to key self.now.batches) }
+        ensures { IfOk result (λ path. map (λ b. b.now) path.items ≡ path_to key self.now.batches) }
     {
         match self.tree.path_batches(alloc, key)? {
             None => Ok(Vec::new(alloc)),
-            Some(path) => copies(alloc, path.as_slice()),
+            Some(path) => Ok(path),
         }
     }
 }
