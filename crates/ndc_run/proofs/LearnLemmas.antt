@@ -41,7 +41,7 @@ use Rattle.ndc_run.specs.declared.run.Run.TheInside.{Inside}
 use Rattle.ndc_run.specs.Leading.{leading_of, beside_of}
 use Rattle.ndc_run.specs.Learning.{of_state_error, or_error, state_with, passes_by, joined, is_known, leads_over, current_path, BeginsWith}
 use Rattle.ndc_run.specs.Run.{IsRun, IsKept, state_before}
-use Rattle.ndc_run.specs.RunFields.{IsBeside, IsRunInside}
+use Rattle.ndc_run.specs.RunFields.{AreRunFields, IsBeside, IsRunInside}
 use Rattle.ndc_run.proofs.BehindLemmas.{few-behind}
 use Rattle.ndc_run.proofs.KeptLemmas.{kept-grown, kept-fits, key_eq-flip}
 use Rattle.ndc_run.proofs.StateLemmas.{state-with, parent-found, new-state, old-state, old-there, new-there, grown-run}
@@ -140,9 +140,9 @@ module _ (run : RunId) (batches : List Batch) (new : Batch) (r : IsRun run batch
     after-kept : IsKept run (arrived new batches) after
     after-kept = kept-grown run batches new r j k kept s went after-run own-state after run_is states
 
-    pub inside-extended : (beside : Option Branch) → IsBeside run batches beside → new.parent ≡ current_key run batches → IsRunInside (record { tree = t; state = s; beside = beside; kept = after })
+    pub inside-extended : (beside : Option Branch) → IsBeside run batches beside → new.parent ≡ current_key run batches → AreRunFields t s beside after
     inside-extended beside b tip =
-        subst (λ (v : TreeValue). IsRunInside (record { tree = v; state = s; beside = beside; kept = after })) (sym tree_is)
+        subst (λ (v : TreeValue). AreRunFields v s beside after) (sym tree_is)
         (record {
           run = after-run;
           current = sym own-state ∙ sym (ap (λ o. state_at run o (arrived new batches)) (tip-extended run batches new r.tree j tip));
@@ -151,20 +151,16 @@ module _ (run : RunId) (batches : List Batch) (new : Batch) (r : IsRun run batch
         })
 
     pub inside-beside : (current : StateValue) (parent : BatchKey) → new.parent ≡ Some parent → current ≡ current_state run batches
-        → IsRunInside (record { tree = t; state = leading_of new.key (current_key run batches) s current; beside = Some (beside_of new.key (current_key run batches) s current); kept = after })
+        → AreRunFields t (leading_of new.key (current_key run batches) s current) (Some (beside_of new.key (current_key run batches) s current)) after
     inside-beside current parent named c =
-        subst (λ (v : TreeValue). IsRunInside (record { tree = v; state = leading_of new.key (current_key run batches) s current; beside = Some (beside_of new.key (current_key run batches) s current); kept = after })) (sym tree_is)
+        subst (λ (v : TreeValue). AreRunFields v (leading_of new.key (current_key run batches) s current) (Some (beside_of new.key (current_key run batches) s current)) after) (sym tree_is)
         (by (current_tip run batches) refl)
       where
         there : is_some (batch_at new.key (arrived new batches)) ≡ true
         there = has-some (arrived new batches) new (new-there run batches new r j)
 
-        by : (o : Option Batch) → current_tip run batches ≡ o → IsRunInside (record {
-          tree = record { run = run; batches = arrived new batches };
-          state = leading_of new.key (option_map (λ tip. tip.key) o) s current;
-          beside = Some (beside_of new.key (option_map (λ tip. tip.key) o) s current);
-          kept = after;
-        })
+        by : (o : Option Batch) → current_tip run batches ≡ o → AreRunFields (record { run = run; batches = arrived new batches }) (leading_of new.key (option_map (λ tip. tip.key) o) s current)
+            (Some (beside_of new.key (option_map (λ tip. tip.key) o) s current)) after
         by None e =
             let p = parent-found run batches new r j parent named in
             let empty : batches ≡ [] = none-last batches (sym (current_is_last run batches r.tree) ∙ e) in
@@ -177,12 +173,8 @@ module _ (run : RunId) (batches : List Batch) (new : Batch) (r : IsRun run batch
             mine : current ≡ state_to run m.key (arrived new batches)
             mine = c ∙ ap (λ o. state_at run o batches) e ∙ sym (old-state run batches new r j m has)
 
-            order : (b : Bool) → key_lt m.key new.key ≡ b → IsRunInside (record {
-              tree = record { run = run; batches = arrived new batches };
-              state = if b then s else current;
-              beside = Some (if b then record { tip = m.key; state = current } else record { tip = new.key; state = s });
-              kept = after;
-            })
+            order : (b : Bool) → key_lt m.key new.key ≡ b → AreRunFields (record { run = run; batches = arrived new batches }) (if b then s else current)
+                (Some (if b then record { tip = m.key; state = current } else record { tip = new.key; state = s })) after
             order true l = record {
               run = after-run;
               current = sym own-state ∙ sym (ap (λ o. state_at run o (arrived new batches)) (tip-leads run batches new r.tree j m e l));
@@ -198,17 +190,17 @@ module _ (run : RunId) (batches : List Batch) (new : Batch) (r : IsRun run batch
 
     -- the same, where the tip and the two that are left are given by equations
     pub inside-led : (current led : StateValue) (parent : BatchKey) (tip : Option BatchKey) (beside : Branch) → new.parent ≡ Some parent → current ≡ current_state run batches → tip ≡ current_key run batches
-        → led ≡ leading_of new.key tip s current → beside ≡ beside_of new.key tip s current → IsRunInside (record { tree = t; state = led; beside = Some beside; kept = after })
+        → led ≡ leading_of new.key tip s current → beside ≡ beside_of new.key tip s current → AreRunFields t led (Some beside) after
     inside-led current led parent tip beside named c e f g =
-        subst (λ (x : StateValue). IsRunInside (record { tree = t; state = x; beside = Some beside; kept = after })) (sym (f ∙ ap (λ o. leading_of new.key o s current) e))
-        (subst (λ (x : Branch). IsRunInside (record { tree = t; state = leading_of new.key (current_key run batches) s current; beside = Some x; kept = after })) (sym (g ∙ ap (λ o. beside_of new.key o s current) e))
+        subst (λ (x : StateValue). AreRunFields t x (Some beside) after) (sym (f ∙ ap (λ o. leading_of new.key o s current) e))
+        (subst (λ (x : Branch). AreRunFields t (leading_of new.key (current_key run batches) s current) (Some x) after) (sym (g ∙ ap (λ o. beside_of new.key o s current) e))
         (inside-beside current parent named c))
 
 -- a run whose fields are as they were but for what is held beside
 pub inside-same : (old : Inside) (t : TreeValue) (s : StateValue) (k : Kept) (beside : Option Branch) → IsRunInside old → t ≡ old.tree → s ≡ old.state → k.run ≡ old.kept.run → k.states ≡ old.kept.states
-    → IsBeside old.tree.run old.tree.batches beside → IsRunInside (record { tree = t; state = s; beside = beside; kept = k })
+    → IsBeside old.tree.run old.tree.batches beside → AreRunFields t s beside k
 inside-same old t s k beside inv tree_is state_is run_is states b =
-    subst (λ (v : TreeValue). IsRunInside (record { tree = v; state = s; beside = beside; kept = k })) (sym tree_is)
+    subst (λ (v : TreeValue). AreRunFields v s beside k) (sym tree_is)
     (record {
       run = inv.run;
       current = state_is ∙ inv.current;

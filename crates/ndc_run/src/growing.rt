@@ -1,4 +1,4 @@
-ghost use Rattle.std.specs.Prelude.{◌≡◌, ◌≢◌, ◌≤◌, ◌^◌, All, length, map, Ok, Err, None, IfOk, OnOk, OnErr};
+ghost use Rattle.std.specs.Prelude.{◌≡◌, ◌≢◌, ◌≤◌, ◌^◌, All, length, Ok, Err, None, OnOk, OnErr};
 ghost use Rattle.ndc_event.specs.Outcome.{Gives};
 ghost use Rattle.ndc_rebuild.specs.Kept.{kept_at, with_kept};
 ghost use Rattle.ndc_run.specs.Learning.{of_state_error, or_error};
@@ -13,7 +13,7 @@ use ndc_event::Batch;
 use ndc_rebuild::Checkpoints;
 use ndc_state::{State, Steps, Tracked};
 use ndc_tree::Tree;
-use std::alloc::{AllocError, Global};
+use std::alloc::AllocError;
 
 /// Keeps what is to be kept of the state, which is that of the batch's path, and takes the batch in; for want of
 /// memory both are as they were.
@@ -76,15 +76,4 @@ pub(crate) fn grow<L>(
             Err(RunError::Memory)
         }
     }
-}
-
-/// Copies of the batches.
-pub(crate) fn copies(alloc: Global, batches: &[&Batch]) -> Result<Vec<Batch>, AllocError>
-    ensures { IfOk result (λ list. list.items ≡ map (λ b. b.now) batches.now) }
-{
-    let mut list = Vec::with_capacity(alloc, batches.len())?;
-    for batch in batches {
-        list.push(batch.try_copy()?)?;
-    }
-    Ok(list)
 }

@@ -4,7 +4,7 @@ ghost use Rattle.ndc_model_sets.specs.Keys.{is_key};
 ghost use Rattle.ndc_run.specs.Leading.{leading_of, beside_of};
 
 use crate::answer::{Learned, RunError};
-use crate::growing::{copies, grow};
+use crate::growing::grow;
 use ndc_event::{Batch, BatchKey, RunId};
 use ndc_rebuild::Checkpoints;
 use ndc_state::{State, Steps};
@@ -26,7 +26,7 @@ pub(crate) struct Branch {
 pub struct Run {
     tree: Tree,
     state: State,
-    beside: Option<Branch>,
+    beside: Option<Box<Branch>>,
     kept: Checkpoints,
 }
 
@@ -54,7 +54,7 @@ impl Drop for Run {
 }
 
 impl Run {
-    ghost use Rattle.std.specs.Prelude.{◌≡◌, ◌≢◌, ◌+◌, ◌≤◌, ◌^◌, ◌↔◌, [], All, length, Bool, true, false, None, Some, Ok, Err, is_some, IfOk, IfErr, OnOk, OnErr};
+    ghost use Rattle.std.specs.Prelude.{◌≡◌, ◌≢◌, ◌+◌, ◌≤◌, ◌^◌, ◌↔◌, [], All, length, map, Bool, true, false, None, Some, Ok, Err, is_some, IfOk, IfErr, OnOk, OnErr};
     ghost use Rattle.ndc_event.specs.Batch.{fault_of};
     ghost use Rattle.ndc_event.specs.Outcome.{Gives};
     ghost use Rattle.ndc_event.specs.declared.key.BatchKey.{BatchKey as Key};
@@ -209,34 +209,38 @@ impl Run {
     /// Takes in a batch that goes on from this path, and not from the current branch.
     fn extend_beside<L>(
         &mut self,
-        branch: Branch,
+        mut branch: Box<Branch>,
         batch: &Batch,
         steps: &mut Steps<L>,
     ) -> Result<Learned, RunError>
         requires joins { Joins self.old.run self.old.batches batch.now }
         requires ids { All (λ event. event.id ≤ 10 ^ 12) batch.now.events }
-        requires parent { batch.now.parent ≡ Some branch.tip }
-        requires state { branch.state ≡ state_to self.old.run branch.tip self.old.batches }
-        requires apart { is_key branch.tip (current_key self.old.run self.old.batches) ≡ false }
+        requires parent { batch.now.parent ≡ Some branch.value.tip }
+        requires state { branch.value.state ≡ state_to self.old.run branch.value.tip self.old.batches }
+        requires apart { is_key branch.value.tip (current_key self.old.run self.old.batches) ≡ false }
         ensures answer { Gives Memory (λ done. done) result (joined self.old.run self.old.batches batch.now) }
         ensures new { result ≢ Ok Known }
         ensures grown { OnOk result (self.new ≡ record self.old { batches = arrived batch.now self.old.batches }) }
         ensures err { OnErr result (self.new ≡ self.old) }
         ensures most_steps { CountsWithin steps.old (length batch.now.events) steps.new }
     {
-        let Branch {
-            tip: parent,
-            mut state,
-        } = branch;
         let tip = self.tree.current();
-        match grow(&mut state, &mut self.kept, &mut self.tree, batch, steps) {
+        let held = branch.as_mut();
+        match grow(
+            &mut held.state,
+            &mut self.kept,
+            &mut self.tree,
+            batch,
+            steps,
+        ) {
             Ok(()) => {
                 let switched = leads_over(batch.key, tip);
-                self.beside = Some(lead(&mut self.state, state, batch.key, tip));
+                lead(&mut self.state, held, batch.key, tip);
+                self.beside = Some(branch);
                 Ok(Learned::New { switched })
             }
             Err(error) => {
-                self.beside = Some(Branch { tip: parent, state });
+                self.beside = Some(branch);
                 Err(error)
             }
         }
@@ -249,10 +253,10 @@ impl Run {
         alloc: Global,
         key: BatchKey,
         steps: &mut Steps<L>,
-    ) -> Result<Branch, AllocError>
+    ) -> Result<Box<Branch>, AllocError>
         requires { is_some (batch_at key self.old.batches) ≡ true }
-        ensures tip { IfOk result (λ branch. branch.tip ≡ key) }
-        ensures state { IfOk result (λ branch. branch.state ≡ state_to self.old.run key self.old.batches) }
+        ensures tip { IfOk result (λ branch. branch.value.tip ≡ key) }
+        ensures state { IfOk result (λ branch. branch.value.state ≡ state_to self.old.run key self.old.batches) }
         ensures same { self.new ≡ self.old }
         ensures steps { CountsWithin steps.old 511 steps.new }
     {
@@ -262,7 +266,7 @@ impl Run {
             }
         }
         let state = self.restored(alloc, key, steps)?;
-        Ok(Branch { tip: key, state })
+        Ok(Box::new(alloc, Branch { tip: key, state })?)
     }
 
     /// The state of the path to the batch of this key.
@@ -280,8 +284,9 @@ impl Run {
             return self.state.try_copy();
         }
         if let Some(branch) = &self.beside {
-            if is_key(key, Some(branch.tip)) {
-                return branch.state.try_copy();
+            let held = branch.as_ref();
+            if is_key(key, Some(held.tip)) {
+                return held.state.try_copy();
             }
         }
         self.restored(alloc, key, steps)
@@ -299,20 +304,20 @@ impl Run {
         ensures steps { CountsWithin steps.old 511 steps.new }
     {
         let path = self.path_to(alloc, key)?;
-        match self.kept.restore(path.as_slice(), steps) {
+        match self.kept.restore_along(path.as_slice(), steps) {
             Ok(state) => Ok(state),
             Err(_) => Err(AllocError),
         }
     }
 
-    /// Copies of the batches of the path to the one of this key.
-    fn path_to(&self, alloc: Global, key: BatchKey) -> Result<Vec<Batch>, AllocError>
+    /// The batches of the path to the one of this key.
+    fn path_to(&self, alloc: Global, key: BatchKey) -> Result<Vec<&Batch>, AllocError>
         requires { is_some (batch_at key self.now.batches) ≡ true }
-        ensures { IfOk result (λ path. path.items ≡ path_to key self.now.batches) }
+        ensures { IfOk result (λ path. map (λ b. b.now) path.items ≡ path_to key self.now.batches) }
     {
         match self.tree.path_batches(alloc, key)? {
             None => Ok(Vec::new(alloc)),
-            Some(path) => copies(alloc, path.as_slice()),
+            Some(path) => Ok(path),
         }
     }
 }
@@ -347,20 +352,20 @@ fn leads_over(key: BatchKey, other: Option<BatchKey>) -> bool
     }
 }
 
-/// Puts the state of the path with this last key in the place of the current one, where it comes behind the tip of
-/// this. The one that is not current is answered.
-fn lead(current: &mut State, state: State, key: BatchKey, tip: Option<BatchKey>) -> Branch
-    ensures current { current.new ≡ leading_of key tip state current.old }
-    ensures beside { result ≡ beside_of key tip state current.old }
+/// Puts the state of the path that is gone on with in the place of the current one, where its last key, which is this
+/// one, comes behind the tip of this. The one that is not current is held beside.
+fn lead(current: &mut State, held: &mut Branch, key: BatchKey, tip: Option<BatchKey>)
+    ensures current { current.new ≡ leading_of key tip held.old.state current.old }
+    ensures beside { held.new ≡ beside_of key tip held.old.state current.old }
 {
     match tip {
-        None => Branch { tip: key, state },
+        None => held.tip = key,
         Some(tip) => {
             if tip.is_before(key) {
-                let state = mem::replace(current, state);
-                Branch { tip, state }
+                mem::swap(current, &mut held.state);
+                held.tip = tip;
             } else {
-                Branch { tip: key, state }
+                held.tip = key;
             }
         }
     }

@@ -1,5 +1,6 @@
 pub mod Places
 pub mod RunMap
+pub mod Standing
 pub mod Fields
 pub mod Settled
 pub mod View

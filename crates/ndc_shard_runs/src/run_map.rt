@@ -1,6 +1,7 @@
-ghost use Rattle.std.specs.Prelude.{◌≡◌, ◌+◌, ◌≤◌, ◌^◌, All, IsOk, length, None, OnOk, OnErr};
+ghost use Rattle.std.specs.Prelude.{◌≡◌, ◌+◌, ◌≤◌, ◌^◌, All, IsOk, IfOk, IfErr, insert, length, None, OnOk, OnErr};
 ghost use Rattle.ndc_event.specs.Batch.{fault_of};
-ghost use Rattle.ndc_shard_runs.specs.RunMap.{grown};
+ghost use Rattle.ndc_shard_runs.specs.RunMap.{AreInOrder, grown};
+ghost use Rattle.ndc_shard_runs.specs.Standing.{IsAt, IsGap};
 ghost use Rattle.ndc_run.specs.Learning.{learned};
 ghost use Rattle.ndc_model_sets.specs.Sets.{batch_at};
 ghost use Rattle.ndc_state.specs.Counted.{counted};
@@ -11,30 +12,28 @@ use ndc_event::{Batch, RunId};
 use ndc_run::{Run, RunError};
 use ndc_state::Steps;
 use std::alloc::{AllocError, Global};
-use std::collections::BTreeMap;
 use std::marker::Model;
 
 /// The runs by their ids. Seen as their list, ascending.
 pub(crate) struct RunMap {
-    map: BTreeMap<RunId, Run>,
+    runs: Vec<Run>,
 }
 
 impl Model for RunMap {
-    ghost use Rattle.std.specs.Prelude.{◌≡◌, List};
-    ghost use Rattle.std.specs.Map.{values_of};
-    ghost use Rattle.ndc_shard_runs.specs.RunMap.{by_run};
+    ghost use Rattle.std.specs.Prelude.{List};
+    ghost use Rattle.ndc_shard_runs.specs.RunMap.{AreInOrder};
     ghost use Rattle.ndc_tree.specs.Tree.{TreeValue};
 
     ghost Value = { List TreeValue };
 
-    ghost view = { λ runs. values_of runs.map.entries };
+    ghost view = { λ map. map.runs.items };
 
-    ghost invariant = { λ runs. runs.map.entries ≡ by_run (values_of runs.map.entries) };
+    ghost invariant = { λ map. AreInOrder map.runs.items };
 }
 
 impl Drop for RunMap {
     fn drop(self) {
-        let RunMap { map: _map } = self;
+        let RunMap { runs: _runs } = self;
     }
 }
 
@@ -54,7 +53,7 @@ impl RunMap {
         ensures { result ≡ [] }
     {
         RunMap {
-            map: BTreeMap::new(alloc),
+            runs: Vec::new(alloc),
         }
     }
 
@@ -62,14 +61,17 @@ impl RunMap {
     pub(crate) fn len(&self) -> usize
         ensures { result ≡ length self.now }
     {
-        self.map.len()
+        self.runs.len()
     }
 
     /// The run of this id.
     pub(crate) fn get(&self, run: RunId) -> Option<&Run>
         ensures { option_copied result ≡ run_at run self.now }
     {
-        self.map.get(&run)
+        match place_of(self.runs.as_slice(), run) {
+            Ok(place) => Some(&self.runs[place]),
+            Err(_) => None,
+        }
     }
 
     /// Takes in a batch whose key is new in its run, and that its run takes. For want of memory the runs are as they were.
@@ -88,21 +90,33 @@ impl RunMap {
         ensures extend_steps { OnOk result (batch.now.parent ≡ current_key batch.now.run (batches_of (run_at batch.now.run self.old)) → steps.new ≡ counted steps.old (length batch.now.events)) }
         ensures most_steps { CountsWithin steps.old (length batch.now.events + 511) steps.new }
     {
-        if let Some(run) = self.map.get_mut(&batch.run) {
-            return grow(run, alloc, batch, steps);
+        match place_of(self.runs.as_slice(), batch.run) {
+            Ok(place) => grow(&mut self.runs[place], alloc, batch, steps),
+            Err(place) => {
+                let mut run = Run::new(alloc, batch.run);
+                grow(&mut run, alloc, batch, steps)?;
+                put(&mut self.runs, place, run)
+            }
         }
-        let mut run = Run::new(alloc, batch.run);
-        grow(&mut run, alloc, batch, steps)?;
-        self.map.insert(batch.run, run)?;
-        Ok(())
     }
 
     /// Takes the run out, where it is there.
     pub(crate) fn take(&mut self, run: RunId)
         ensures { self.new ≡ without_run run self.old }
     {
-        self.map.remove(&run);
+        if let Ok(place) = place_of(self.runs.as_slice(), run) {
+            self.runs.remove(place);
+        }
     }
+}
+
+/// Where the run of an id stands, or where it would go.
+fn place_of(runs: &[Run], run: RunId) -> Result<usize, usize>
+    requires { AreInOrder runs.now }
+    ensures found { IfOk result (IsAt runs.now run) }
+    ensures absent { IfErr result (IsGap runs.now run) }
+{
+    runs.binary_search_by(|one| one.tree().run().value.cmp(&run.value))
 }
 
 /// Takes in a batch whose key is new and that the run takes. For want of memory the run is as it was.
@@ -126,4 +140,25 @@ fn grow<L>(
         Err(RunError::Memory) => Err(AllocError),
         Err(_) => unreachable!(),
     }
+}
+
+/// Puts a run to its place. For want of memory the runs are as they were.
+fn put(runs: &mut Vec<Run>, place: usize, run: Run) -> Result<(), AllocError>
+    requires { place ≤ length runs.old.items }
+    ensures ok { OnOk result (runs.new.items ≡ insert runs.old.items place run) }
+    ensures err { OnErr result (runs.new.items ≡ runs.old.items) }
+{
+    make_room(runs)?;
+    runs.insert(place, run)?;
+    Ok(())
+}
+
+/// Makes room for the first run, and for no more. For want of memory the runs are as they were.
+fn make_room(runs: &mut Vec<Run>) -> Result<(), AllocError>
+    ensures { runs.new.items ≡ runs.old.items }
+{
+    if runs.is_empty() {
+        return runs.reserve_exact(1);
+    }
+    Ok(())
 }

@@ -1,4 +1,4 @@
-use Rattle.std.proofs.Common.{◌≡◌, List, ◌∙◌, ap, sym, subst}
+use Rattle.std.proofs.Common.{List, ◌∙◌, ap, sym, subst}
 use Rattle.ndc_event.specs.declared.batch.Batch.{Batch}
 use Rattle.ndc_shard_runs.specs.Kept.{follows, lies_beside, StaysSettled}
 use Rattle.ndc_shard_runs.specs.RunMap.{all_of}

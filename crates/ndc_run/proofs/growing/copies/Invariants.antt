@@ -1,6 +1,0 @@
-use Rattle.std.proofs.Common.{◌≡◌, map, take}
-use Rattle.ndc_run.proofs.growing.copies.Given as goal
-
--- those gone over are copied
-abbrev pub invariant-loop-batch : goal.invariant-loop-batch
-invariant-loop-batch l = l.list.items ≡ map (λ b. b.now) (take l.batch-index l.batches)
