@@ -6,11 +6,8 @@ use Rattle.std.proofs.lemmas.Slice.Eq.{bytes_eq-Decides}
 use Rattle.ndc_tool_words.specs.Reads.{◌>>=◌}
 use Rattle.ndc_tool_words.specs.Numbers.{number_within}
 use Rattle.ndc_tool_words.specs.Names.{names_of}
-use Rattle.ndc_tool_words.specs.Options.{no_options, options_on, word_by, with_value, with_word}
+use Rattle.ndc_tool_words.specs.Options.{Flag, Index, Late, Options, Workers, no_options, options_on, word_by, with_value, with_word}
 use Rattle.ndc_tool_words.specs.Words.{alone, asked_of, demo_of, make_of, run_of, run_with}
-use Rattle.ndc_tool_words.specs.declared.options.Flag.{Flag}
-use Rattle.ndc_tool_words.specs.declared.options.Flag.TheVariants.{Workers, Index, Late}
-use Rattle.ndc_tool_words.specs.declared.options.Options.{Options}
 use Rattle.ndc_tool_words.specs.declared.words.Asked.{Asked}
 use Rattle.ndc_tool_words.specs.declared.words.Asked.TheVariants.{Rebuild, Inspect, Make, Demo}
 
