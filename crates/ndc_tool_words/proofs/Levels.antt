@@ -1,12 +1,12 @@
 -- What clap finds in the words behind each word that the program is called with, and what the table makes of them.
-use Rattle.std.proofs.Common.{◌≡◌, ◌≢◌, ◌⊎◌, ◌∙◌, ◌||◌, ℕ, Bool, true, false, cond, List, [], ◌∷◌, map, codes, Option, Some, None, inl, inr, refl, sym, ap, ap₂, subst, fold}
+use Rattle.std.proofs.Common.{◌≡◌, ◌≢◌, ◌∙◌, ◌||◌, ℕ, Bool, true, false, cond, List, [], ◌∷◌, map, codes, Option, Some, None, inl, inr, refl, sym, ap, ap₂, fold}
 use Rattle.std.specs.List.{list_all, list_any}
 use Rattle.std.specs.Option.{option_map_or}
 use Rattle.std.specs.Str.{bytes_eq}
 use Rattle.clap.specs.Kinds.{Kinds, or_else}
 use Rattle.clap.specs.Walk.{Row, Rule, Text, Walk, arg_by_index, default_rows, finished, has_row, idle, is_empty, nothing_held, reading_by, rows_after, settled, walk, walk_from, walked, with_default}
 use Rattle.clap.specs.Faults.{check_fault, default_fault, defaults_fault, given_default_fault, level_fault, positional_fault, settle_fault, stray_fault, turn_fault, walk_fault}
-use Rattle.clap.specs.Simple.{Shape, filled_from, new_app}
+use Rattle.clap.specs.Simple.{Shape, filled_from}
 use Rattle.clap.specs.declared.builder.value_parser.Reading.TheVariants.{AsWritten}
 use Rattle.clap.specs.declared.parser.matches.ValueSource.TheVariants.{CommandLine}
 use Rattle.clap.specs.declared.error.kind.ErrorKind.{ErrorKind}
@@ -20,10 +20,11 @@ use Rattle.ndc_tool_words.specs.Words.{alone, demo_of, make_of, run_of, run_with
 use Rattle.ndc_tool_words.specs.Command.{demo_app, make_app}
 use Rattle.ndc_tool_words.specs.Found.{asked_in, demo_in, make_in, run_in}
 use Rattle.ndc_tool_words.specs.declared.words.Asked.{Asked}
-use Rattle.ndc_tool_words.specs.declared.words.Asked.TheVariants.{Rebuild, Inspect, Make, Demo}
+use Rattle.ndc_tool_words.specs.declared.words.Asked.TheVariants.{Make, Demo}
 use Rattle.ndc_tool_words.proofs.Pairs.{Pair, options-found, options_of, row}
-use Rattle.ndc_tool_words.proofs.Sorts.{Bare, IsRefusedBy, IsValueBy, bare-sort, held, rules, shape}
-use Rattle.ndc_tool_words.proofs.Runs.{Agree, next-value-at, no-dashes, no-number, run-agrees, some-kind, turn-refused, turn-value-at, walk_at}
+use Rattle.ndc_tool_words.proofs.Sorts.{Bare, IsValueBy, bare-sort, held, rules, shape}
+use Rattle.ndc_tool_words.proofs.Dashes.{no_number, then-none}
+use Rattle.ndc_tool_words.proofs.Runs.{Agree, next-value-at, no-dashes, run-agrees, some-kind, turn-refused, turn-value-at, walk_at}
 
 -- a command of this name with these arguments, once the whole is built
 abbrev pub leaf : Text → List Rule → Shape
@@ -153,7 +154,7 @@ demo-sort = bare-sort demo_shape (λ c. refl) (λ n. refl)
 
 demo-dash : (word : Text) (words : List Text) → begins_with_dash word ≡ true → demo_of (word ∷ words) ≡ None
 unfolding demo_of
-demo-dash word [] dash = ap (λ o. o >>= (λ count. Some (Demo count))) (no-number 1 99000 word dash)
+demo-dash word [] dash = ap (λ o. o >>= (λ count. Some (Demo count))) (no_number 1 99000 word dash)
 demo-dash word (more ∷ words) dash = refl
 
 -- a level whose walk comes to an end so
@@ -202,20 +203,16 @@ make_shape = leaf (codes "make") (filled_from 1 make_app.top.rules)
 make-sort : (word : Text) → bytes_eq word (codes "--") ≡ false → Bare make_shape word
 make-sort = bare-sort make_shape (λ c. refl) (λ n. refl)
 
-then-none : {A B : Type 0} (o : Option A) → ◌≡◌ {A = Option B} (o >>= (λ a. None)) None
-then-none None = refl
-then-none (Some a) = refl
-
 make-dash : (word : Text) (words : List Text) → begins_with_dash word ≡ true → make_of (word ∷ words) ≡ None
 unfolding make_of
 make-dash word [] dash = refl
-make-dash word (seed ∷ []) dash = ap (λ o. o >>= (λ count. number_within 0 18446744073709551615 seed >>= (λ seed. Some (Make count seed)))) (no-number 1 99000 word dash)
+make-dash word (seed ∷ []) dash = ap (λ o. o >>= (λ count. number_within 0 18446744073709551615 seed >>= (λ seed. Some (Make count seed)))) (no_number 1 99000 word dash)
 make-dash word (seed ∷ more ∷ words) dash = refl
 
 seed-dash : (word seed : Text) (words : List Text) → begins_with_dash seed ≡ true → make_of (word ∷ seed ∷ words) ≡ None
 unfolding make_of
 seed-dash word seed [] dash =
-    ap (λ o. number_within 1 99000 word >>= (λ count. o >>= (λ seed. Some (Make count seed)))) (no-number 0 18446744073709551615 seed dash) ∙ then-none (number_within 1 99000 word)
+    ap (λ o. number_within 1 99000 word >>= (λ count. o >>= (λ seed. Some (Make count seed)))) (no_number 0 18446744073709551615 seed dash) ∙ then-none (number_within 1 99000 word) (λ count. None) (λ count. refl)
 seed-dash word seed (more ∷ words) dash = refl
 
 abbrev counted : Text → Walk

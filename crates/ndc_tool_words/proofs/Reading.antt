@@ -1,10 +1,10 @@
 -- What a call says of the words that reads what clap found, where clap and the table agree.
-use Rattle.std.proofs.Common.{◌≡◌, ◌≢◌, ◌∙◌, List, ℕ, Option, Some, None, Result, Ok, Err, IfOk, refl, sym, ap, subst}
+use Rattle.std.proofs.Common.{◌≡◌, ◌∙◌, List, ℕ, Option, Some, None, Result, Ok, Err, IfOk, sym, subst}
 use Rattle.ndc_tool_words.specs.Reads.{Reads}
 use Rattle.ndc_tool_words.specs.WellFormed.{IsWellFormedAsked}
 use Rattle.ndc_tool_words.specs.Words.{asked_of}
 use Rattle.ndc_tool_words.specs.declared.error.WordsError.{WordsError}
-use Rattle.ndc_tool_words.specs.declared.error.WordsError.TheVariants.{Memory, Refused}
+use Rattle.ndc_tool_words.specs.declared.error.WordsError.TheVariants.{Refused}
 use Rattle.ndc_tool_words.specs.declared.words.Asked.{Asked}
 use Rattle.ndc_tool_words.proofs.Asking.{asked_fits}
 

@@ -1,25 +1,24 @@
 -- What clap finds in the words behind `run`, and what the table makes of them.
-use Rattle.std.proofs.Common.{◌≡◌, ◌≢◌, ◌⊎◌, ◌∙◌, ◌==◌, ◌||◌, ◌&&◌, ℕ, Bool, true, false, cond, is_some, not, List, [], ◌∷◌, ◌++◌, map, codes, length, nat_le, nat_lt, if◌then◌else◌, Option, Some, None, inl, inr, refl, sym, ap, ap₂, subst, fold, append-nil, eqb-true}
+use Rattle.std.proofs.Common.{◌≡◌, ◌≢◌, ◌⊎◌, ◌∙◌, ◌||◌, ◌&&◌, ℕ, Bool, true, false, cond, is_some, List, [], ◌∷◌, ◌++◌, map, codes, Option, Some, None, inl, inr, refl, sym, ap, ap₂, subst, fold, append-nil}
 use Rattle.std.proofs.lemmas.List.{map-append}
-use Rattle.std.specs.List.{list_all, list_any, slice_split}
+use Rattle.std.specs.List.{list_any}
 use Rattle.std.specs.Str.{bytes_eq}
 use Rattle.clap.specs.Kinds.{Kinds, or_else}
 use Rattle.clap.specs.Lexer.{long_of}
 use Rattle.clap.specs.Walk.{Held, Names, Row, Rule, Step, Text, Waiting, Walk, after_step, at_row, has_row, idle, long_or_other, more_values, nothing_held, option, plain_word, settled, subcommand_met, subcommand_or_other, trailing, used, value, walk, walk_from, walked, without, word_met}
 use Rattle.clap.specs.Faults.{flag_word_fault, other_fault, settle_fault, step_fault, turn_fault, use_fault, walk_fault, word_fault}
-use Rattle.clap.specs.Simple.{Shape, built, filled}
+use Rattle.clap.specs.Simple.{Shape, filled}
 use Rattle.clap.specs.declared.error.kind.ErrorKind.{ErrorKind}
 use Rattle.clap.specs.declared.error.kind.ErrorKind.TheVariants.{ArgumentConflict, InvalidValue, UnknownArgument}
 use Rattle.clap.specs.declared.parser.matches.ValueSource.TheVariants.{CommandLine}
 use Rattle.clap.proofs.OnLiterals.{clap_on_literals}
-use Rattle.ndc_script_words.specs.Number.{has_leading_zero, is_digit, value_on}
 use Rattle.ndc_tool_words.specs.Reads.{◌>>=◌}
-use Rattle.ndc_tool_words.specs.Numbers.{number_within}
-use Rattle.ndc_tool_words.specs.Names.{begins_with_dash, names_of, names_on}
-use Rattle.ndc_tool_words.specs.Options.{Flag, Index, Late, Options, Workers, flag_of, joined_of, option_by, options_on, with_value, with_word}
+use Rattle.ndc_tool_words.specs.Names.{begins_with_dash}
+use Rattle.ndc_tool_words.specs.Options.{Flag, Index, Late, Options, Workers, option_by, options_on, with_value, with_word}
 use Rattle.ndc_tool_words.specs.Words.{run_of, run_with}
-use Rattle.ndc_tool_words.specs.Command.{option_rule, run_app}
+use Rattle.ndc_tool_words.specs.Command.{option_rule}
 use Rattle.ndc_tool_words.specs.declared.words.Asked.{Asked}
+use Rattle.ndc_tool_words.proofs.Dashes.{no_value}
 use Rattle.ndc_tool_words.proofs.Pairs.{Pair, each, has-value, name_of, no-more, none-of-each, one-more, options_of, row, value_in}
 use Rattle.ndc_tool_words.proofs.Sorts.{IsNone, IsRefusedBy, IsValueBy, Sort, alone_text, either-way, held, is_joined, is_option, is_refused, is_value, joined_text, rules, shape, sort}
 
@@ -64,7 +63,7 @@ asked_on words options = options_on options words >>= run_with
 abbrev answer : List Pair → Pending → List Text → Option Asked
 answer ps p words = state ps p >>= asked_on words
 
--- what clap refuses in further words, but for what it refuses at their end of each level alone
+-- what clap refuses of further words, and of what is then pending
 abbrev faults : Walk → List Text → Kinds
 faults w words = or_else (walk_fault shape [] w words) (settle_fault rules false (fold (walked rules []) w words).held)
 
@@ -102,9 +101,12 @@ refuses : (w : Walk) (word : Text) (words : List Text) (k : ErrorKind) (a : Opti
     → Agree (faults w (word ∷ words)) (rows_behind w (word ∷ words)) a
 unfolding walk_fault
 refuses w word words k a turn asked =
-    inr (some-kind k (faults w (word ∷ words))
-    (first-kind k (or_else (turn_fault shape [] w word) (walk_fault shape [] (walked rules [] w word) words)) (settle_fault rules false (fold (walked rules []) w (word ∷ words)).held)
-    (first-kind k (turn_fault shape [] w word) (walk_fault shape [] (walked rules [] w word) words) turn)), asked)
+    inr (
+      some-kind k (faults w (word ∷ words))
+          (first-kind k (or_else (turn_fault shape [] w word) (walk_fault shape [] (walked rules [] w word) words)) (settle_fault rules false (fold (walked rules []) w (word ∷ words)).held)
+          (first-kind k (turn_fault shape [] w word) (walk_fault shape [] (walked rules [] w word) words) turn)),
+      asked,
+    )
 
 -- ---- the rows
 
@@ -179,34 +181,10 @@ table-value f word ps words =
     ∙ ap (λ o. o >>= asked_on words) (any-awaited f word x y z))
     ∙ sym (assoc (options_of None ps) (with_value f word) (asked_on words))
 
-same-none : {X : Type 0} (t : Bool) → ◌≡◌ {A = Option X} (cond t None None) None
-same-none true = refl
-same-none false = refl
-
-pub no-number : (least most : ℕ) (word : Text) → begins_with_dash word ≡ true → number_within least most word ≡ None
-no-number least most [] e = refl
-no-number least most (x ∷ word) e = ap (λ byte. number_within least most (byte ∷ word)) (eqb-true x 45 e) ∙ go (nat_lt 0 (length (45 ∷ word)))
-  where
-    go : (t : Bool) → (if (t && list_all is_digit (45 ∷ word) && not (has_leading_zero (45 ∷ word))) && nat_le least (value_on 0 (45 ∷ word)) && nat_le (value_on 0 (45 ∷ word)) most then Some (value_on 0 (45 ∷ word)) else None) ≡ None
-    go true = refl
-    go false = refl
-
-no-value : (f : Flag) (word : Text) (options : Options) → begins_with_dash word ≡ true → with_value f word options ≡ None
-unfolding with_value names_of
-no-value Workers word options e =
-    ap (λ (o : Option ℕ). cond (is_some options.workers) None (o >>= (λ workers. Some (record options { workers = Some workers; awaited = None })))) (no-number 1 64 word e)
-    ∙ same-none (is_some options.workers)
-no-value Index word options e =
-    ap (λ t. cond (is_some options.index) None (cond t None (names_on [] (slice_split (λ byte. byte == 44) word)) >>= (λ names. Some (record options { index = Some names; awaited = None })))) e
-    ∙ same-none (is_some options.index)
-no-value Late word options e =
-    ap (λ t. cond (is_some options.late) None (cond t None (names_on [] (slice_split (λ byte. byte == 44) word)) >>= (λ names. Some (record options { late = Some names; awaited = None })))) e
-    ∙ same-none (is_some options.late)
-
 table-dash : (f : Flag) (word : Text) (ps : List Pair) (words : List Text) → begins_with_dash word ≡ true → answer ps (awaits f) (word ∷ words) ≡ None
 table-dash f word ps words dash =
     table-value f word ps words
-    ∙ ap (λ o. o >>= asked_on words) (none-of-each None ps (with_value f word) (λ x y z. no-value f word (record { workers = x; index = y; late = z; awaited = None }) dash))
+    ∙ ap (λ o. o >>= asked_on words) (none-of-each None ps (with_value f word) (λ x y z. no_value f word (record { workers = x; index = y; late = z; awaited = None }) dash))
 
 table-none : (word : Text) (ps : List Pair) (words : List Text) → IsNone word → answer ps nothing (word ∷ words) ≡ None
 unfolding with_word

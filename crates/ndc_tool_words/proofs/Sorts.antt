@@ -1,27 +1,23 @@
 -- What a word may be to `run`: an option, an option and its value, a value, or a word that is refused.
-use Rattle.std.proofs.Common.{◌≡◌, ◌≢◌, ◌∙◌, ◌==◌, ◌&&◌, ℕ, ◌<◌, ◌≤◌, Bool, true, false, cond, not, List, [], ◌∷◌, ◌++◌, length, get_or, take, drop, codes, zero, suc, inl, inr, ◌⊎◌, Option, Some, None, refl, sym, ap, ap₂, subst, arith, eqb-true, true≢false}
+use Rattle.std.proofs.Common.{◌≡◌, ◌∙◌, ◌==◌, ◌&&◌, ℕ, ◌≤◌, Bool, true, false, cond, List, [], ◌∷◌, ◌++◌, length, get_or, take, drop, codes, zero, suc, inl, inr, ◌⊎◌, Option, Some, None, refl, sym, ap, ap₂, subst, arith, eqb-true, true≢false}
 use mathlib.Core.Logic.{⊎_elim}
 use Rattle.std.specs.Prelude.{encode_utf8, slice_get, chars}
-use Rattle.std.specs.List.{list_any, after_first, before_first, position_or_len, starts_with}
+use Rattle.std.specs.List.{list_any, after_first, before_first, position_or_len}
 use Rattle.std.specs.Str.{bytes_eq}
-use Rattle.std.proofs.Math.Seq.{take-length}
 use Rattle.std.proofs.lemmas.Bool.{cases_lt}
 use Rattle.std.proofs.lemmas.List.{append_assoc}
 use Rattle.std.proofs.lemmas.List.Sums.{passes_at_first, split_at_first}
 use Rattle.std.proofs.lemmas.Slice.Eq.{bytes_eq-Decides}
-use Rattle.clap.specs.Kinds.{Kinds}
-use Rattle.clap.specs.Lexer.{long_of, short_of}
+use Rattle.clap.specs.Lexer.{long_of}
 use Rattle.clap.specs.Walk.{Held, Row, Rule, Text, Waiting, after_flag, arg_by_long, arg_by_short, bundle_met, bundle_step, long_or_other, plain_word, short_word}
 use Rattle.clap.specs.Walk.{plain as no_flag}
 use Rattle.clap.specs.Faults.{bundle_step_fault, flag_word_fault, flags_fault, long_fault, short_fault}
 use Rattle.clap.specs.Simple.{Shape, filled_from}
 use Rattle.clap.specs.declared.error.kind.ErrorKind.TheVariants.{UnknownArgument}
-use Rattle.clap.proofs.OnLiterals.{clap_on_literals}
 use Rattle.clap.proofs.WalkLemmas.{both}
 use Rattle.ndc_tool_words.specs.Names.{begins_with_dash}
 use Rattle.ndc_tool_words.specs.Options.{Flag, Index, Late, Workers, begins, flag_of, joined_of}
 use Rattle.ndc_tool_words.specs.Command.{run_app}
-use Rattle.ndc_tool_words.proofs.Pairs.{name_of}
 
 -- the arguments of `run`, once the command is built
 abbrev pub rules : List Rule
@@ -199,8 +195,11 @@ bare-dash s letters names (x ∷ xs) apart =
     long : (rest : Text) → bytes_eq (45 ∷ 45 ∷ rest) (codes "--") ≡ false → Bare s (45 ∷ 45 ∷ rest)
     long [] apart = absurd (true≢false apart)
     long (y ∷ ys) apart =
-        inl (refl, (λ rows pending. ap (λ o. long_fault s.rules s.args_override_self o (cond (list_any (λ b. b == 61) (y ∷ ys)) (Some (after_first (λ b. b == 61) (y ∷ ys))) None) (held rows pending))
-        (names (before_first (λ b. b == 61) (y ∷ ys)))))
+        inl (
+          refl,
+          (λ rows pending. ap (λ o. long_fault s.rules s.args_override_self o (cond (list_any (λ b. b == 61) (y ∷ ys)) (Some (after_first (λ b. b == 61) (y ∷ ys))) None) (held rows pending))
+              (names (before_first (λ b. b == 61) (y ∷ ys)))),
+        )
 
     by-first : (x == 45) ≡ false → (first : Option ℕ) → slice_get (chars (x ∷ xs)) 0 ≡ first → Bare s (45 ∷ x ∷ xs)
     by-first single (Some c) e = inl (refl, refused-short s letters x xs c single e)

@@ -1,5 +1,5 @@
 -- What clap finds in all words, and what the table makes of them.
-use Rattle.std.proofs.Common.{◌≡◌, ◌≢◌, ◌∙◌, ◌||◌, Bool, true, false, cond, is_some, List, [], ◌∷◌, codes, Option, Some, None, option_map, inl, inr, refl, sym, ap, ap₂, subst, fold, find, true≢false}
+use Rattle.std.proofs.Common.{◌≡◌, ◌≢◌, ◌∙◌, true, false, cond, is_some, List, [], ◌∷◌, codes, Option, Some, None, option_map, inl, inr, refl, sym, ap, ap₂, subst, fold, find, true≢false}
 use Rattle.std.specs.List.{list_any}
 use Rattle.std.specs.Option.{option_map_or}
 use Rattle.std.specs.Str.{bytes_eq}

@@ -48,7 +48,11 @@ fn workers_in(matches: &ArgMatches<'_>) -> Result<Option<u32>, WordsError>
 }
 
 /// The names that this option has, where it was given.
-fn names_in(alloc: Global, matches: &ArgMatches<'_>, option: &str) -> Result<Option<Names>, WordsError>
+fn names_in(
+    alloc: Global,
+    matches: &ArgMatches<'_>,
+    option: &str,
+) -> Result<Option<Names>, WordsError>
     ensures { Reads result (given_by names_of (first_of option.now (rows_of (found_of matches.now)))) }
 {
     match value_in(matches, option) {

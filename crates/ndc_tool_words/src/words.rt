@@ -56,7 +56,7 @@ fn has_dashes(words: &[String]) -> bool
     words.iter().any(|word| is_dashes(word))
 }
 
-/// What the command finds in the words. Refused with [`WordsError::Refused`] exactly where it takes them not.
+/// What the command finds in the words. Refused with [`WordsError::Refused`] exactly where it takes no such words.
 fn found_in<'a>(alloc: Global, words: &'a [String]) -> Result<ArgMatches<'a>, WordsError>
     ensures found { IfOk result (λ matches. subcommand_rows_of matches ≡ subcommand_of whole_app (map string_bytes words.entry.now)) }
     ensures taken { IfOk result (λ matches. fault_of whole_app (map string_bytes words.entry.now) ≡ []) }

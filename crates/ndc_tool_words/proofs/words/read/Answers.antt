@@ -1,5 +1,4 @@
-use Rattle.std.proofs.Common.{◌≡◌, ◌∙◌, Bool, false, List, ℕ, String, codes, map, string_bytes, sym, ap}
-use Rattle.std.specs.List.{list_any}
+use Rattle.std.proofs.Common.{◌∙◌, Bool, List, ℕ, codes, map, string_bytes, sym, ap}
 use Rattle.std.specs.Str.{bytes_eq}
 use Rattle.clap.proofs.WalkLemmas.{list_any-map}
 use Rattle.ndc_tool_words.specs.Found.{asked_in}
