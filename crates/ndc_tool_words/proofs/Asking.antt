@@ -5,12 +5,9 @@ use Rattle.std.specs.Str.{bytes_eq}
 use Rattle.ndc_script_words.specs.Number.{value_on}
 use Rattle.ndc_tool_words.specs.Numbers.{is_written, number_within}
 use Rattle.ndc_tool_words.specs.Names.{names_of, share_a_name}
-use Rattle.ndc_tool_words.specs.Options.{flag_of, joined_of, no_options, options_on, option_by, word_by, with_value, with_word}
+use Rattle.ndc_tool_words.specs.Options.{Flag, Index, Late, Options, Workers, flag_of, joined_of, no_options, options_on, option_by, word_by, with_value, with_word}
 use Rattle.ndc_tool_words.specs.Words.{alone, asked_of, demo_of, make_of, run_of, run_with}
 use Rattle.ndc_tool_words.specs.WellFormed.{IsWellFormedAsked}
-use Rattle.ndc_tool_words.specs.declared.options.Flag.{Flag}
-use Rattle.ndc_tool_words.specs.declared.options.Flag.TheVariants.{Workers, Index, Late}
-use Rattle.ndc_tool_words.specs.declared.options.Options.{Options}
 use Rattle.ndc_tool_words.specs.declared.words.Asked.{Asked}
 use Rattle.ndc_tool_words.specs.declared.words.Asked.TheVariants.{Run, Rebuild, Inspect, Make, Demo}
 use Rattle.ndc_tool_words.proofs.Differ.{Differ, Differ-append, names_of-differ}

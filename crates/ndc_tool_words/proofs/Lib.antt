@@ -2,3 +2,9 @@ pub mod Digits
 pub mod Differ
 pub mod Asking
 pub mod Dashes
+pub mod Pairs
+pub mod Sorts
+pub mod Runs
+pub mod Levels
+pub mod Whole
+pub mod Reading

@@ -4,3 +4,5 @@ pub mod Names
 pub mod Options
 pub mod Words
 pub mod WellFormed
+pub mod Command
+pub mod Found

@@ -5,9 +5,19 @@ use Rattle.std.specs.Str.{bytes_eq}
 use Rattle.ndc_tool_words.specs.Reads.{◌>>=◌}
 use Rattle.ndc_tool_words.specs.Numbers.{number_within}
 use Rattle.ndc_tool_words.specs.Names.{names_of}
-use Rattle.ndc_tool_words.specs.declared.options.Flag.{Flag}
-use Rattle.ndc_tool_words.specs.declared.options.Flag.TheVariants.{Workers, Index, Late}
-use Rattle.ndc_tool_words.specs.declared.options.Options.{Options}
+
+-- an option of `run`
+pub data Flag : Type 0 where
+  Workers : Flag
+  Index : Flag
+  Late : Flag
+
+-- the options of `run` so far, and the one whose value is to come
+pub record Options : Type 0 where
+  pub workers : Option ℕ
+  pub index : Option (List (List ℕ))
+  pub late : Option (List (List ℕ))
+  pub awaited : Option Flag
 
 -- the option whose value the next word is
 abbrev pub flag_of : List ℕ → Option Flag

@@ -4,8 +4,7 @@ use Rattle.std.specs.Str.{bytes_eq}
 use Rattle.ndc_tool_words.specs.Reads.{◌>>=◌}
 use Rattle.ndc_tool_words.specs.Numbers.{number_within}
 use Rattle.ndc_tool_words.specs.Names.{share_a_name}
-use Rattle.ndc_tool_words.specs.Options.{no_options, options_on}
-use Rattle.ndc_tool_words.specs.declared.options.Options.{Options}
+use Rattle.ndc_tool_words.specs.Options.{Options, no_options, options_on}
 use Rattle.ndc_tool_words.specs.declared.words.Asked.{Asked}
 use Rattle.ndc_tool_words.specs.declared.words.Asked.TheVariants.{Run, Rebuild, Inspect, Make, Demo}
 

@@ -1,10 +1,11 @@
 //! The words that the program is called with, read into what they ask for.
 #![tactic(auto)]
 
+mod command;
 mod error;
+mod found;
 mod names;
 mod number;
-mod options;
 mod words;
 pub mod words_laws;
 

@@ -1,19 +1,20 @@
-ghost use Rattle.std.specs.Prelude.{◌≡◌, map, None, Some, Err, IfOk};
+ghost use Rattle.std.specs.Prelude.{◌≡◌, ◌≢◌, [], map, codes, None, Some, Err, IfOk, IfErr};
+ghost use Rattle.std.specs.List.{list_any};
+ghost use Rattle.std.specs.Str.{bytes_eq};
 ghost use Rattle.std.specs.String.{string_bytes};
-ghost use Rattle.ndc_tool_words.specs.Numbers.{number_within};
-ghost use Rattle.ndc_tool_words.specs.Reads.{Reads};
-ghost use Rattle.ndc_tool_words.specs.declared.error.WordsError.TheVariants.{Refused};
+ghost use Rattle.clap.specs.Words.{fault_of, subcommand_of, subcommand_rows_of};
+ghost use Rattle.ndc_tool_words.specs.Command.{whole_app};
+ghost use Rattle.ndc_tool_words.specs.declared.error.WordsError.TheVariants.{Memory, Refused};
 ghost use Rattle.ndc_tool_words.specs.WellFormed.{IsWellFormedAsked};
-ghost use Rattle.ndc_tool_words.specs.Words.{alone, asked_of, demo_of, make_of, run_of, run_with};
+ghost use Rattle.ndc_tool_words.specs.Words.{asked_of};
 
+use crate::command::command;
 use crate::error::WordsError;
-use crate::names::{Names, share_a_name};
-use crate::number::number_within;
-use crate::options::{Options, options_of};
+use crate::found::asked_in;
+use crate::names::Names;
+use clap::ArgMatches;
+use clap::error::ErrorKind;
 use std::alloc::Global;
-
-/// The greatest number of lines that a made script may have.
-const MAX_COUNT: u64 = 99_000;
 
 /// What the words ask for.
 #[derive(Debug, Drop)]
@@ -41,116 +42,47 @@ pub enum Asked {
     },
 }
 
-/// A run with these options.
-fn run_with(alloc: Global, options: Options) -> Result<Asked, WordsError>
-    ensures { Reads result (run_with options) }
+/// Whether the word is `--`.
+fn is_dashes(word: &String) -> bool
+    ensures { result ≡ bytes_eq (string_bytes word.now) (codes "--") }
 {
-    let Options {
-        workers,
-        index,
-        late,
-        awaited,
-    } = options;
-    let index = index.unwrap_or(Names::new(Vec::new(alloc)));
-    let late = late.unwrap_or(Names::new(Vec::new(alloc)));
-    if awaited.is_some() || share_a_name(index.as_slice(), late.as_slice()) {
-        return Err(WordsError::Refused);
-    }
-    Ok(Asked::Run {
-        workers: workers.unwrap_or(1),
-        index,
-        late,
-    })
+    word.as_bytes() == b"--".as_slice()
 }
 
-/// `run` with its options.
-#[tactic(auto, unfolding(crate::specs::Words::run_of))]
-fn run_of(alloc: Global, words: &[String]) -> Result<Asked, WordsError>
-    ensures { Reads result (run_of (map string_bytes words.now)) }
+/// Whether `--` stands among the words.
+fn has_dashes(words: &[String]) -> bool
+    ensures { result ≡ list_any (λ word. bytes_eq (string_bytes word) (codes "--")) words.now }
 {
-    let options = options_of(alloc, words)?;
-    run_with(alloc, options)
+    words.iter().any(|word| is_dashes(word))
 }
 
-/// A word that stands alone.
-fn alone(asked: Asked, words: &[String]) -> Result<Asked, WordsError>
-    ensures { Reads result (alone asked (map string_bytes words.now)) }
+/// What the command finds in the words. Refused with [`WordsError::Refused`] exactly where it takes no such words.
+fn found_in<'a>(alloc: Global, words: &'a [String]) -> Result<ArgMatches<'a>, WordsError>
+    ensures found { IfOk result (λ matches. subcommand_rows_of matches ≡ subcommand_of whole_app (map string_bytes words.entry.now)) }
+    ensures taken { IfOk result (λ matches. fault_of whole_app (map string_bytes words.entry.now) ≡ []) }
+    ensures refused { result ≡ Err Refused → fault_of whole_app (map string_bytes words.entry.now) ≢ [] }
 {
-    match words {
-        [] => Ok(asked),
-        _ => Err(WordsError::Refused),
-    }
-}
-
-/// The number that a word is.
-fn number(least: u64, most: u64, word: &String) -> Result<u64, WordsError>
-    ensures { Reads result (number_within least most (string_bytes word.now)) }
-{
-    match number_within(least, most, word.as_bytes()) {
-        Some(value) => Ok(value),
-        None => Err(WordsError::Refused),
-    }
-}
-
-/// `make N SEED`.
-#[tactic(auto, unfolding(crate::specs::Words::make_of))]
-fn make_of(words: &[String]) -> Result<Asked, WordsError>
-    ensures { Reads result (make_of (map string_bytes words.now)) }
-{
-    match words {
-        [count, seed] => {
-            let count = number(1, MAX_COUNT, count)?;
-            let seed = number(0, u64::MAX, seed)?;
-            Ok(Asked::Make { count, seed })
-        }
-        _ => Err(WordsError::Refused),
-    }
-}
-
-/// `demo N`.
-#[tactic(auto, unfolding(crate::specs::Words::demo_of))]
-fn demo_of(words: &[String]) -> Result<Asked, WordsError>
-    ensures { Reads result (demo_of (map string_bytes words.now)) }
-{
-    match words {
-        [count] => {
-            let count = number(1, MAX_COUNT, count)?;
-            Ok(Asked::Demo { count })
-        }
-        _ => Err(WordsError::Refused),
-    }
-}
-
-/// What the words ask for.
-fn asked_of(alloc: Global, words: &[String]) -> Result<Asked, WordsError>
-    ensures { Reads result (asked_of (map string_bytes words.now)) }
-{
-    let [verb, rest @ ..] = words else {
-        return Err(WordsError::Refused);
-    };
-    let verb = verb.as_bytes();
-    if verb == b"run".as_slice() {
-        run_of(alloc, rest)
-    } else if verb == b"rebuild".as_slice() {
-        alone(Asked::Rebuild, rest)
-    } else if verb == b"inspect".as_slice() {
-        alone(Asked::Inspect, rest)
-    } else if verb == b"make".as_slice() {
-        make_of(rest)
-    } else if verb == b"demo".as_slice() {
-        demo_of(rest)
-    } else {
-        Err(WordsError::Refused)
+    match command(alloc)?.try_get_matches_from(words) {
+        Ok(matches) => Ok(matches),
+        Err(error) => match error.kind() {
+            ErrorKind::OutOfMemory => Err(WordsError::Memory),
+            _ => Err(WordsError::Refused),
+        },
     }
 }
 
 /// Reads the words that stand behind the program's name. Refused with [`WordsError::Refused`] exactly where they are
 /// none of the program's, with [`WordsError::Memory`] where memory runs out.
-#[tactic(auto, using(crate::proofs::Asking::asked_fits))]
 pub fn read(alloc: Global, words: &[String]) -> Result<Asked, WordsError>
     ensures asked { IfOk result (λ asked. asked_of (map string_bytes words.now) ≡ Some asked) }
     ensures refused { result ≡ Err Refused → asked_of (map string_bytes words.now) ≡ None }
     ensures well_formed { IfOk result IsWellFormedAsked }
 {
-    asked_of(alloc, words)
+    if has_dashes(words) {
+        return Err(WordsError::Refused);
+    }
+    match found_in(alloc, words) {
+        Ok(matches) => asked_in(alloc, &matches),
+        Err(error) => Err(error),
+    }
 }
