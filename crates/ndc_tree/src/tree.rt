@@ -161,8 +161,10 @@ impl Tree {
         self.tips.to_vec(alloc)
     }
 
-    /// The key of the current branch's last batch; none exactly where there is no batch. In time of the logarithm of
-    /// the batches, without memory.
+    /// The key of the current branch's last batch; none exactly where there is no batch. Without memory.
+    ///
+    /// It is the greatest key. That this is the branch of the greatest last version is
+    /// `laws::current_branch_ends_with_the_greatest_batch`.
     pub fn current(&self) -> Option<BatchKey>
         ensures { result ≡ current_key self.now.run self.now.batches }
     {
