@@ -5,13 +5,11 @@ use Rattle.ndc_script_types.specs.declared.script.Header.{Header}
 use Rattle.ndc_model_cells.specs.declared.job.Job.TheVariants as job
 use Rattle.ndc_model_cells.specs.Cells.{Cell, learned_of}
 use Rattle.ndc_model_cells.specs.Shards.{shard_of}
-use Rattle.ndc_model_cells.specs.Writing.{Entry, Home, as_command_error, command_entries, command_of, may_write, reset_at, reset_below, with_written}
+use Rattle.ndc_model_cells.specs.Writing.{Entry, Home, command_entries, command_of, reset_at, reset_below, with_written}
 use Rattle.ndc_command.specs.declared.command.Command.{Command}
 use Rattle.ndc_command.specs.declared.refusal.CommandError.{CommandError}
-use Rattle.ndc_command.specs.declared.refusal.Refusal.{Refusal}
 use Rattle.ndc_domain.specs.Records.{record_of}
 use Rattle.ndc_domain.specs.declared.clusters.ClusterNo.{ClusterNo}
-use Rattle.ndc_event.specs.Outcome.{◌>>=◌}
 use Rattle.ndc_event.specs.declared.batch.Batch.{Batch}
 use Rattle.ndc_event.specs.declared.name.Name.{Name}
 use Rattle.ndc_laws_reached.proofs.LetterLemmas.{shard-below}
@@ -20,7 +18,7 @@ use Rattle.ndc_laws_reached.proofs.LineLemmas.{more-lines}
 use Rattle.ndc_laws_reached.proofs.LandLemmas.{cell-here}
 use Rattle.ndc_laws_reached.proofs.MoveLemmas.{Leaves, entry-leaves, news-few}
 use Rattle.ndc_laws_reached.proofs.PairLemmas.{joined}
-use Rattle.ndc_laws_reached.proofs.WriterLemmas.{IsWriter, WritesWith, are-few, may-add, may-parts}
+use Rattle.ndc_laws_reached.proofs.WriterLemmas.{IsWriter, WritesWith, are-few, may-add}
 use Rattle.ndc_model.specs.Facts.{IsReached}
 use Rattle.ndc_model.specs.Fair.{written_of}
 use Rattle.ndc_model.specs.World.{World, cell_at, home_at}
@@ -29,23 +27,10 @@ use Rattle.ndc_model_sets.specs.Sets.{arrived}
 use Rattle.ndc_model_cells.specs.Allowed.{IsAllowed, MayTake, MayWrite, MayWriteAll}
 use Rattle.ndc_laws_reached.specs.Entries.{IsWrite, WritesAlone, WritesBehind}
 use Rattle.ndc_laws_reached.proofs.CommandLemmas.{command-writes}
+use Rattle.ndc_laws_reached.proofs.MoveLemmas.{may-have}
 use Rattle.ndc_laws_reached.proofs.ResetLemmas.{reset-writes}
 use Rattle.ndc_laws_jobs.proofs.EntryLemmas.{entry-may}
 use Rattle.ndc_laws_jobs.proofs.RoomLemmas.{has-room}
-
--- what a cluster writes where it may: the version, and what is written with it
-record MayHave (home : Home) (domain workflow : Name) (cell : Cell) (next : ℕ → Result (List Entry) CommandError) (entries : List Entry) : Type 0 where
-  version : ℕ
-  with : WritesWith home domain (learned_of domain workflow cell) version
-  wrote : next version ≡ Ok entries
-
-may-have : (home : Home) (domain workflow : Name) (cell : Cell) (next : ℕ → Result (List Entry) CommandError) (entries : List Entry) → (as_command_error (may_write home domain workflow cell) >>= next) ≡ Ok entries
-    → MayHave home domain workflow cell next entries
-may-have home domain workflow cell next entries e = by (may_write home domain workflow cell) refl e
-  where
-    by : (r : Result ℕ Refusal) → may_write home domain workflow cell ≡ r → (as_command_error r >>= next) ≡ Ok entries → MayHave home domain workflow cell next entries
-    by (Ok version) at h = record { version = version; with = may-parts home domain workflow cell version at; wrote = h }
-    by (Err why) at h = absurd (cc)
 
 module _ (header : Header) (well : IsWellFormedHeader header) (lines : ℕ) (w : World) (is : IsReached header lines w) (cluster : ClusterNo) (domain workflow : Name) (names : IsWorkflowAt header cluster domain workflow) where
   abbrev place : ℕ

@@ -21,6 +21,7 @@ use Rattle.ndc_model.proofs.ListLemmas.{all-set, all-weaker}
 use Rattle.ndc_model.proofs.WorldLemmas.{cells-cases, set-cases}
 use Rattle.ndc_model_sets.specs.Sets.{Has}
 use Rattle.ndc_laws_reached.proofs.FrameLemmas.{WroteAlike, arrival-alike, batches_in, beats-alike, copies-alike, handovers-alike, letters-alike, letters_in, message-alike, named_by, numbers-alike, queues_in, ranges-alike, records-alike, reports-alike, reports_in, tables_in, writing-alike}
+use Rattle.ndc_laws_reached.proofs.Lists.{each-link, length-set}
 
 -- what a cell has learned is learned in another one too
 abbrev pub LearnedMore : Cell → Cell → Type 0
@@ -128,9 +129,6 @@ module _ (header : Header) (lines : ℕ) (w : World) (is : IsReached header line
   }
 
   -- a change of facts on links
-  each-link : {P Q : Link → Type 0} → ((link : Link) → P link → Q link) → (links : List Link) → AllByRecursion P links → AllByRecursion Q links
-  each-link change [] all = tt
-  each-link change (link ∷ links) all = (change link all.0, each-link change links all.1)
 
   shaped : IsShaped header v
   shaped = record {
@@ -144,11 +142,6 @@ module _ (header : Header) (lines : ℕ) (w : World) (is : IsReached header line
     trimmed = is.shaped.trimmed;
   }
     where
-      length-set : {X : Type 0} (xs : List X) (i : ℕ) (x : X) → length (slice_set xs i x) ≡ length xs
-      length-set [] i x = refl
-      length-set (y ∷ ys) zero x = refl
-      length-set (y ∷ ys) (suc i) x = ap suc (length-set ys i x)
-
       at-cluster : (clusters : List Cluster) (i : ℕ) → AllByRecursion (λ c. length c.cells ≡ header.shards) clusters → i < length clusters → length (slice_index_or clusters i (new_cluster 0)).cells ≡ header.shards
       at-cluster [] i all less = absurd (omega (arith, less))
       at-cluster (c ∷ cs) zero all less = all.0

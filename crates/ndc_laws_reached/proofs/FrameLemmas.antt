@@ -29,6 +29,7 @@ use Rattle.ndc_model.specs.Fair.{AreMembersKnown, AreMessagesTrue, AreNumbersSma
 use Rattle.ndc_model.specs.Moves.{all_written, messages_among}
 use Rattle.ndc_model.specs.Queues.{Lane, names_cluster, needs_nothing}
 use Rattle.ndc_model.specs.World.{Link, World, all_clusters, cell_at, cluster_at, is_late_in, lane_in, queue_at, trimmed_at}
+use Rattle.ndc_laws_reached.proofs.Lists.{each-link}
 
 -- the parts of a world, as functions
 abbrev pub places_in : Header → World → ℕ → List Place
@@ -201,10 +202,6 @@ module _ (header : Header) (v w : World) where
       places = λ i s. flat_map (λ c. map place_of (flat_map both (queues-same i c s))) (all_clusters header);
       batches = λ i s. in_order (flat_map (λ c. flat_map both (queues-same i c s)) (all_clusters header));
     }
-
-    each-link : {P Q : Link → Type 0} → ((link : Link) → P link → Q link) → (list : List Link) → AllByRecursion P list → AllByRecursion Q list
-    each-link change [] all = tt
-    each-link change (link ∷ list) all = (change link all.0, each-link change list all.1)
 
     pub fair-alike : IsFair header lines w → IsFair header lines v
     fair-alike is = record {

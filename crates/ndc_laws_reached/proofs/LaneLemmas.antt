@@ -24,6 +24,7 @@ use Rattle.ndc_queue.specs.Lists.{after_loss, after_move, after_repeat}
 use Rattle.ndc_model_sets.proofs.ForkLemmas.{among-left, among-right}
 use Rattle.ndc_model_sets.proofs.Lists.{Among, list_any-one}
 use Rattle.ndc_laws_reached.proofs.LinkLemmas.{IsLaneFit, IsLinkFit, all-links, lanes-keep, one-link}
+use Rattle.ndc_laws_reached.proofs.Lists.{length-set}
 
 -- each cluster below a count is one of those
 pub below-among : (count : ℕ) (cluster : ClusterNo) → cluster.number < count → Among cluster (clusters_below count)
@@ -140,11 +141,6 @@ module _ (header : Header) (w : World) where
       (λ fit. lanes-keep header w (link_at reader source w) (slice_set (link_at reader source w).lanes shard lane) fit (length-set (link_at reader source w).lanes shard lane)
       (λ place below. set-cases (IsLaneFit header w (link_at reader source w) place) (link_at reader source w).lanes shard place lane new_lane
       (λ same. subst (λ (i : ℕ). IsLaneFit header w (link_at reader source w) i lane) (sym same) (fits fit (subst (λ (i : ℕ). i < header.shards) same below))) (fit.lanes place below))) is
-    where
-      length-set : (lanes : List Lane) (i : ℕ) (lane : Lane) → length (slice_set lanes i lane) ≡ length lanes
-      length-set [] i lane = refl
-      length-set (x ∷ xs) zero lane = refl
-      length-set (x ∷ xs) (suc i) lane = ap suc (length-set xs i lane)
 
 -- what holds of all that was in flight holds of all that is in flight then
 abbrev pub IsTakenFrom : List Message → List Message → Type 1

@@ -21,7 +21,7 @@ use Rattle.ndc_laws_reached.proofs.FoundLemmas.{find-passes, there-among}
 use Rattle.ndc_laws_reached.proofs.ManyLemmas.{many, one-cluster}
 use Rattle.ndc_laws_reached.proofs.MessageLemmas.{learned-arrived, learned-true}
 use Rattle.ndc_laws_reached.proofs.WrittenLemmas.{cell-is, lives, names-of}
-use Rattle.std.proofs.Common.{◌≡◌, ℕ, zero, suc, ◌<◌, Bool, true, false, if◌then◌else◌, List, [], ◌∷◌, ◌++◌, length, remove, slice_get, slice_index_or, slice_set, Option, Some, None, option_map, refl, sym, ◌∙◌, subst, ap, arith}
+use Rattle.std.proofs.Common.{◌≡◌, ℕ, zero, suc, ◌<◌, Bool, true, false, if◌then◌else◌, List, [], ◌∷◌, ◌++◌, length, remove, slice_get, slice_index_or, Option, Some, None, option_map, refl, sym, ◌∙◌, subst, ap, arith}
 use Rattle.std.specs.List.{AllByRecursion, IsAmong, filter_map, list_any}
 use Rattle.ndc_script_types.specs.WellFormed.{AreTwoClusters, IsCluster}
 use Rattle.ndc_script_types.specs.declared.script.Header.{Header}
@@ -48,6 +48,7 @@ use Rattle.ndc_model_sets.proofs.Lists.{Among, all-among, all-from, list_any-one
 use Rattle.ndc_laws_reached.proofs.FrameLemmas.{beats-alike, cells_in, handovers-alike, letter-alike, queues_in, ranges-alike, reports-alike, reports_in, tables_in}
 use Rattle.ndc_laws_reached.proofs.LaneLemmas.{flight-put, renewed-all}
 use Rattle.ndc_laws_reached.proofs.LinkLemmas.{IsLinkFit, links-fit}
+use Rattle.ndc_laws_reached.proofs.Lists.{length-set}
 
 -- a workflow lives in one of the shards
 pub shard-below : (domain workflow : Name) (shards : ℕ) → 0 < shards → shard_of domain workflow shards < shards
@@ -85,11 +86,6 @@ module _ (header : Header) (lines : ℕ) (cluster : ClusterNo) (letters : List L
     trimmed = is.shaped.trimmed;
   }
     where
-      length-set : {X : Type 0} (xs : List X) (i : ℕ) (x : X) → length (slice_set xs i x) ≡ length xs
-      length-set [] i x = refl
-      length-set (y ∷ ys) zero x = refl
-      length-set (y ∷ ys) (suc i) x = ap suc (length-set ys i x)
-
       at-cluster : (clusters : List Cluster) (i : ℕ) → AllByRecursion (λ c. length c.cells ≡ header.shards) clusters → i < length clusters → length (slice_index_or clusters i (new_cluster 0)).cells ≡ header.shards
       at-cluster [] i all less = absurd (omega (arith, less))
       at-cluster (c ∷ cs) zero all less = all.0

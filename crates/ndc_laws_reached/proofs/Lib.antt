@@ -30,6 +30,7 @@ pub mod LateLemmas
 pub mod LearnedRanges
 pub mod LetterLemmas
 pub mod LineLemmas
+mod Lists
 pub mod LinkLemmas
 pub mod ManyLemmas
 pub mod MayLemmas

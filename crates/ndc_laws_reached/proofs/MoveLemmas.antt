@@ -127,12 +127,12 @@ unfolding reset_step jobs_done cells_after after_job
 reset-world header cluster domain workflow event w = refl
 
 -- what a cluster writes where it may: the version, and what is written with it
-record MayHave (home : Home) (domain workflow : Name) (cell : Cell) (next : ℕ → Result (List Entry) CommandError) (entries : List Entry) : Type 0 where
-  version : ℕ
-  with : WritesWith home domain (learned_of domain workflow cell) version
-  wrote : next version ≡ Ok entries
+pub record MayHave (home : Home) (domain workflow : Name) (cell : Cell) (next : ℕ → Result (List Entry) CommandError) (entries : List Entry) : Type 0 where
+  pub version : ℕ
+  pub with : WritesWith home domain (learned_of domain workflow cell) version
+  pub wrote : next version ≡ Ok entries
 
-may-have : (home : Home) (domain workflow : Name) (cell : Cell) (next : ℕ → Result (List Entry) CommandError) (entries : List Entry) → (as_command_error (may_write home domain workflow cell) >>= next) ≡ Ok entries
+pub may-have : (home : Home) (domain workflow : Name) (cell : Cell) (next : ℕ → Result (List Entry) CommandError) (entries : List Entry) → (as_command_error (may_write home domain workflow cell) >>= next) ≡ Ok entries
     → MayHave home domain workflow cell next entries
 may-have home domain workflow cell next entries e = by (may_write home domain workflow cell) refl e
   where

@@ -1,5 +1,5 @@
 -- The reports of a cluster become more.
-use Rattle.std.proofs.Common.{◌≡◌, ℕ, zero, suc, ◌<◌, ◌≤◌, List, [], ◌∷◌, ◌++◌, length, slice_index_or, slice_set, Option, Some, None, ◌⊎◌, inl, inr, refl, sym, ◌∙◌, subst, ap, arith}
+use Rattle.std.proofs.Common.{◌≡◌, ℕ, zero, suc, ◌<◌, ◌≤◌, List, [], ◌∷◌, ◌++◌, length, slice_index_or, Option, Some, None, ◌⊎◌, inl, inr, refl, sym, ◌∙◌, subst, ap, arith}
 use Rattle.std.specs.Prelude.{IsSomeAnd}
 use Rattle.std.specs.List.{AllByRecursion, IsAmong}
 use Rattle.std.proofs.lemmas.List.{get_or-set_same}
@@ -18,6 +18,7 @@ use Rattle.ndc_progress.specs.declared.report.Report.{Report}
 use Rattle.ndc_model_sets.proofs.ForkLemmas.{among-cases, among-left, among-right}
 use Rattle.ndc_model_sets.proofs.Lists.{Among, all-among, all-from}
 use Rattle.ndc_laws_reached.proofs.FrameLemmas.{cells_in, fair-alike, handovers-alike, letters-alike, letters_in, queues-same, ranges-alike, tables_in, wrote-same}
+use Rattle.ndc_laws_reached.proofs.Lists.{length-set}
 
 -- two reports that are of one activity, version and beat are one
 abbrev pub AreOne : Report → Report → Type 0
@@ -60,11 +61,6 @@ module _ (header : Header) (lines : ℕ) (cluster : ClusterNo) (more : List Repo
     trimmed = is.shaped.trimmed;
   }
     where
-      length-set : {X : Type 0} (xs : List X) (i : ℕ) (x : X) → length (slice_set xs i x) ≡ length xs
-      length-set [] i x = refl
-      length-set (y ∷ ys) zero x = refl
-      length-set (y ∷ ys) (suc i) x = ap suc (length-set ys i x)
-
       at-cluster : (clusters : List Cluster) (i : ℕ) → AllByRecursion (λ c. length c.cells ≡ header.shards) clusters → i < length clusters → length (slice_index_or clusters i (new_cluster 0)).cells ≡ header.shards
       at-cluster [] i all less = absurd (omega (arith, less))
       at-cluster (c ∷ cs) zero all less = all.0

@@ -37,6 +37,7 @@ use Rattle.ndc_laws_reached.proofs.PairLemmas.{entry_with, more-all, news}
 use Rattle.ndc_laws_reached.proofs.SentLemmas.{messages-kept}
 use Rattle.ndc_laws_reached.proofs.WroteLemmas.{copies-kept, numbers-kept, ranges-kept, writing-kept}
 use Rattle.ndc_laws_reached.specs.Entries.{IsSecond}
+use Rattle.ndc_laws_reached.proofs.Lists.{each-link}
 
 module _ (it : Write) where
   open it use {header, lines, w, is, cluster, known, b, second, originals, below, may}
@@ -126,10 +127,6 @@ module _ (it : Write) where
         (all-weaker _ _ (nothing-there link shard) (take (lane_in link shard).levels.done (queue_at link.source shard w)) t.done);
     flight = all-weaker (IsAmong (queue_at link.source shard w)) (IsAmong (queue_at link.source shard v)) (among-longer link.source shard) (lane_in link shard).flight t.flight;
   }
-
-  each-link : {P Q : Link → Type 0} → ((link : Link) → P link → Q link) → (links : List Link) → AllByRecursion P links → AllByRecursion Q links
-  each-link change [] all = tt
-  each-link change (link ∷ links) all = (change link all.0, each-link change links all.1)
 
   -- the writer's record names it
   named : is_named header cluster w b.domain ≡ true

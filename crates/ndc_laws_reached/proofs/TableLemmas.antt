@@ -34,6 +34,7 @@ use Rattle.ndc_laws_reached.proofs.FrameLemmas.{WroteAlike, arrivals-alike, beat
 use Rattle.ndc_laws_reached.proofs.ManyLemmas.{one-cluster}
 use Rattle.ndc_laws_reached.specs.Tables.{IsTableFit, TableGrows}
 use Rattle.ndc_laws_reached.proofs.GrowLemmas.{grows-none, names-grow, newly-named, newly-there, record-grows}
+use Rattle.ndc_laws_reached.proofs.Lists.{length-set}
 
 any-append : {X : Type 0} (p : X → Bool) (xs ys : List X) → list_any p xs ≡ true → list_any p (xs ++ ys) ≡ true
 any-append p xs ys h = let f = any-one p xs h in list_any-one p (xs ++ ys) f.0 (among-left f.0 xs ys f.1) f.2
@@ -223,11 +224,6 @@ module _ (header : Header) (lines : ℕ) (cluster : ClusterNo) (table : List Dom
           (record_of (cluster_at (if b then record link { late = link.late ++ newly_naming link.reader before table } else link).source v).table domain) ≡ true) (if b then record link { late = link.late ++ newly_naming link.reader before table } else link).late
       by true e = all-append (λ domain. names_cluster link.reader (record_of (cluster_at link.source v).table domain) ≡ true) link.late (newly_naming link.reader before table) grown (fresh (one-cluster link.source cluster e))
       by false e = grown
-
-  length-set : {X : Type 0} (xs : List X) (i : ℕ) (x : X) → length (slice_set xs i x) ≡ length xs
-  length-set [] i x = refl
-  length-set (y ∷ ys) zero x = refl
-  length-set (y ∷ ys) (suc i) x = ap suc (length-set ys i x)
 
   many-cells : (clusters : List Cluster) (i : ℕ) → AllByRecursion (λ c. length c.cells ≡ header.shards) clusters → i < length clusters → length (slice_index_or clusters i (new_cluster 0)).cells ≡ header.shards
   many-cells [] i all less = absurd (omega (arith, less))

@@ -1,5 +1,5 @@
 -- Trimming keeps a world as it should be.
-use Rattle.std.proofs.Common.{◌≡◌, ℕ, zero, suc, ◌<◌, ◌≤◌, Bool, true, false, if◌then◌else◌, List, [], ◌∷◌, ◌++◌, length, map, slice_index_or, slice_set, inl, inr, refl, sym, ◌∙◌, subst, ap, arith}
+use Rattle.std.proofs.Common.{◌≡◌, ℕ, ◌<◌, ◌≤◌, Bool, true, false, if◌then◌else◌, List, [], ◌∷◌, ◌++◌, length, map, slice_index_or, slice_set, inl, inr, refl, sym, ◌∙◌, subst, ap, arith}
 use Rattle.std.specs.List.{range_with_len}
 use Rattle.std.proofs.lemmas.Bool.Decides.{nat_tests}
 use Rattle.std.proofs.lemmas.List.FromFn.{get_or-map-range_with_len, length-map-range_with_len}
@@ -16,6 +16,7 @@ use Rattle.ndc_model_sets.proofs.ForkLemmas.{among-right}
 use Rattle.ndc_model_sets.proofs.Lists.{Among, all-among, all-from}
 use Rattle.ndc_laws_reached.proofs.FrameLemmas.{WroteAlike, arrivals-alike, copies-alike, handovers-alike, letters-alike, messages-alike, numbers-alike, records-alike, reports-alike, writing-alike}
 use Rattle.ndc_laws_reached.proofs.LinkLemmas.{IsLinkFit, links-fit}
+use Rattle.ndc_laws_reached.proofs.Lists.{length-set}
 
 -- the level of a link of the source is among those that count
 level-among : (source : ClusterNo) (shard : ℕ) (links : List Link) (link : Link) → same_cluster link.source source ≡ true → Among link links
@@ -54,11 +55,6 @@ module _ (header : Header) (lines : ℕ) (source : ClusterNo) (w : World) (is : 
           let least : trim_level (queue_at source shard w) (done_levels source shard w.links) ≤ (lane_in link shard).levels.done =
           least-most (done_levels source shard w.links) (lane_in link shard).levels.done (length (queue_at source shard w)) (level-among source shard w.links link mine among) in
           subst (λ (n : ℕ). n ≤ (lane_in link shard).levels.done) (sym at) (omega (arith, before, least))
-
-  length-set : (levels : List (List ℕ)) (i : ℕ) (x : List ℕ) → length (slice_set levels i x) ≡ length levels
-  length-set [] i x = refl
-  length-set (y ∷ ys) zero x = refl
-  length-set (y ∷ ys) (suc i) x = ap suc (length-set ys i x)
 
   wrote : WroteAlike header v w
   wrote = record { places = refl; batches = refl }
