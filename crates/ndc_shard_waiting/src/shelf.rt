@@ -146,13 +146,6 @@ impl Shelf {
         put_in(&mut self.messages, &mut self.links, message)
     }
 
-    /// The messages, in key order.
-    pub(crate) fn list(&self, alloc: Global) -> Result<Vec<&Message>, AllocError>
-        ensures { IfOk result (λ list. map (λ m. m.now) list.items ≡ self.now) }
-    {
-        self.messages.list(alloc)
-    }
-
     /// The batches of the messages, in key order.
     pub(crate) fn batches(&self, alloc: Global) -> Result<Vec<&Batch>, AllocError>
         ensures { IfOk result (λ list. map (λ b. b.now) list.items ≡ batches_of self.now) }

@@ -144,13 +144,6 @@ impl Waiting {
         self.shelf.get(key).is_some()
     }
 
-    /// The messages, in key order.
-    pub fn list(&self, alloc: Global) -> Result<Vec<&Message>, AllocError>
-        ensures { IfOk result (λ list. map (λ m. m.now) list.items ≡ self.now) }
-    {
-        self.shelf.list(alloc)
-    }
-
     /// The batches of the messages, those that are carried too, in key order.
     pub fn batches(&self, alloc: Global) -> Result<Vec<&Batch>, AllocError>
         ensures { IfOk result (λ list. map (λ b. b.now) list.items ≡ batches_of self.now) }
