@@ -1,6 +1,6 @@
 pub mod ArrivedLemmas
 pub mod PlaceLemmas
-pub mod SortedLemmas
+pub mod OrderLemmas
 pub mod RunMapLemmas
 pub mod LearnLemmas
 pub mod AllLemmas

@@ -1,10 +1,11 @@
 -- The runs of a workflow by their ids, and the set of all their batches.
-use Rattle.std.specs.Prelude.{◌≡◌, Bool, true, nat_lt, List, [], ◌∷◌, find, Option, Some, None, is_some, if◌then◌else◌}
-use Rattle.std.specs.List.{AllByRecursion, filter}
+use Rattle.std.specs.Prelude.{◌≡◌, true, nat_lt, List, [], ◌∷◌, find, Option, Some, None, is_some, if◌then◌else◌}
+use Rattle.std.specs.List.{filter}
 use Rattle.ndc_event.specs.declared.batch.Batch.{Batch}
 use Rattle.ndc_event.specs.declared.key.RunId.{RunId}
 use Rattle.ndc_model_sets.specs.Branches.{same_run}
 use Rattle.ndc_model_sets.specs.Sets.{arrived}
+use Rattle.ndc_tree.specs.Sorted.{InOrder}
 use Rattle.ndc_tree.specs.Tree.{TreeValue}
 
 -- the batches of a run among those of its workflow
@@ -15,14 +16,13 @@ part_of run batches = filter (λ b. same_run b.run run) batches
 abbrev pub run_in : List Batch → RunId → TreeValue
 run_in batches run = record { run = run; batches = part_of run batches }
 
--- whether a run comes before another one by its id
-abbrev pub is_run_before : TreeValue → TreeValue → Bool
-is_run_before one two = nat_lt one.run.value two.run.value
+-- a run comes before another one by its id
+abbrev pub IsRunBefore : TreeValue → TreeValue → Type 0
+IsRunBefore one two = nat_lt one.run.value two.run.value ≡ true
 
 -- the ids of the runs rise
 abbrev pub AreInOrder : List TreeValue → Type 0
-AreInOrder [] = Unit {0}
-AreInOrder (r ∷ runs) = AllByRecursion (λ later. is_run_before r later ≡ true) runs × AreInOrder runs
+AreInOrder runs = InOrder IsRunBefore runs
 
 -- the run of this id
 abbrev pub run_at : RunId → List TreeValue → Option TreeValue

@@ -185,7 +185,8 @@ impl Runs {
         self.places.len() == 0
     }
 
-    /// The last batch of the current branch of the current run.
+    /// The last batch of the current branch of the current run. It has the greatest key of all: that this is so is
+    /// `ndc_model_sets::branch_laws::current_run_ends_with_the_greatest_batch`.
     pub fn tip(&self) -> Option<&Batch>
         ensures { option_copied result ≡ workflow_tip self.now }
     {
@@ -220,9 +221,8 @@ impl Runs {
 
     /// Whether there may be strays: not where they are known, and there is none. What is known stays so with each batch
     /// that goes on from the current branch of the current run, or begins a run behind a current one that is not open, or
-    /// comes before the tip of its run and has a parent and no signal; after any other it is found by
-    /// [`Runs::find_strays`].
-    pub fn may_have_strays(&self) -> bool
+    /// comes before the tip of its run and has a parent and no signal; after any other it is found by [`Runs::is_due`].
+    fn may_have_strays(&self) -> bool
         ensures { result ≡ false → strays self.now ≡ [] }
     {
         self.strays.may_have()
@@ -235,19 +235,6 @@ impl Runs {
         self.strays.get()
     }
 
-    /// Finds what the strays are, where it is not known; then they are known. In time of all learned events where it is
-    /// not known. For want of memory it stays unknown.
-    pub fn find_strays(&mut self, alloc: Global) -> Result<(), AllocError>
-        ensures same { self.new ≡ self.old }
-    {
-        if self.strays.get().is_some() {
-            return Ok(());
-        }
-        let list = self.strays(alloc)?;
-        self.strays = Kept::known(list);
-        Ok(())
-    }
-
     /// Whether reapplication may be due, by what is known: there may be strays, and the current run is open.
     pub fn may_be_due(&self) -> bool
         ensures { result ≡ false → is_due self.now ≡ false }
@@ -256,7 +243,7 @@ impl Runs {
     }
 
     /// Whether reapplication is due: there are strays, and the current run is open. Where it is open, the strays are known
-    /// then, as by [`Runs::find_strays`].
+    /// then. In time of all learned events where they were not known. For want of memory they stay unknown.
     pub fn is_due(&mut self, alloc: Global) -> Result<bool, AllocError>
         ensures due { IfOk result (λ due. due ≡ is_due self.old) }
         ensures same { self.new ≡ self.old }

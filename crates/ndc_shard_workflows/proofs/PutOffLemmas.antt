@@ -25,7 +25,7 @@ use Rattle.ndc_shard_waiting.proofs.MissingLemmas.{missing_is}
 use Rattle.ndc_shard_waiting.proofs.OrderLemmas.{all-more, same-found}
 use Rattle.ndc_shard_waiting.proofs.PutLemmas.{batches-put}
 use Rattle.ndc_model_cells.specs.Workflow.{WorkflowValue}
-use Rattle.ndc_shard_workflows.specs.Workflow.{IsWorkflow, beside, put_off_in, still_waiting, missing_at, missing_for, all_missing, workflow_with, learned_with}
+use Rattle.ndc_shard_workflows.specs.Workflow.{IsWorkflow, beside, put_off_in, still_waiting, all_missing, workflow_with, learned_with}
 
 abbrev pair : BatchKey → Option BatchKey → BatchKey × Option BatchKey
 pair key missing = (key, missing)
@@ -90,23 +90,6 @@ module _ (known : List Batch) (waiting : List Message) (are : ArePutOff known wa
       each (b ∷ batches) all =
           ap (λ (o : Option BatchKey). pair b.key o ∷ map {B = BatchKey × Option BatchKey} (λ x. (x.key, missing_of x (with_messages waiting known))) batches) (missing_is known waiting are b all.0)
           ∙ ap (λ l. pair b.key (missing_from (Some b.key) (batches_of waiting)) ∷ l) (each batches all.1)
-
-  -- one that waits misses what is found among what waits
-  pub missed-at : (key : BatchKey) → has_key (Some key) (batches_of waiting) ≡ true → missing_at key (beside known waiting) ≡ missing_from (Some key) (batches_of waiting)
-  missed-at key there =
-      ap (λ l. missing_for (batch_at key l) (beside known waiting)) waits-are ∙ by (batch_at key (batches_of waiting)) refl there
-    where
-      by : (o : Option Batch) → batch_at key (batches_of waiting) ≡ o → is_some o ≡ true → missing_for o (beside known waiting) ≡ missing_from (Some key) (batches_of waiting)
-      by None e h = absurd (true≢false (sym h))
-      by (Some b) e h =
-          missing_is known waiting are b (found-has (batches_of waiting) key b e) ∙ ap (λ k. missing_from (Some k) (batches_of waiting)) (found-key (batches_of waiting) key b e)
-
-  pub missed-none : (key : BatchKey) → has_key (Some key) (batches_of waiting) ≡ false → missing_at key (beside known waiting) ≡ None
-  missed-none key absent = ap (λ l. missing_for (batch_at key l) (beside known waiting)) waits-are ∙ by (batch_at key (batches_of waiting)) absent
-    where
-      by : (o : Option Batch) → is_some o ≡ false → missing_for o (beside known waiting) ≡ None
-      by None h = refl
-      by (Some b) h = absurd (true≢false h)
 
   -- a message whose earlier key is not learned
   module _ (new : Message) (message : IsMessage new) (fresh : IsNewTo (with_messages waiting known) new) (off : has_key (earlier new.batch) known ≡ false) where

@@ -40,15 +40,6 @@ is_learned w b = has_key (Some b.key) (learned w.arrived)
 abbrev pub put_off_in : WorkflowValue → List Batch
 put_off_in w = filter (λ b. not (is_learned w b)) w.arrived
 
--- the nearest ancestor of a batch that has not arrived, where there is such a batch
-abbrev pub missing_for : Option Batch → WorkflowValue → Option BatchKey
-missing_for None w = None
-missing_for (Some b) w = missing_of b w.arrived
-
--- the same for the batch of this key that is put off
-abbrev pub missing_at : BatchKey → WorkflowValue → Option BatchKey
-missing_at key w = missing_for (batch_at key (put_off_in w)) w
-
 -- of each batch that is put off its key, and the nearest ancestor that has not arrived
 abbrev pub all_missing : WorkflowValue → List (BatchKey × Option BatchKey)
 all_missing w = map (λ b. (b.key, missing_of b w.arrived)) (put_off_in w)

@@ -50,7 +50,7 @@ impl Workflow {
     ghost use Rattle.ndc_shard_waiting.specs.Learning.{with_message};
     ghost use Rattle.ndc_model_cells.specs.Messages.{waits_for, IsMessage, IsNewTo};
     ghost use Rattle.ndc_model_cells.specs.Messages.{carrying, HasSmallIds};
-    ghost use Rattle.ndc_shard_workflows.specs.Workflow.{IsWorkflow, empty_workflow, has_arrived, missing_at, all_missing, answer_to, made_learned, after_arrival, with_written, counted_for};
+    ghost use Rattle.ndc_shard_workflows.specs.Workflow.{IsWorkflow, empty_workflow, has_arrived, all_missing, answer_to, made_learned, after_arrival, with_written, counted_for};
 
     /// Nothing has arrived.
     pub fn new(alloc: Global) -> Workflow
@@ -94,34 +94,13 @@ impl Workflow {
         self.get(key).is_some()
     }
 
-    /// Finds what the strays are, where it is not known; then they are known. In time of all learned events where it is
-    /// not known. For want of memory it stays unknown.
-    pub fn find_strays(&mut self, alloc: Global) -> Result<(), AllocError>
-        ensures { self.new ≡ self.old }
-    {
-        self.runs.find_strays(alloc)
-    }
-
     /// Whether reapplication is due: there are strays, and the current run is open. Where it is open, the strays are known
-    /// then, as by [`Workflow::find_strays`].
+    /// then. In time of all learned events where they were not known. For want of memory they stay unknown.
     pub fn is_due(&mut self, alloc: Global) -> Result<bool, AllocError>
         ensures due { IfOk result (λ due. due ≡ is_due (learned self.old.arrived)) }
         ensures same { self.new ≡ self.old }
     {
         self.runs.is_due(alloc)
-    }
-
-    /// The nearest ancestor that has not arrived of the batch of this key, where the batch is put off. Over many calls
-    /// in the logarithm of the put-off messages, without memory.
-    pub fn missing(&mut self, key: BatchKey) -> Option<BatchKey>
-        ensures missing { result ≡ missing_at key self.old }
-        ensures same { self.new ≡ self.old }
-    {
-        if self.waiting.has(key) {
-            Some(self.waiting.missing(key))
-        } else {
-            None
-        }
     }
 
     /// Of each batch that is put off, those that are carried too, in key order, its key and the nearest ancestor that has
@@ -133,7 +112,8 @@ impl Workflow {
     }
 
     /// A message arrives. A known one changes nothing. One of which the batch's earlier key is not learned is put off,
-    /// and any other is learned with all that waits for it. For want of memory nothing has arrived any more: the
+    /// and any other is learned with all that waits for it. That a batch then waits exactly while an ancestor of it has not
+    /// arrived is `ndc_model_sets::arrival_laws::learned_where_earlier_keys_have_arrived`. For want of memory nothing has arrived any more: the
     /// workflow is empty.
     ///
     /// Where it is not known, it is a message as cells write them, neither of its batches has arrived, and what is

@@ -58,7 +58,6 @@ fn runs_are_learned(rt: HostRuntime) -> Result<(), Fail> {
         statuses(alloc, &runs, &mut steps)?,
         Some((RunStatus::Zombie, RunStatus::Running))
     );
-    runs.find_strays(alloc)?;
     assert!(rt; !runs.is_due(alloc)?);
     Ok(())
 }

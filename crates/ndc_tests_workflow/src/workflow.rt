@@ -40,7 +40,6 @@ fn the_second_batch_arrives_first(rt: HostRuntime) -> Result<(), Fail> {
     assert_eq!(rt; workflow.all_missing(alloc)?.len(), 1);
     let arrival = first_arrives(&mut workflow, alloc, &mut steps)?;
     assert_eq!(rt; arrival.learned.as_slice().len(), 2);
-    workflow.find_strays(alloc)?;
     assert!(rt; !workflow.is_due(alloc)?);
     Ok(())
 }
