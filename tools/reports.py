@@ -98,3 +98,14 @@ def end(refused):
     """Ends a tool as the program would have ended."""
     print(refused, file=sys.stderr)
     sys.exit(refused.status)
+
+
+def status_of(main):
+    """Runs a tool, and returns its status. A reader that has seen enough ends it without a word."""
+    try:
+        status = main()
+        sys.stdout.flush()
+        return status
+    except BrokenPipeError:
+        os.dup2(os.open(os.devnull, os.O_WRONLY), sys.stdout.fileno())
+        return 1
