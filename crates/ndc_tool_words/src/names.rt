@@ -40,13 +40,6 @@ impl Names {
     {
         self.items.as_slice()
     }
-
-    /// The names, given back.
-    pub fn into_vec(self) -> Vec<Name>
-        ensures { result.items ≡ self }
-    {
-        self.items
-    }
 }
 
 /// Whether the name stands in the list.
