@@ -1,0 +1,4 @@
+mod Endings
+mod LawProofs
+mod Listing
+mod Pieces

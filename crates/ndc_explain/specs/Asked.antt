@@ -1,0 +1,66 @@
+-- The words that the program is called with: none, or the clusters whose names are to be told.
+use Rattle.std.specs.Prelude.{ℕ, ◌==◌, ◌&&◌, List, [], ◌∷◌, ◌++◌, codes, Option, Some, None, Result, Ok, Err, if◌then◌else◌}
+use Rattle.std.specs.List.{slice_split}
+use Rattle.std.specs.Str.{bytes_eq}
+use Rattle.ndc_domain.specs.Clusters.{ClusterList, clusters_of}
+use Rattle.ndc_domain.specs.declared.clusters.ClustersError.{ClustersError}
+use Rattle.ndc_event.specs.Name.{is_name}
+use Rattle.ndc_event.specs.Outcome.{◌>>=◌}
+use Rattle.ndc_event.specs.declared.name.Name.{Name}
+use Rattle.ndc_script_words.specs.Number.{number_of}
+use Rattle.ndc_explain.specs.declared.error.WordsError.{WordsError}
+use Rattle.ndc_explain.specs.declared.error.WordsError.TheVariants.{Refused}
+
+-- the number that a word is, or else the words are refused
+abbrev pub number_or : Option ℕ → Result ℕ WordsError
+number_or None = Err Refused
+number_or (Some number) = Ok number
+
+-- the name that a word is
+abbrev pub name_on : List ℕ → Result Name WordsError
+name_on word = if is_name word then Ok word else Err Refused
+
+-- a cluster's name and initial version
+unfoldable pub member_with : List ℕ → List ℕ → Result (Name × ℕ) WordsError
+member_with name initial = do
+  name ← name_on name
+  initial ← number_or (number_of initial)
+  Ok (name, initial)
+
+-- `NAME=INITIAL`
+abbrev pub member_in : List (List ℕ) → Result (Name × ℕ) WordsError
+member_in (name ∷ initial ∷ []) = member_with name initial
+member_in _ = Err Refused
+
+unfoldable pub member_of : List ℕ → Result (Name × ℕ) WordsError
+member_of word = member_in (slice_split (λ byte. byte == 61) word)
+
+-- members behind those in front
+abbrev pub behind : List (Name × ℕ) → Result (List (Name × ℕ)) WordsError → Result (List (Name × ℕ)) WordsError
+behind front (Ok members) = Ok (front ++ members)
+behind front (Err error) = Err error
+
+-- the members that these words are
+abbrev pub members_on : List (List ℕ) → Result (List (Name × ℕ)) WordsError
+members_on [] = Ok []
+members_on (word ∷ words) = member_of word >>= (λ member. behind (member ∷ []) (members_on words))
+
+-- the clusters, or else the words are refused
+abbrev pub clusters_or : Result ClusterList ClustersError → Result ClusterList WordsError
+clusters_or (Ok clusters) = Ok clusters
+clusters_or (Err error) = Err Refused
+
+-- the clusters of these members, between commas, and this increment
+unfoldable pub clusters_on : List ℕ → List ℕ → Result (Option ClusterList) WordsError
+clusters_on list increment = do
+  increment ← number_or (number_of increment)
+  members ← members_on (slice_split (λ byte. byte == 44) list)
+  clusters ← clusters_or (clusters_of increment members)
+  Ok (Some clusters)
+
+-- what the words ask for: `--clusters NAME=INITIAL,.. --increment INCREMENT`, or nothing
+abbrev pub asked_of : List (List ℕ) → Result (Option ClusterList) WordsError
+asked_of [] = Ok None
+asked_of (one ∷ list ∷ two ∷ increment ∷ []) =
+    if bytes_eq one (codes "--clusters") && bytes_eq two (codes "--increment") then clusters_on list increment else Err Refused
+asked_of _ = Err Refused

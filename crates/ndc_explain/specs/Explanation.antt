@@ -1,0 +1,66 @@
+-- The explanation of a dump.
+use Rattle.std.specs.Prelude.{ℕ, Bool, true, false, ◌||◌, nat_lt, List, [], ◌∷◌, ◌++◌, codes, decimal, length, Option}
+use Rattle.std.specs.List.{concat, flat_map, list_any}
+use Rattle.ndc_domain.specs.Clusters.{ClusterList}
+use Rattle.ndc_event.specs.declared.batch.Event.{Event}
+use Rattle.ndc_event.specs.declared.key.BatchKey.{BatchKey}
+use Rattle.ndc_model_sets.specs.Origins.{signals}
+use Rattle.ndc_model_sets.specs.declared.view.RunStatus.{RunStatus}
+use Rattle.ndc_model_sets.specs.declared.view.RunStatus.TheVariants.{Running, Zombie, Closed}
+use Rattle.ndc_model_sets.specs.declared.view.RunView.{RunView}
+use Rattle.ndc_model_sets.specs.declared.view.View.{View}
+use Rattle.ndc_reapply.specs.declared.stray.Stray.{Stray}
+use Rattle.ndc_reapply.specs.Strays.{strays_of}
+use Rattle.ndc_dump.specs.declared.dump.Dump.{Dump}
+use Rattle.ndc_explain.specs.Branches.{run_told}
+use Rattle.ndc_explain.specs.GivenUp.{given_up, given_up_line}
+use Rattle.ndc_explain.specs.Signals.{Settlers, signal_line, waiting_count, with_listed}
+use Rattle.ndc_explain.specs.Standing.{standing}
+
+-- whether it is the status of an open current run
+abbrev pub is_running : RunStatus → Bool
+is_running Running = true
+is_running Zombie = false
+is_running Closed = false
+
+-- whether the current run is open
+abbrev pub is_open : List RunView → Bool
+is_open runs = list_any (λ run. is_running run.status) runs
+
+-- what a view holds beside its runs: the events that are given up, the signals, each once by its origin, and what settles them
+pub record Findings : Type 0 where
+  pub lost : List (BatchKey × Event)
+  pub signals : List Stray
+  pub settlers : Settlers
+
+abbrev pub findings : View → Findings
+findings view = record {
+  lost = given_up (standing true view) view.batches;
+  signals = strays_of (signals view.batches) [];
+  settlers = with_listed (standing false view) view.batches [];
+}
+
+-- how many signals wait
+abbrev pub waiting : Findings → ℕ
+waiting found = waiting_count found.settlers found.signals
+
+-- whether something is given up or waits
+abbrev pub leaves_any : Findings → Bool
+leaves_any found = nat_lt 0 (length found.lost) || nat_lt 0 (waiting found)
+
+-- the last line: the counts
+abbrev pub counts_line : View → Findings → List ℕ
+counts_line view found =
+    concat (
+    codes "batches " ∷ decimal (length view.batches) ∷ codes " runs " ∷ decimal (length view.runs) ∷ codes " given up " ∷ decimal (length found.lost)
+    ∷ codes " signals " ∷ decimal (length found.signals) ∷ codes " waiting " ∷ decimal (waiting found) ∷ codes "\n" ∷ [])
+
+-- the lines of what was found
+abbrev pub findings_told : Option ClusterList → Dump → Findings → List ℕ
+findings_told clusters dump found =
+    flat_map (given_up_line clusters) found.lost ++ flat_map (signal_line clusters dump.workflow (is_open dump.view.runs) found.settlers) found.signals ++ counts_line dump.view found
+
+-- the explanation: the workflow; each run and which of its branches leads; what is given up; what became of each signal; the counts
+abbrev pub explanation_of : Option ClusterList → Dump → List ℕ
+explanation_of clusters dump =
+    codes "workflow " ++ dump.domain ++ codes " " ++ dump.workflow ++ codes "\n" ++ flat_map (run_told clusters) dump.view.runs ++ findings_told clusters dump (findings dump.view)

@@ -1,0 +1,10 @@
+pub mod Pieces
+pub mod Writers
+pub mod Branches
+pub mod Standing
+pub mod GivenUp
+pub mod Signals
+pub mod Explanation
+pub mod Asked
+pub mod Faulty
+pub mod Top

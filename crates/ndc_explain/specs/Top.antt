@@ -1,0 +1,109 @@
+-- The program as a whole: what it writes, the faults that end it, and what it tells of them.
+use Rattle.std.specs.Prelude.{◌≡◌, ◌⊎◌, ℕ, ◌==◌, ◌<◌, ◌≤◌, Bool, ⊤, true, List, [], length, codes, Option, Some, None, Err, IsOkAnd, IfSome, if◌then◌else◌}
+use Rattle.std.specs.List.{list_any}
+use Rattle.ndc_domain.specs.Clusters.{ClusterList}
+use Rattle.ndc_port.specs.Bytes.{Appends, AppendsFront}
+use Rattle.ndc_port.specs.Fault.{Rose}
+use Rattle.ndc_dump.specs.Read.{dump_of}
+use Rattle.ndc_dump_causes.specs.declared.error.DumpError.{DumpError}
+use Rattle.ndc_dump_causes.specs.declared.error.DumpError.TheVariants as error
+use Rattle.ndc_explain.specs.Explanation.{explanation_of, findings, leaves_any}
+use Rattle.ndc_explain.specs.Faulty.{dump_batch_line, dump_line}
+use Rattle.ndc_explain.specs.declared.fault.Fault.{Fault}
+use Rattle.ndc_explain.specs.declared.fault.Fault.TheVariants as fault
+
+-- how many bytes the input may have
+abbrev pub most_bytes : ℕ
+most_bytes = 16777216
+
+-- the status that the program ends with after a fault
+abbrev pub status_of : Fault → ℕ
+status_of fault.Words = 2
+status_of (fault.DumpLine line cause) = 7
+status_of (fault.DumpBatch key cause) = 7
+status_of fault.Read = 4
+status_of fault.Write = 5
+status_of fault.Limit = 6
+status_of fault.Memory = 8
+
+-- the line that tells of a fault
+abbrev pub fault_line : Fault → List ℕ
+fault_line fault.Words = codes "ndc_explain: words: [--clusters NAME=INITIAL,.. --increment INCREMENT]\n"
+fault_line (fault.DumpLine line cause) = dump_line line cause
+fault_line (fault.DumpBatch key cause) = dump_batch_line key cause
+fault_line fault.Read = codes "ndc: read fault\n"
+fault_line fault.Write = codes "ndc: write fault\n"
+fault_line fault.Limit = codes "ndc: input limit\n"
+fault_line fault.Memory = codes "ndc: out of memory\n"
+
+-- the bytes were written whole, or a front of them, and then the count of faults rose
+abbrev pub Tells : Option (List ℕ) → Option (List ℕ) → ℕ → ℕ → List ℕ → Type 0
+Tells before after faults_before faults_after bytes =
+    Appends before after bytes ⊎ (AppendsFront before after bytes × Rose faults_before faults_after)
+
+-- the line for a status that needs no more than a constant line
+abbrev pub status_line : ℕ → Option (List ℕ)
+status_line status =
+    if status == 2 then Some (fault_line fault.Words)
+    else if status == 4 then Some (fault_line fault.Read)
+    else if status == 5 then Some (fault_line fault.Write)
+    else if status == 6 then Some (fault_line fault.Limit)
+    else if status == 8 then Some (fault_line fault.Memory)
+    else None
+
+-- the status is one of these
+abbrev pub IsAmong : ℕ → List ℕ → Type 0
+IsAmong status statuses = list_any (λ one. one == status) statuses ≡ true
+
+-- the status that says whether a dump leaves something given up or waiting
+abbrev pub told_status : Bool → ℕ
+told_status leaves = if leaves then 1 else 0
+
+-- all was read, it was a dump, its explanation was written whole, and this is whether it leaves something
+abbrev pub Explains : Option ClusterList → Bool → Option (List ℕ) → Option (List ℕ) → Option (List ℕ) → Option (List ℕ) → Type 0
+Explains clusters leaves left rest before after =
+    IfSome left (λ bytes. (length bytes ≤ most_bytes) × (rest ≡ Some []) × IsOkAnd (dump_of bytes) (λ dump. Appends before after (explanation_of clusters dump) × (leaves ≡ leaves_any (findings dump.view))))
+
+-- a dump was read, and a front of its explanation was written
+abbrev pub StopsExplaining : Option ClusterList → Option (List ℕ) → Option (List ℕ) → Option (List ℕ) → Type 0
+StopsExplaining clusters left before after =
+    IfSome left (λ bytes. (length bytes ≤ most_bytes) × IsOkAnd (dump_of bytes) (λ dump. AppendsFront before after (explanation_of clusters dump)))
+
+-- nothing was written, or a dump was read and a front of its explanation was written
+abbrev pub ExplainsFront : Option ClusterList → Option (List ℕ) → Option (List ℕ) → Option (List ℕ) → Type 0
+ExplainsFront clusters left before after = (after ≡ before) ⊎ StopsExplaining clusters left before after
+
+-- what was there, and what is there, as a call saw it: the bytes left in the source, its faults, what out has, and its faults
+pub record Streams : Type 0 where
+  pub left : Option (List ℕ)
+  pub source_faults : ℕ
+  pub written : Option (List ℕ)
+  pub out_faults : ℕ
+
+-- why reading a dump ends with a fault
+abbrev pub DumpFault : Option (List ℕ) → ℕ → ℕ → Fault → Type 0
+DumpFault left before after fault.Words = ⊥
+DumpFault left before after (fault.DumpLine line cause) = IfSome left (λ bytes. (length bytes ≤ most_bytes) × (dump_of bytes ≡ Err (error.Line line cause)))
+DumpFault left before after (fault.DumpBatch key cause) = IfSome left (λ bytes. (length bytes ≤ most_bytes) × (dump_of bytes ≡ Err (error.Key key cause)))
+DumpFault left before after fault.Read = Rose before after
+DumpFault left before after fault.Write = ⊥
+DumpFault left before after fault.Limit = IfSome left (λ bytes. most_bytes < length bytes)
+DumpFault left before after fault.Memory = ⊤
+
+-- why explaining a dump ends with a fault, between what was there and what is there
+abbrev pub ExplainFault : Option ClusterList → Streams → Streams → Fault → Type 0
+ExplainFault clusters old new fault.Words = ⊥
+ExplainFault clusters old new (fault.DumpLine line cause) =
+    DumpFault old.left old.source_faults new.source_faults (fault.DumpLine line cause) × (new.written ≡ old.written)
+ExplainFault clusters old new (fault.DumpBatch key cause) =
+    DumpFault old.left old.source_faults new.source_faults (fault.DumpBatch key cause) × (new.written ≡ old.written)
+ExplainFault clusters old new fault.Read = Rose old.source_faults new.source_faults × (new.written ≡ old.written)
+ExplainFault clusters old new fault.Write = Rose old.out_faults new.out_faults × StopsExplaining clusters old.left old.written new.written
+ExplainFault clusters old new fault.Limit = IfSome old.left (λ bytes. most_bytes < length bytes) × (new.written ≡ old.written)
+ExplainFault clusters old new fault.Memory = new.written ≡ old.written
+
+-- the line on a faulty dump was written, or a front of it and a fault came
+abbrev pub TellsDumpError : Option (List ℕ) → Option (List ℕ) → ℕ → ℕ → DumpError → Type 0
+TellsDumpError before after faults_before faults_after (error.Line line cause) = Tells before after faults_before faults_after (dump_line line cause)
+TellsDumpError before after faults_before faults_after (error.Key key cause) = Tells before after faults_before faults_after (dump_batch_line key cause)
+TellsDumpError before after faults_before faults_after error.Memory = ⊥

@@ -1,0 +1,139 @@
+//! The words that the program is called with.
+ghost use Rattle.std.specs.Prelude.{◌≡◌, ◌==◌, map, IfOk, if◌then◌else◌};
+ghost use Rattle.std.specs.List.{slice_split};
+ghost use Rattle.std.specs.String.{string_bytes};
+ghost use Rattle.ndc_domain.specs.Clusters.{clusters_of};
+ghost use Rattle.ndc_event.specs.Outcome.{Gives};
+ghost use Rattle.ndc_explain.specs.declared.error.WordsError.TheVariants.{Memory};
+ghost use Rattle.ndc_script_words.specs.Number.{number_of};
+ghost use Rattle.ndc_explain.specs.Asked.{asked_of, clusters_on, clusters_or, member_in, member_of, member_with, members_on, name_on, number_or};
+
+use crate::error::WordsError;
+use ndc_domain::Clusters;
+use ndc_event::{Name, NameError};
+use ndc_script_words::number_of;
+use std::alloc::{AllocError, Global};
+
+/// The number that a word is.
+fn number_on(word: &[u8]) -> Result<u64, WordsError>
+    ensures { result ≡ number_or (number_of word.now) }
+{
+    match number_of(word) {
+        None => Err(WordsError::Refused),
+        Some(number) => Ok(number),
+    }
+}
+
+/// The name that a word is.
+fn name_on(alloc: Global, word: &[u8]) -> Result<Name, WordsError>
+    ensures { Gives Memory (λ name. name) result (name_on word.now) }
+{
+    match Name::new(alloc, word) {
+        Ok(name) => Ok(name),
+        Err(NameError::Memory) => Err(WordsError::Memory),
+        Err(_) => Err(WordsError::Refused),
+    }
+}
+
+/// A cluster's name and initial version.
+#[tactic(auto, unfolding(crate::specs::Asked::member_with))]
+fn member_with(alloc: Global, name: &[u8], initial: &[u8]) -> Result<(Name, u64), WordsError>
+    ensures { Gives Memory (λ member. member) result (member_with name.now initial.now) }
+{
+    let name = name_on(alloc, name)?;
+    let initial = number_on(initial)?;
+    Ok((name, initial))
+}
+
+/// What stands between the equals signs of a text.
+fn sides_of<'a>(alloc: Global, text: &'a [u8]) -> Result<Vec<&'a [u8]>, AllocError>
+    ensures { IfOk result (λ parts. map (λ part. part.now) parts.items ≡ slice_split (λ byte. byte == 61) text.now) }
+{
+    text.split(|byte| *byte == b'=').collect(alloc)
+}
+
+/// What stands between the commas of a text.
+fn parts_of<'a>(alloc: Global, text: &'a [u8]) -> Result<Vec<&'a [u8]>, AllocError>
+    ensures { IfOk result (λ parts. map (λ part. part.now) parts.items ≡ slice_split (λ byte. byte == 44) text.now) }
+{
+    text.split(|byte| *byte == b',').collect(alloc)
+}
+
+/// The member that the two sides of an equals sign are.
+fn member_in(alloc: Global, sides: &[&[u8]]) -> Result<(Name, u64), WordsError>
+    ensures { Gives Memory (λ member. member) result (member_in (map (λ side. side.now) sides.now)) }
+{
+    match sides {
+        [name, initial] => member_with(alloc, name, initial),
+        _ => Err(WordsError::Refused),
+    }
+}
+
+/// The member that a word is.
+#[tactic(auto, unfolding(crate::specs::Asked::member_of))]
+fn member_of(alloc: Global, word: &[u8]) -> Result<(Name, u64), WordsError>
+    ensures { Gives Memory (λ member. member) result (member_of word.now) }
+{
+    let sides = sides_of(alloc, word)?;
+    member_in(alloc, sides.as_slice())
+}
+
+/// The members that words are.
+fn members_on(alloc: Global, words: &[&[u8]]) -> Result<Vec<(Name, u64)>, WordsError>
+    ensures { Gives Memory (λ members. members.items) result (members_on (map (λ word. word.now) words.now)) }
+{
+    let mut members = Vec::new(alloc);
+    for word in words {
+        let member = member_of(alloc, word)?;
+        members.push(member)?;
+    }
+    Ok(members)
+}
+
+/// The members that stand between the commas of a text.
+fn members_of(alloc: Global, list: &[u8]) -> Result<Vec<(Name, u64)>, WordsError>
+    ensures { Gives Memory (λ members. members.items) result (members_on (slice_split (λ byte. byte == 44) list.now)) }
+{
+    let words = parts_of(alloc, list)?;
+    members_on(alloc, words.as_slice())
+}
+
+/// The clusters of an increment and members.
+fn clusters_with(increment: u64, members: Vec<(Name, u64)>) -> Result<Clusters, WordsError>
+    ensures { result ≡ clusters_or (clusters_of increment members.items) }
+{
+    match Clusters::build(increment, members) {
+        Ok(clusters) => Ok(clusters),
+        Err(_) => Err(WordsError::Refused),
+    }
+}
+
+/// The clusters of a list of members and an increment.
+#[tactic(auto, unfolding(crate::specs::Asked::clusters_on))]
+fn clusters_on(alloc: Global, list: &[u8], increment: &[u8]) -> Result<Option<Clusters>, WordsError>
+    ensures { Gives Memory (λ clusters. clusters) result (clusters_on list.now increment.now) }
+{
+    let increment = number_on(increment)?;
+    let members = members_of(alloc, list)?;
+    let clusters = clusters_with(increment, members)?;
+    Ok(Some(clusters))
+}
+
+/// What the words ask for: the clusters whose names are to be told, or none.
+pub(crate) fn asked_of(alloc: Global, words: &[String]) -> Result<Option<Clusters>, WordsError>
+    ensures { Gives Memory (λ clusters. clusters) result (asked_of (map string_bytes words.now)) }
+{
+    match words {
+        [] => Ok(None),
+        [one, list, two, increment] => {
+            if one.as_bytes() == b"--clusters".as_slice()
+                && two.as_bytes() == b"--increment".as_slice()
+            {
+                clusters_on(alloc, list.as_bytes(), increment.as_bytes())
+            } else {
+                Err(WordsError::Refused)
+            }
+        }
+        _ => Err(WordsError::Refused),
+    }
+}

@@ -1,0 +1,95 @@
+//! The batches that stand on current branches.
+ghost use Rattle.std.specs.Prelude.{◌≡◌, IfOk, OnOk};
+ghost use Rattle.ndc_dump.specs.Marks.{current_key};
+ghost use Rattle.ndc_model_sets.specs.Current.{is_zombie};
+ghost use Rattle.ndc_explain.specs.Standing.{standing, with_optional, with_parent, with_parents, with_tip, with_tips};
+
+use crate::branches::leader;
+use ndc_dump_causes::keys::KeySet;
+use ndc_event::{Batch, BatchKey};
+use ndc_model_sets::{BranchView, RunStatus, RunView, View};
+use std::alloc::{AllocError, Global};
+
+/// Whether it is the status of a zombie.
+fn is_zombie(status: RunStatus) -> bool
+    ensures { result ≡ is_zombie status }
+{
+    match status {
+        RunStatus::Zombie => true,
+        RunStatus::Running | RunStatus::Closed => false,
+    }
+}
+
+/// The tip of the branch that leads.
+fn current_key(branches: &[BranchView]) -> Option<BatchKey>
+    ensures { result ≡ current_key branches.now }
+{
+    match leader(branches) {
+        None => None,
+        Some(branch) => Some(branch.tip),
+    }
+}
+
+/// Lists the key, where there is one.
+fn insert(keys: &mut KeySet, key: Option<BatchKey>) -> Result<(), AllocError>
+    ensures { OnOk result (keys.new ≡ with_optional key keys.old) }
+{
+    match key {
+        None => Ok(()),
+        Some(key) => keys.insert(key),
+    }
+}
+
+/// Lists the tip of the current branch of a run, unless it is a zombie and these don't count.
+fn insert_tip(keys: &mut KeySet, zombies: bool, run: &RunView) -> Result<(), AllocError>
+    ensures { OnOk result (keys.new ≡ with_tip zombies run.now keys.old) }
+{
+    if zombies || !is_zombie(run.status) {
+        insert(keys, current_key(run.branches.as_slice()))
+    } else {
+        Ok(())
+    }
+}
+
+/// Lists the tips of the current branches of runs.
+fn insert_tips(keys: &mut KeySet, zombies: bool, runs: &[RunView]) -> Result<(), AllocError>
+    ensures { OnOk result (keys.new ≡ with_tips zombies runs.now keys.old) }
+{
+    for run in runs {
+        insert_tip(keys, zombies, run)?;
+    }
+    Ok(())
+}
+
+/// Lists the parent of a batch that is listed.
+fn insert_parent(keys: &mut KeySet, batch: &Batch) -> Result<(), AllocError>
+    ensures { OnOk result (keys.new ≡ with_parent batch.now keys.old) }
+{
+    if keys.contains(batch.key) {
+        insert(keys, batch.parent)
+    } else {
+        Ok(())
+    }
+}
+
+/// Lists the parents of those of the batches that are listed, from the last batch to the first.
+fn insert_parents(keys: &mut KeySet, batches: &[Batch]) -> Result<(), AllocError>
+    ensures { OnOk result (keys.new ≡ with_parents batches.now keys.old) }
+{
+    let mut place = batches.len();
+    while place > 0 {
+        place -= 1;
+        insert_parent(keys, &batches[place])?;
+    }
+    Ok(())
+}
+
+/// The keys of the batches on current branches: of all runs, or of those that are no zombies.
+pub(crate) fn standing(alloc: Global, zombies: bool, view: &View) -> Result<KeySet, AllocError>
+    ensures { IfOk result (λ keys. keys ≡ standing zombies view.now) }
+{
+    let mut keys = KeySet::new(alloc);
+    insert_tips(&mut keys, zombies, view.runs.as_slice())?;
+    insert_parents(&mut keys, view.batches.as_slice())?;
+    Ok(keys)
+}

@@ -1,0 +1,214 @@
+//! The explanation of a dump.
+ghost use Rattle.std.specs.Prelude.{◌≡◌, ◌++◌, not, IfOk, OnOk};
+ghost use Rattle.std.specs.List.{flat_map};
+ghost use Rattle.ndc_explain.specs.Explanation.{counts_line, explanation_of, findings, findings_told, is_open, is_running, leaves_any};
+
+use crate::branches::push_runs;
+use crate::loss::{given_up, push_losses};
+use crate::piece::{Piece, push_pieces};
+use crate::settlers::{Settlers, settlers_of};
+use crate::signals::{each_signal, push_fates, waiting_count};
+use crate::standing::standing;
+use ndc_domain::Clusters;
+use ndc_dump::Dump;
+use ndc_dump_show::print::push_heading;
+use ndc_event::{BatchKey, Event, Name};
+use ndc_model_sets::{RunStatus, RunView, View};
+use ndc_reapply::Stray;
+use std::alloc::{AllocError, Global};
+use std::marker::Model;
+
+/// The explanation of a dump.
+#[derive(Drop)]
+pub struct Explanation {
+    /// Its text.
+    pub text: Vec<u8>,
+    /// Whether an event is given up or a signal waits.
+    pub leaves_any: bool,
+}
+
+/// What a view holds beside its runs.
+#[derive(Drop)]
+struct Found<'v> {
+    /// The events that are given up, each with its batch's key.
+    lost: Vec<(BatchKey, &'v Event)>,
+    /// The signals, each once by its origin.
+    signals: Vec<Stray>,
+    /// What settles them.
+    settlers: Settlers,
+}
+
+impl<'v> Model for Found<'v> {
+    ghost use Rattle.std.specs.Prelude.{map};
+    ghost use Rattle.ndc_explain.specs.Explanation.{Findings};
+
+    ghost Value = { Findings };
+
+    ghost view = { λ found. record {
+      lost = map (λ entry. (entry.0, entry.1.now)) found.lost.items;
+      signals = found.signals.items;
+      settlers = found.settlers;
+    } };
+}
+
+/// Whether it is the status of an open current run.
+fn is_running(status: RunStatus) -> bool
+    ensures { result ≡ is_running status }
+{
+    match status {
+        RunStatus::Running => true,
+        RunStatus::Zombie | RunStatus::Closed => false,
+    }
+}
+
+/// Whether the current run is open.
+fn is_open(runs: &[RunView]) -> bool
+    ensures { result ≡ is_open runs.now }
+{
+    for run in runs {
+        if is_running(run.status) {
+            return true;
+        }
+    }
+    false
+}
+
+/// Whether the current run of a view is open.
+fn has_open(view: &View) -> bool
+    ensures { result ≡ is_open view.now.runs }
+{
+    is_open(view.runs.as_slice())
+}
+
+/// What a view holds beside its runs.
+fn findings(alloc: Global, view: &View) -> Result<Found, AllocError>
+    ensures { IfOk result (λ found. found ≡ findings view.now) }
+{
+    let batches = view.batches.as_slice();
+    let current = standing(alloc, true, view)?;
+    let settling = standing(alloc, false, view)?;
+    Ok(Found {
+        lost: given_up(alloc, &current, batches)?,
+        signals: each_signal(alloc, batches)?,
+        settlers: settlers_of(alloc, &settling, batches)?,
+    })
+}
+
+impl<'v> Found<'v> {
+    ghost use Rattle.std.specs.Prelude.{◌≡◌, ◌++◌, OnOk};
+    ghost use Rattle.std.specs.List.{flat_map};
+    ghost use Rattle.ndc_explain.specs.Explanation.{counts_line, leaves_any, waiting};
+    ghost use Rattle.ndc_explain.specs.GivenUp.{given_up_line};
+    ghost use Rattle.ndc_explain.specs.Signals.{signal_line};
+
+    /// How many signals wait.
+    fn waiting(&self) -> usize
+        ensures { result ≡ waiting self.now }
+    {
+        waiting_count(&self.settlers, self.signals.as_slice())
+    }
+
+    /// Whether something is given up or waits.
+    fn leaves_any(&self) -> bool
+        ensures { result ≡ leaves_any self.now }
+    {
+        0 < self.lost.len() || 0 < self.waiting()
+    }
+
+    /// Appends the lines of the events that are given up.
+    fn push_losses(&self, text: &mut Vec<u8>, clusters: &Option<Clusters>) -> Result<(), AllocError>
+        ensures { OnOk result (text.new.items ≡ text.old.items ++ flat_map (given_up_line clusters.now) self.now.lost) }
+    {
+        push_losses(text, clusters, self.lost.as_slice())
+    }
+
+    /// Appends the lines of the signals of a workflow, whose current run is open or not.
+    fn push_fates(
+        &self,
+        alloc: Global,
+        text: &mut Vec<u8>,
+        clusters: &Option<Clusters>,
+        workflow: &Name,
+        is_open: bool,
+    ) -> Result<(), AllocError>
+        ensures { OnOk result (text.new.items ≡ text.old.items ++ flat_map (signal_line clusters.now workflow.now is_open self.now.settlers) self.now.signals) }
+    {
+        push_fates(
+            alloc,
+            text,
+            clusters,
+            workflow,
+            is_open,
+            &self.settlers,
+            self.signals.as_slice(),
+        )
+    }
+
+    /// Appends the line of counts.
+    fn push_counts(&self, text: &mut Vec<u8>, view: &View) -> Result<(), AllocError>
+        ensures { OnOk result (text.new.items ≡ text.old.items ++ counts_line view.now self.now) }
+    {
+        push_pieces(
+            text,
+            &[
+                Piece::Plain("batches "),
+                Piece::Number(view.batches.as_slice().len() as u64),
+                Piece::Plain(" runs "),
+                Piece::Number(view.runs.as_slice().len() as u64),
+                Piece::Plain(" given up "),
+                Piece::Number(self.lost.len() as u64),
+                Piece::Plain(" signals "),
+                Piece::Number(self.signals.len() as u64),
+                Piece::Plain(" waiting "),
+                Piece::Number(self.waiting() as u64),
+                Piece::Plain("\n"),
+            ],
+        )
+    }
+}
+
+/// Appends the lines of what was found.
+fn push_findings(
+    alloc: Global,
+    text: &mut Vec<u8>,
+    clusters: &Option<Clusters>,
+    dump: &Dump,
+    found: &Found,
+) -> Result<(), AllocError>
+    ensures { OnOk result (text.new.items ≡ text.old.items ++ findings_told clusters.now dump.now found.now) }
+{
+    found.push_losses(text, clusters)?;
+    found.push_fates(alloc, text, clusters, &dump.workflow, has_open(&dump.view))?;
+    found.push_counts(text, &dump.view)?;
+    Ok(())
+}
+
+/// Explains a dump, with the names of the clusters that wrote where these are given: the workflow; each run, which of
+/// its branches leads, and why each other one lost; each event of a losing branch but for signals, which stands in no
+/// state of a current branch; each signal, once, with the batch on a current branch that has it or a copy of it, or
+/// with what it waits for; and a line of counts.
+///
+/// It takes time of the dump, and of sorting its signals.
+pub fn explain(
+    alloc: Global,
+    clusters: &Option<Clusters>,
+    dump: &Dump,
+) -> Result<Explanation, AllocError>
+    ensures text { IfOk result (λ told. told.text.items ≡ explanation_of clusters.now dump.now) }
+    ensures leaves { IfOk result (λ told. told.leaves_any ≡ leaves_any (findings dump.now.view)) }
+{
+    let found = findings(alloc, &dump.view)?;
+    let mut text = Vec::new(alloc);
+    push_heading(
+        &mut text,
+        b"workflow ".as_slice(),
+        &dump.domain,
+        &dump.workflow,
+    )?;
+    push_runs(alloc, &mut text, clusters, dump.view.runs.as_slice())?;
+    push_findings(alloc, &mut text, clusters, dump, &found)?;
+    Ok(Explanation {
+        text,
+        leaves_any: found.leaves_any(),
+    })
+}
