@@ -8,6 +8,8 @@ HERE = os.path.dirname(os.path.abspath(__file__))
 # The program: what NDC names, else ./ndc beside the tools' folder.
 PROGRAM = os.environ.get("NDC") or os.path.join(os.path.dirname(HERE), "ndc")
 MOST_LINES = 100_000
+# The first words of lines that change nothing.
+READING = {"domain", "members", "levels", "gaps", "history", "branches", "current", "state", "dump", "compare", "letters", "progress"}
 ANSWER = re.compile(r"(\d+) (ok|refused)(?: (.*))?\Z")
 
 
