@@ -1,4 +1,4 @@
-ghost use Rattle.std.specs.Prelude.{◌≡◌, ◌<◌, ◌≤◌, IfOk, IfErr, length, drop, slice_get};
+ghost use Rattle.std.specs.Prelude.{◌≡◌, ◌<◌, ◌≤◌, ◌++◌, IfOk, IfErr, OnOk, length, drop, map, slice_get};
 ghost use Rattle.std.specs.Option.{option_copied};
 ghost use Rattle.ndc_tree.specs.Sorted.{Hits, Parts};
 ghost use Rattle.ndc_tree.specs.Segments.{AreSegments, against, flat};
@@ -60,8 +60,18 @@ fn first_at(segments: &[Segment], place: usize) -> Option<&Batch>
     segments[place].chain.first()
 }
 
+/// Adds these batches to the list.
+fn add_all<'b>(list: &mut Vec<&'b Batch>, batches: &'b [Batch]) -> Result<(), AllocError>
+    ensures { OnOk result (map (λ b. b.now) list.new.items ≡ map (λ b. b.now) list.old.items ++ batches.now) }
+{
+    for batch in batches {
+        list.push(batch)?;
+    }
+    Ok(())
+}
+
 impl Batches {
-    ghost use Rattle.std.specs.Prelude.{◌≡◌, [], None, OnOk, OnErr};
+    ghost use Rattle.std.specs.Prelude.{◌≡◌, [], None, map, IfOk, OnOk, OnErr};
     ghost use Rattle.std.specs.Option.{option_copied};
     ghost use Rattle.ndc_model_sets.specs.Sets.{batch_at, arrived};
     ghost use Rattle.ndc_model_sets.specs.Last.{first_from, last_batch, is_nil};
@@ -103,6 +113,17 @@ impl Batches {
             Ok(place) => self.segments[place].chain.get(key),
             Err(_) => None,
         }
+    }
+
+    /// The batches, in key order.
+    pub(crate) fn to_vec(&self, alloc: Global) -> Result<Vec<&Batch>, AllocError>
+        ensures { IfOk result (λ list. map (λ b. b.now) list.items ≡ self.now) }
+    {
+        let mut list = Vec::new(alloc);
+        for segment in self.segments.as_slice() {
+            add_all(&mut list, segment.chain.as_slice())?;
+        }
+        Ok(list)
     }
 
     /// Whether there is no batch.

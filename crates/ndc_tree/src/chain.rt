@@ -51,6 +51,13 @@ impl Chain {
         Ok(Chain { batches })
     }
 
+    /// The batches, in key order.
+    pub(crate) fn as_slice(&self) -> &[Batch]
+        ensures { result.now ≡ self.now }
+    {
+        self.batches.as_slice()
+    }
+
     /// The batch of this key.
     pub(crate) fn get(&self, key: BatchKey) -> Option<&Batch>
         ensures { option_copied result ≡ batch_at key self.now }

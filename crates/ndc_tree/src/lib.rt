@@ -5,7 +5,7 @@ mod answer;
 mod batches;
 mod chain;
 pub mod laws;
-mod sorted;
+pub mod sorted;
 mod tips;
 mod tree;
 

@@ -1,3 +1,4 @@
+//! Sorted lists.
 ghost use Rattle.std.specs.Prelude.{◌≡◌, ◌≤◌, length, insert, OnOk, OnErr};
 
 use std::alloc::AllocError;
@@ -14,7 +15,7 @@ fn room<T>(items: &mut Vec<T>) -> Result<(), AllocError>
 
 /// Puts the item to the place. The first item takes room for itself alone; for want of memory the list is as it
 /// was.
-pub(crate) fn put<T: Drop>(items: &mut Vec<T>, place: usize, item: T) -> Result<(), AllocError>
+pub fn put<T: Drop>(items: &mut Vec<T>, place: usize, item: T) -> Result<(), AllocError>
     requires { place ≤ length items.old.items }
     ensures ok { OnOk result (items.new.items ≡ insert items.old.items place item) }
     ensures err { OnErr result (items.new.items ≡ items.old.items) }

@@ -89,6 +89,13 @@ impl Tree {
         self.batches.get(key)
     }
 
+    /// The batches, in key order. In time of their number.
+    pub fn batches(&self, alloc: Global) -> Result<Vec<&Batch>, AllocError>
+        ensures { IfOk result (λ list. map (λ b. b.now) list.items ≡ self.now.batches) }
+    {
+        self.batches.to_vec(alloc)
+    }
+
     /// Takes the batch in. [`Inserted::Known`] exactly where an equal one is there. Refused with
     /// [`TreeError::MissingParent`] where its parent is not there; then with [`TreeError::NotWellFormed`] where it is
     /// of another run, or its key is there with another batch, or it has no parent and the tree has a batch, or its
