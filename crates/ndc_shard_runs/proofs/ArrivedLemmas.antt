@@ -24,14 +24,14 @@ compared one two = by (key_lt one two) refl (key_eq one two) refl
     by false f true g = same (same-keys one two g)
     by false f false g = more (before-total one two f g)
 
-not-less : (a b : BatchKey) → key_lt b a ≡ true → key_lt a b ≡ false
+pub not-less : (a b : BatchKey) → key_lt b a ≡ true → key_lt a b ≡ false
 not-less a b l = by (key_lt a b) refl
   where
     by : (t : Bool) → key_lt a b ≡ t → key_lt a b ≡ false
     by true e = absurd (before-irrefl a (before-trans a b a e l))
     by false e = e
 
-not-same : (a b : BatchKey) → key_lt b a ≡ true → key_eq a b ≡ false
+pub not-same : (a b : BatchKey) → key_lt b a ≡ true → key_eq a b ≡ false
 not-same a b l = by (key_eq a b) refl
   where
     by : (t : Bool) → key_eq a b ≡ t → key_eq a b ≡ false

@@ -23,7 +23,6 @@ use Rattle.ndc_reapply.specs.declared.stray.Stray.{Stray}
 use Rattle.ndc_model_sets.specs.Current.{current_state}
 use Rattle.ndc_state.specs.Value.{StateValue}
 use Rattle.ndc_shard_runs.specs.Kept.{AreKnown, after_batch, follows, is_open, Follows, after_any, lies_beside}
-use Rattle.ndc_shard_runs.specs.Places.{places_of, place_at, with_place}
 use Rattle.ndc_shard_runs.specs.RunMap.{all_of, batches_of, part_of, run_at, begun, grown, with_run, with_grown, with_batch}
 use Rattle.ndc_shard_runs.proofs.AllLemmas.{all-with, parts-with}
 use Rattle.ndc_shard_runs.proofs.ArrivedLemmas.{Rise-arrived, none-before, none-after, none-filter, filter-arrived, arrived-swap, greatest-arrived}
@@ -32,21 +31,19 @@ use Rattle.ndc_shard_runs.proofs.FollowLemmas.{known-when, follows-is, follows-b
 use Rattle.ndc_shard_runs.proofs.LearnLemmas.{found-run}
 use Rattle.ndc_shard_runs.proofs.PartLemmas.{has-part}
 use Rattle.ndc_shard_runs.proofs.StrayLemmas.{part-current}
-use Rattle.ndc_shard_runs.proofs.PlaceLemmas.{place-batch, with-arrived}
 
 -- what holds of the fields whatever the batches are
-pub record IsIndex (runs : List TreeValue) (places : List (BatchKey × RunId)) (task : ℕ) : Type 0 where
+pub record IsIndex (runs : List TreeValue) (task : ℕ) : Type 0 where
   pub rise : Rise (all_of runs)
   pub parts : (run : RunId) → batches_of (run_at run runs) ≡ part_of run (all_of runs)
   pub full : AllByRecursion (λ run. is_nil run.batches ≡ false) runs
-  pub each : places ≡ places_of (all_of runs)
   pub greatest : task ≡ greatest_task (all_of runs)
 
-pub index-of : (r : Inside) → IsRunsInside r → IsIndex r.runs r.places r.greatest_task
-index-of r inside = record { rise = inside.sound.set.ordered; parts = inside.parts; full = inside.full; each = inside.places; greatest = inside.task }
+pub index-of : (r : Inside) → IsRunsInside r → IsIndex r.runs r.greatest_task
+index-of r inside = record { rise = inside.sound.set.ordered; parts = inside.parts; full = inside.full; greatest = inside.task }
 
-pub inside-of : (r : Inside) → IsSound (all_of r.runs) → AreKnown (all_of r.runs) r.strays → IsIndex r.runs r.places r.greatest_task → IsRunsInside r
-inside-of r sound known x = record { sound = sound; known = known; parts = x.parts; full = x.full; places = x.each; task = x.greatest }
+pub inside-of : (r : Inside) → IsSound (all_of r.runs) → AreKnown (all_of r.runs) r.strays → IsIndex r.runs r.greatest_task → IsRunsInside r
+inside-of r sound known x = record { sound = sound; known = known; parts = x.parts; full = x.full; task = x.greatest }
 
 not-empty : (b : Batch) (batches : List Batch) → is_nil (arrived b batches) ≡ false
 not-empty b [] = refl
@@ -82,9 +79,8 @@ full-with b runs full = by (is_some (run_at b.run runs))
     by true = full-grown b runs full
     by false = full-begun b runs full
 
-pub index-moved : (runs others : List TreeValue) (places there : List (BatchKey × RunId)) (task most : ℕ) → runs ≡ others → places ≡ there → task ≡ most → IsIndex runs places task → IsIndex others there most
-index-moved runs others places there task most p q r x =
-    subst (λ n. IsIndex others there n) r (subst (λ (l : List (BatchKey × RunId)). IsIndex others l task) q (subst (λ (l : List TreeValue). IsIndex l places task) p x))
+pub index-moved : (runs others : List TreeValue) (task most : ℕ) → runs ≡ others → task ≡ most → IsIndex runs task → IsIndex others most
+index-moved runs others task most p q x = subst (λ n. IsIndex others n) q (subst (λ (l : List TreeValue). IsIndex l task) p x)
 
 -- the run of an id, where it has no batch, is none
 pub no-run : (run : RunId) (runs : List TreeValue) → AllByRecursion (λ r. is_nil r.batches ≡ false) runs → batches_of (run_at run runs) ≡ [] → run_at run runs ≡ None
@@ -95,19 +91,9 @@ no-run run (x ∷ xs) full e = by (same_run x.run run) e (no-run run xs full.1)
     by true h rest = let no : is_nil x.batches ≡ true = ap is_nil h in let some : is_nil x.batches ≡ false = full.0 in absurd (cc)
     by false h rest = rest h
 
-module _ (runs : List TreeValue) (places : List (BatchKey × RunId)) (task : ℕ) (x : IsIndex runs places task) (b : Batch) (none : batch_at b.key (all_of runs) ≡ None) where
+module _ (runs : List TreeValue) (task : ℕ) (x : IsIndex runs task) (b : Batch) (none : batch_at b.key (all_of runs) ≡ None) where
   pub all-is : all_of (with_batch b runs) ≡ arrived b (all_of runs)
   all-is = all-with b runs none
-
-  pub no-place-yet : place_at b.key places ≡ None
-  no-place-yet = ap (place_at b.key) x.each ∙ place-batch b.key (all_of runs) ∙ ap (option_map (λ y. y.run)) none
-
-  -- a key that is new is new in its run
-  pub fresh-in-run : batch_at b.key (batches_of (run_at b.run runs)) ≡ None
-  fresh-in-run = ap (batch_at b.key) (x.parts b.run) ∙ none-filter (λ y. same_run y.run b.run) (all_of runs) b.key none
-
-  places-are : with_place b.key b.run places ≡ places_of (all_of (with_batch b runs))
-  places-are = ap (with_place b.key b.run) x.each ∙ with-arrived b (all_of runs) none ∙ ap places_of (sym all-is)
 
   task-is : max task b.key.task ≡ greatest_task (all_of (with_batch b runs))
   task-is = ap (λ n. max n b.key.task) x.greatest ∙ turn (greatest_task (all_of runs)) b.key.task ∙ sym (greatest-arrived b (all_of runs) none) ∙ ap greatest_task (sym all-is)
@@ -116,30 +102,29 @@ module _ (runs : List TreeValue) (places : List (BatchKey × RunId)) (task : ℕ
       turn m n = omega arith
 
   -- the fields with one more batch
-  pub index-with : IsIndex (with_batch b runs) (with_place b.key b.run places) (max task b.key.task)
+  pub index-with : IsIndex (with_batch b runs) (max task b.key.task)
   index-with = record {
     rise = subst Rise (sym all-is) (Rise-arrived b (all_of runs) x.rise);
     parts = parts-with b runs x.rise none x.parts;
     full = full-with b runs x.full;
-    each = places-are;
     greatest = task-is;
   }
 
 module _ (r : Inside) (inside : IsRunsInside r) (b : Batch) (none : batch_at b.key (all_of r.runs) ≡ None) where
-  pub inside-with : (after : Inside) (s t : Bool) → IsSound (arrived b (all_of r.runs)) → s ≡ lies_beside (all_of r.runs) b → t ≡ follows (all_of r.runs) b → after.strays ≡ after_any b s t r.strays → after.runs ≡ with_batch b r.runs → after.places ≡ with_place b.key b.run r.places
+  pub inside-with : (after : Inside) (s t : Bool) → IsSound (arrived b (all_of r.runs)) → s ≡ lies_beside (all_of r.runs) b → t ≡ follows (all_of r.runs) b → after.strays ≡ after_any b s t r.strays → after.runs ≡ with_batch b r.runs
       → after.greatest_task ≡ max r.greatest_task b.key.task → IsRunsInside after
-  inside-with after s t sound lies told strays runs places task =
-      let all : all_of after.runs ≡ arrived b (all_of r.runs) = ap all_of runs ∙ all-is r.runs r.places r.greatest_task (index-of r inside) b none in
+  inside-with after s t sound lies told strays runs task =
+      let all : all_of after.runs ≡ arrived b (all_of r.runs) = ap all_of runs ∙ all-is r.runs r.greatest_task (index-of r inside) b none in
       inside-of after (subst IsSound (sym all) sound)
       (subst (λ (l : List Batch). AreKnown l after.strays) (sym all)
       (subst (AreKnown (arrived b (all_of r.runs))) (sym strays) (known-any (all_of r.runs) b r.strays s t inside.sound sound none lies told inside.known)))
-      (index-moved (with_batch b r.runs) after.runs (with_place b.key b.run r.places) after.places (max r.greatest_task b.key.task) after.greatest_task (sym runs) (sym places) (sym task)
-      (index-with r.runs r.places r.greatest_task (index-of r inside) b none))
+      (index-moved (with_batch b r.runs) after.runs (max r.greatest_task b.key.task) after.greatest_task (sym runs) (sym task)
+      (index-with r.runs r.greatest_task (index-of r inside) b none))
 
 -- the fields with two more batches, of which the second begins a run
 module _ (r : Inside) (inside : IsRunsInside r) (b second : Batch) (none : batch_at b.key (all_of r.runs) ≡ None) (fresh : batch_at second.key (arrived b (all_of r.runs)) ≡ None)
     (begins : part_of second.run (arrived b (all_of r.runs)) ≡ []) where
-  x : IsIndex r.runs r.places r.greatest_task
+  x : IsIndex r.runs r.greatest_task
   x = index-of r inside
 
   pub other-key : key_eq b.key second.key ≡ false
@@ -182,20 +167,18 @@ module _ (r : Inside) (inside : IsRunsInside r) (b second : Batch) (none : batch
       (x.parts second.run ∙ ap (λ t. if t then arrived b (part_of second.run (all_of r.runs)) else part_of second.run (all_of r.runs)) (sym run-apart) ∙ parts-before)
 
   both-none : batch_at b.key (all_of (with_batch second r.runs)) ≡ None
-  both-none = ap (batch_at b.key) (all-is r.runs r.places r.greatest_task x second second-none) ∙ none-after second (all_of r.runs) b.key apart none
+  both-none = ap (batch_at b.key) (all-is r.runs r.greatest_task x second second-none) ∙ none-after second (all_of r.runs) b.key apart none
 
   pub all-both : all_of (with_batch b (with_batch second r.runs)) ≡ arrived second (arrived b (all_of r.runs))
   all-both =
-      all-with b (with_batch second r.runs) both-none ∙ ap (arrived b) (all-is r.runs r.places r.greatest_task x second second-none) ∙ arrived-swap b second (all_of r.runs) other-key
+      all-with b (with_batch second r.runs) both-none ∙ ap (arrived b) (all-is r.runs r.greatest_task x second second-none) ∙ arrived-swap b second (all_of r.runs) other-key
 
   pub inside-both : (after : Inside) → IsSound (arrived second (arrived b (all_of r.runs))) → AreKnown (arrived second (arrived b (all_of r.runs))) after.strays → after.runs ≡ with_batch b (with_batch second r.runs)
-      → after.places ≡ with_place b.key b.run (with_place second.key second.run r.places) → after.greatest_task ≡ max (max r.greatest_task second.key.task) b.key.task → IsRunsInside after
-  inside-both after sound known runs places task =
+      → after.greatest_task ≡ max (max r.greatest_task second.key.task) b.key.task → IsRunsInside after
+  inside-both after sound known runs task =
       inside-of after (subst IsSound (sym (ap all_of runs ∙ all-both)) sound) (subst (λ (l : List Batch). AreKnown l after.strays) (sym (ap all_of runs ∙ all-both)) known)
-      (index-moved (with_batch b (with_batch second r.runs)) after.runs (with_place b.key b.run (with_place second.key second.run r.places)) after.places
-      (max (max r.greatest_task second.key.task) b.key.task) after.greatest_task (sym runs) (sym places) (sym task)
-      (index-with (with_batch second r.runs) (with_place second.key second.run r.places) (max r.greatest_task second.key.task)
-      (index-with r.runs r.places r.greatest_task x second second-none) b both-none))
+      (index-moved (with_batch b (with_batch second r.runs)) after.runs (max (max r.greatest_task second.key.task) b.key.task) after.greatest_task (sym runs) (sym task)
+      (index-with (with_batch second r.runs) (max r.greatest_task second.key.task) (index-with r.runs r.greatest_task x second second-none) b both-none))
 
   -- the state of the first batch's run, in the map, is that of its current branch
   state-both : IsSound (arrived b (all_of r.runs)) → is_open (option_map (λ v. current_state v.run v.batches) (run_at b.run (with_batch b (with_batch second r.runs)))) ≡ false
@@ -204,8 +187,7 @@ module _ (r : Inside) (inside : IsRunsInside r) (b second : Batch) (none : batch
     where
       parts-both : batches_of (run_at b.run (with_batch b (with_batch second r.runs))) ≡ part_of b.run (arrived b (all_of r.runs))
       parts-both =
-          (index-with (with_batch second r.runs) (with_place second.key second.run r.places) (max r.greatest_task second.key.task)
-          (index-with r.runs r.places r.greatest_task x second second-none) b both-none).parts b.run
+          (index-with (with_batch second r.runs) (max r.greatest_task second.key.task) (index-with r.runs r.greatest_task x second second-none) b both-none).parts b.run
           ∙ ap (part_of b.run) all-both ∙ filter-arrived (λ y. same_run y.run b.run) second (arrived b (all_of r.runs)) sound.set.ordered fresh
           ∙ ap (λ t. if t then arrived second (part_of b.run (arrived b (all_of r.runs))) else part_of b.run (arrived b (all_of r.runs))) other-run
 

@@ -7,6 +7,7 @@ pub mod AllLemmas
 pub mod PartLemmas
 pub mod ReadLemmas
 pub mod TipLemmas
+pub mod IndexLemmas
 pub mod InsideLemmas
 pub mod StrayLemmas
 pub mod ViewLemmas

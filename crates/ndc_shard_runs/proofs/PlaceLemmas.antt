@@ -1,6 +1,7 @@
 -- Keys with their runs, in a map and in a list.
-use Rattle.std.proofs.Common.{◌≡◌, ℕ, zero, suc, ◌-◌, Bool, true, false, List, [], ◌∷◌, length, cond, Option, Some, None, slice_get, if◌then◌else◌, refl, ap, sym, ◌∙◌, subst, arith}
+use Rattle.std.proofs.Common.{◌≡◌, ℕ, zero, suc, ◌-◌, Bool, true, false, List, [], ◌∷◌, ◌++◌, length, cond, Option, Some, None, slice_get, if◌then◌else◌, refl, ap, sym, ◌∙◌, subst, arith}
 use Rattle.std.specs.BTreeMap.{insert_entry, is_at}
+use Rattle.std.specs.List.{AllByRecursion}
 use Rattle.std.specs.Map.{lookup, remove_entry}
 use Rattle.std.specs.Option.{option_map, option_or}
 use Rattle.std.specs.Ordering.{is_eq}
@@ -14,7 +15,7 @@ use Rattle.ndc_model_sets.proofs.KeyLemmas.{key_eq-self, same-keys}
 use Rattle.ndc_model_sets.specs.Last.{last_batch}
 use Rattle.ndc_model_sets.proofs.KeyOrder.{key_cmp, key_cmp-same}
 use Rattle.ndc_shard_runs.specs.Places.{places_of, place_at, with_place, without_place, last_place}
-use Rattle.ndc_shard_runs.proofs.ArrivedLemmas.{none-parts}
+use Rattle.ndc_shard_runs.proofs.ArrivedLemmas.{none-parts, not-less, not-same}
 
 module _ (cmp : BatchKey → BatchKey → Ordering) (law : (a b : BatchKey) → cmp a b ≡ key_cmp a b) where
   at-key : (key other : BatchKey) → is_at (cmp key) other ≡ key_eq other key
@@ -93,6 +94,11 @@ with-arrived b (x ∷ xs) none = by (key_lt b.key x.key) (key_eq b.key x.key) re
     by true e f g parts rest = rw f refl
     by false true f g parts rest = let h : key_eq x.key b.key ≡ true = flip g in let n : key_eq x.key b.key ≡ false = parts.0 in absurd (cc)
     by false false f g parts rest = rw (f, g) (ap (λ l. (x.key, x.run) ∷ l) (rest parts.1))
+
+-- a batch whose key comes behind all others goes to the end
+pub placed-behind : (b : Batch) (front : List Batch) → AllByRecursion (λ (x : Batch). key_lt x.key b.key ≡ true) front → with_place b.key b.run (places_of front) ≡ places_of (front ++ b ∷ [])
+placed-behind b [] before = refl
+placed-behind b (x ∷ front) before = rw (not-less b.key x.key before.0, not-same b.key x.key before.0) (ap (λ l. (x.key, x.run) ∷ l) (placed-behind b front before.1))
 
 -- a key that was put among others where it was not is taken out again
 pub without-with : (key : BatchKey) (run : RunId) (places : List (BatchKey × RunId)) → place_at key places ≡ None → without_place key (with_place key run places) ≡ places

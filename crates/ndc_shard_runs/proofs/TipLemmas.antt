@@ -15,6 +15,7 @@ use Rattle.ndc_model_sets.specs.Sound.{IsSound}
 use Rattle.ndc_model_sets.proofs.SetLemmas.{has-found}
 use Rattle.ndc_model_sets.specs.Last.{is_nil, last_batch}
 use Rattle.ndc_shard_runs.specs.Kept.{is_idle, is_open}
+use Rattle.ndc_tree.proofs.LastLemmas.{none-last}
 use Rattle.ndc_tree.specs.Tree.{TreeValue}
 use Rattle.ndc_shard_runs.specs.Places.{places_of, place_at, last_place}
 use Rattle.ndc_shard_runs.specs.RunMap.{part_of, run_in, run_at, batches_of}
@@ -122,3 +123,26 @@ none-read None true e = refl
 none-read None false e = absurd (cc)
 none-read (Some x) true e = absurd (cc)
 none-read (Some x) false e = refl
+
+-- what there is is there once it is read
+pub some-read : {X : Type 0} (o : Option (Bor X)) → is_some o ≡ is_some (option_copied o)
+some-read None = refl
+some-read (Some x) = refl
+
+pub some-of : {X Y : Type 0} (f : X → Y) (o : Option X) → is_some (option_map f o) ≡ is_some o
+some-of f None = refl
+some-of f (Some x) = refl
+
+-- there is a last batch exactly where there is one
+pub nil-last : (batches : List Batch) (key : Option BatchKey) (t : Bool) → is_some key ≡ not t → key ≡ option_map (λ b. b.key) (last_batch batches) → t ≡ is_nil batches
+nil-last batches key t e h = by (last_batch batches) refl t (ap is_some (sym h) ∙ e)
+  where
+    by : (o : Option Batch) → last_batch batches ≡ o → (t : Bool) → is_some (option_map (λ (b : Batch). b.key) (last_batch batches)) ≡ not t → t ≡ is_nil batches
+    by None at true g = sym (ap is_nil (none-last batches at))
+    by None at false g = let none : is_some (option_map (λ (b : Batch). b.key) (last_batch batches)) ≡ false = ap (λ o. is_some (option_map (λ (b : Batch). b.key) o)) at in absurd (cc)
+    by (Some m) at true g = let some : is_some (option_map (λ (b : Batch). b.key) (last_batch batches)) ≡ true = ap (λ o. is_some (option_map (λ (b : Batch). b.key) o)) at in absurd (cc)
+    by (Some m) at false g = sym (full batches at)
+      where
+        full : (l : List Batch) → last_batch l ≡ Some m → is_nil l ≡ false
+        full [] h = absurd (cc)
+        full (b ∷ l) h = refl

@@ -2,24 +2,21 @@
 use Rattle.std.specs.Prelude.{◌≡◌, false, List}
 use Rattle.std.specs.List.{AllByRecursion}
 use Rattle.ndc_event.specs.declared.batch.Batch.{Batch}
-use Rattle.ndc_event.specs.declared.key.RunId.{RunId}
 use Rattle.ndc_model_cells.specs.Writing.{greatest_task}
 use Rattle.ndc_model_sets.specs.Sound.{IsSound}
 use Rattle.ndc_model_sets.specs.Last.{is_nil}
 use Rattle.ndc_shard_runs.specs.declared.runs.Runs.TheInside.{Inside}
 use Rattle.ndc_shard_runs.specs.Kept.{AreKnown}
-use Rattle.ndc_shard_runs.specs.Places.{places_of}
-use Rattle.ndc_shard_runs.specs.RunMap.{all_of, batches_of, part_of, run_at}
+use Rattle.ndc_shard_runs.specs.RunMap.{AreParts, all_of}
 
 abbrev pub batches_in : Inside → List Batch
 batches_in r = all_of r.runs
 
--- the batches are sound, each run has its part of them and is not empty, each key stands with its run, and the
--- greatest task is known; what is known of the strays is so
+-- the batches are sound, each run has its part of them and is not empty, and the greatest task is known; what is known
+-- of the strays is so
 pub record IsRunsInside (r : Inside) : Type 0 where
   pub sound : IsSound (all_of r.runs)
-  pub parts : (run : RunId) → batches_of (run_at run r.runs) ≡ part_of run (all_of r.runs)
+  pub parts : AreParts r.runs
   pub full : AllByRecursion (λ run. is_nil run.batches ≡ false) r.runs
-  pub places : r.places ≡ places_of (all_of r.runs)
   pub known : AreKnown (all_of r.runs) r.strays
   pub task : r.greatest_task ≡ greatest_task (all_of r.runs)

@@ -22,6 +22,11 @@ with_place key run (place ∷ places) =
     else if key_eq key place.0 then (place.0, run) ∷ places
     else place ∷ with_place key run places
 
+-- the places with the keys of these batches
+abbrev pub all_placed : List (BatchKey × RunId) → List Batch → List (BatchKey × RunId)
+all_placed places [] = places
+all_placed places (b ∷ batches) = all_placed (with_place b.key b.run places) batches
+
 -- the keys but for this one
 abbrev pub without_place : BatchKey → List (BatchKey × RunId) → List (BatchKey × RunId)
 without_place key [] = []

@@ -72,3 +72,7 @@ all_arrived (b ∷ batches) others = arrived b (all_arrived batches others)
 abbrev pub all_of : List TreeValue → List Batch
 all_of [] = []
 all_of (r ∷ runs) = all_arrived r.batches (all_of runs)
+
+-- each run has its part of the batches of all
+abbrev pub AreParts : List TreeValue → Type 0
+AreParts runs = (run : RunId) → batches_of (run_at run runs) ≡ part_of run (all_of runs)

@@ -1,4 +1,5 @@
 use ndc_event::{BatchKey, RunId};
+use ndc_tree::Tree;
 use std::alloc::{AllocError, Global};
 use std::collections::BTreeMap;
 use std::marker::Model;
@@ -20,9 +21,10 @@ impl Model for Places {
 }
 
 impl Places {
-    ghost use Rattle.std.specs.Prelude.{◌≡◌, [], length, map, None, IfOk, OnOk, OnErr};
-    ghost use Rattle.std.specs.Option.{option_copied};
-    ghost use Rattle.ndc_shard_runs.specs.Places.{place_at, with_place, without_place, last_place};
+    ghost use Rattle.std.specs.Prelude.{◌≡◌, [], map, None, IfOk, OnOk, OnErr};
+    ghost use Rattle.std.specs.Option.{option_copied, option_map};
+    ghost use Rattle.ndc_model_sets.specs.Sets.{Rise};
+    ghost use Rattle.ndc_shard_runs.specs.Places.{place_at, places_of, with_place, without_place, last_place};
 
     /// There is no key.
     pub(crate) fn new(alloc: Global) -> Places
@@ -33,11 +35,17 @@ impl Places {
         }
     }
 
-    /// The number of keys.
-    pub(crate) fn len(&self) -> usize
-        ensures { result ≡ length self.now }
+    /// The keys of the batches of a run.
+    pub(crate) fn of(alloc: Global, tree: &Tree) -> Result<Places, AllocError>
+        requires { Rise tree.now.batches }
+        ensures { IfOk result (λ places. places ≡ places_of tree.now.batches) }
     {
-        self.map.len()
+        let batches = tree.batches(alloc)?;
+        let mut places = Places::new(alloc);
+        for batch in batches.as_slice() {
+            places.put(batch.key, batch.run)?;
+        }
+        Ok(places)
     }
 
     /// The run of the key.
@@ -54,12 +62,12 @@ impl Places {
         self.map.keys().copied().collect(alloc)
     }
 
-    /// The greatest key with its run.
-    pub(crate) fn last(&self) -> Option<(BatchKey, RunId)>
-        ensures { result ≡ last_place self.now }
+    /// The greatest key.
+    pub(crate) fn last_key(&self) -> Option<BatchKey>
+        ensures { result ≡ option_map (λ place. place.0) (last_place self.now) }
     {
-        let (key, run) = self.map.last_key_value()?;
-        Some((*key, *run))
+        let (key, _) = self.map.last_key_value()?;
+        Some(*key)
     }
 
     /// Puts the key to its place, with its run.

@@ -6,7 +6,6 @@ use std::alloc::{AllocError, Global};
 impl Runs {
     ghost use Rattle.std.specs.Prelude.{◌≡◌, map, IfOk};
     ghost use Rattle.std.specs.Option.{option_map};
-    ghost use Rattle.ndc_model_sets.specs.Sound.{IsSound};
     ghost use Rattle.ndc_model_sets.specs.Reading.{history_at, path_at};
 
     /// The version history of the path to the batch of this key; none exactly where it is not learned. Two look-ups for
@@ -33,20 +32,5 @@ impl Runs {
             None => Ok(None),
             Some(run) => run.tree().path_batches(alloc, key),
         }
-    }
-
-    /// The learned batches, in key order. A look-up for each of them.
-    pub fn batches(&self, alloc: Global) -> Result<Vec<&Batch>, AllocError>
-        ensures sound { IsSound self.now }
-        ensures list { IfOk result (λ list. map (λ b. b.now) list.items ≡ self.now) }
-    {
-        let keys = self.keys(alloc)?;
-        let mut list = Vec::new(alloc);
-        for key in keys.as_slice() {
-            if let Some(batch) = self.get(*key) {
-                list.push(batch)?;
-            }
-        }
-        Ok(list)
     }
 }

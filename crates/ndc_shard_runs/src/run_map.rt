@@ -1,4 +1,4 @@
-ghost use Rattle.std.specs.Prelude.{◌≡◌, ◌+◌, ◌≤◌, ◌^◌, All, IsOk, IfOk, IfErr, insert, length, None, OnOk, OnErr};
+ghost use Rattle.std.specs.Prelude.{◌≡◌, ◌+◌, ◌≤◌, ◌^◌, All, IsOk, IfOk, IfErr, length, None, OnOk, OnErr};
 ghost use Rattle.ndc_event.specs.Batch.{fault_of};
 ghost use Rattle.ndc_shard_runs.specs.RunMap.{AreInOrder, grown};
 ghost use Rattle.ndc_shard_runs.specs.Standing.{IsAt, IsGap};
@@ -11,6 +11,7 @@ ghost use Rattle.ndc_model_sets.specs.Reading.{current_key};
 use ndc_event::{Batch, RunId};
 use ndc_run::{Run, RunError};
 use ndc_state::Steps;
+use ndc_tree::sorted::put;
 use std::alloc::{AllocError, Global};
 use std::marker::Model;
 
@@ -38,7 +39,7 @@ impl Drop for RunMap {
 }
 
 impl RunMap {
-    ghost use Rattle.std.specs.Prelude.{◌≡◌, ◌+◌, ◌≤◌, ◌^◌, [], All, IsOk, length, None, OnOk, OnErr};
+    ghost use Rattle.std.specs.Prelude.{◌≡◌, ◌+◌, ◌≤◌, ◌^◌, [], All, IsOk, length, slice_get, None, OnOk, OnErr};
     ghost use Rattle.std.specs.Option.{option_copied};
     ghost use Rattle.ndc_event.specs.Batch.{fault_of};
     ghost use Rattle.ndc_run.specs.Learning.{learned};
@@ -57,11 +58,11 @@ impl RunMap {
         }
     }
 
-    /// The number of runs.
-    pub(crate) fn len(&self) -> usize
-        ensures { result ≡ length self.now }
+    /// The first run.
+    pub(crate) fn first(&self) -> Option<&Run>
+        ensures { option_copied result ≡ slice_get self.now 0 }
     {
-        self.runs.len()
+        self.runs.first()
     }
 
     /// The run of this id.
@@ -140,25 +141,4 @@ fn grow<L>(
         Err(RunError::Memory) => Err(AllocError),
         Err(_) => unreachable!(),
     }
-}
-
-/// Puts a run to its place. For want of memory the runs are as they were.
-fn put(runs: &mut Vec<Run>, place: usize, run: Run) -> Result<(), AllocError>
-    requires { place ≤ length runs.old.items }
-    ensures ok { OnOk result (runs.new.items ≡ insert runs.old.items place run) }
-    ensures err { OnErr result (runs.new.items ≡ runs.old.items) }
-{
-    make_room(runs)?;
-    runs.insert(place, run)?;
-    Ok(())
-}
-
-/// Makes room for the first run, and for no more. For want of memory the runs are as they were.
-fn make_room(runs: &mut Vec<Run>) -> Result<(), AllocError>
-    ensures { runs.new.items ≡ runs.old.items }
-{
-    if runs.is_empty() {
-        return runs.reserve_exact(1);
-    }
-    Ok(())
 }

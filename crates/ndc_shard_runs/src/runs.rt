@@ -1,22 +1,13 @@
-ghost use Rattle.std.specs.Prelude.{◌≡◌, ◌+◌, ◌<◌, ◌≤◌, ◌^◌, All, IsOk, [], false, not, ◌&&◌, length, max, None, OnOk, OnErr};
-ghost use Rattle.ndc_event.specs.Batch.{fault_of};
-ghost use Rattle.ndc_event.specs.Key.{key_eq, key_lt};
+ghost use Rattle.std.specs.Prelude.{◌≡◌, ◌<◌, ◌^◌, not, ◌&&◌, max};
+ghost use Rattle.ndc_event.specs.Key.{key_lt};
 ghost use Rattle.std.specs.Option.{option_copied, option_map};
 ghost use Rattle.ndc_shard_runs.specs.Kept.{is_ahead, is_open};
 ghost use Rattle.ndc_model_sets.specs.Current.{current_state};
 ghost use Rattle.ndc_model_sets.specs.Keys.{is_key};
-ghost use Rattle.ndc_run.specs.Learning.{learned};
-ghost use Rattle.ndc_shard_runs.specs.Places.{place_at, with_place};
-ghost use Rattle.ndc_shard_runs.specs.RunMap.{batches_of, run_at, with_batch};
-ghost use Rattle.ndc_model_sets.specs.Branches.{same_run};
-ghost use Rattle.ndc_model_sets.specs.Sets.{batch_at};
-ghost use Rattle.ndc_state.specs.Counted.{counted};
-ghost use Rattle.ndc_state.specs.Replay.{CountsWithin};
-ghost use Rattle.ndc_model_sets.specs.Reading.{current_key};
+ghost use Rattle.ndc_shard_runs.specs.RunMap.{run_at};
 
+use crate::index::RunIndex;
 use crate::kept::{Kept, has_no_signal};
-use crate::places::Places;
-use crate::run_map::RunMap;
 use ndc_event::{Batch, BatchKey, RunId};
 use ndc_reapply::Stray;
 use ndc_run::Run;
@@ -27,8 +18,7 @@ use std::marker::Model;
 /// All that is learned of one workflow: its runs, with their states. Seen as the list of the learned batches in key
 /// order, which is a sound set.
 pub struct Runs {
-    runs: RunMap,
-    places: Places,
+    runs: RunIndex,
     greatest_task: u64,
     strays: Kept,
 }
@@ -50,7 +40,6 @@ impl Drop for Runs {
     fn drop(self) {
         let Runs {
             runs: _runs,
-            places: _places,
             greatest_task: _greatest_task,
             strays: _strays,
         } = self;
@@ -77,8 +66,7 @@ impl Runs {
         ensures { result ≡ [] }
     {
         Runs {
-            runs: RunMap::new(alloc),
-            places: Places::new(alloc),
+            runs: RunIndex::new(alloc),
             greatest_task: 0,
             strays: Kept::none(alloc),
         }
@@ -103,7 +91,7 @@ impl Runs {
         let follows = self.follows(batch);
         let beside = self.lies_beside(batch);
         let greatest = greater(self.greatest_task, batch.key.task);
-        match take_in(&mut self.runs, &mut self.places, alloc, batch, steps) {
+        match self.runs.learn(alloc, batch, steps) {
             Ok(()) => {}
             Err(error) => return Err(error),
         }
@@ -139,14 +127,7 @@ impl Runs {
         let beside = self.lies_beside(batch);
         let before = greater(self.greatest_task, second.key.task);
         let greatest = greater(before, batch.key.task);
-        match take_both(
-            &mut self.runs,
-            &mut self.places,
-            alloc,
-            batch,
-            second,
-            steps,
-        ) {
+        match self.runs.learn_both(alloc, batch, second, steps) {
             Ok(()) => {}
             Err(error) => return Err(error),
         }
@@ -161,28 +142,29 @@ impl Runs {
     pub fn get(&self, key: BatchKey) -> Option<&Batch>
         ensures { option_copied result ≡ batch_at key self.now }
     {
-        self.run_of(key)?.tree().get(key)
+        self.runs.batch(key)
     }
 
     /// Whether the batch of this key is learned.
     pub fn has(&self, key: BatchKey) -> bool
         ensures { result ≡ is_some (batch_at key self.now) }
     {
-        self.run_id_of(key).is_some()
+        self.run_of(key).is_some()
     }
 
-    /// The number of learned batches.
-    pub fn len(&self) -> usize
-        ensures { result ≡ length self.now }
+    /// The learned batches, in key order. In time of their number; with several runs, a look-up for each of them.
+    pub fn batches(&self, alloc: Global) -> Result<Vec<&Batch>, AllocError>
+        ensures sound { IsSound self.now }
+        ensures list { IfOk result (λ list. map (λ b. b.now) list.items ≡ self.now) }
     {
-        self.places.len()
+        self.runs.batches(alloc)
     }
 
     /// Whether nothing is learned.
     pub fn is_empty(&self) -> bool
         ensures { result ≡ is_nil self.now }
     {
-        self.places.len() == 0
+        self.last_key().is_none()
     }
 
     /// The last batch of the current branch of the current run. It has the greatest key of all: that this is so is
@@ -282,8 +264,7 @@ impl Runs {
         ensures run { option_copied result ≡ option_map (λ b. run_in self.now b.run) (batch_at key self.now) }
         ensures sound { IsSound self.now }
     {
-        let run = self.places.get(key)?;
-        self.runs.get(run)
+        self.runs.run_of(key)
     }
 
     /// Whether the batch follows all that is learned: it goes on from the current branch of the current run, or begins a
@@ -341,106 +322,17 @@ impl Runs {
         }
     }
 
-    /// The id of the run of the batch of this key.
-    fn run_id_of(&self, key: BatchKey) -> Option<RunId>
-        ensures { result ≡ option_map (λ b. b.run) (batch_at key self.now) }
-    {
-        self.places.get(key)
-    }
-
-    /// The keys, ascending.
-    pub(crate) fn keys(&self, alloc: Global) -> Result<Vec<BatchKey>, AllocError>
-        ensures keys { IfOk result (λ keys. keys.items ≡ map (λ b. b.key) self.now) }
-        ensures sound { IsSound self.now }
-    {
-        self.places.keys(alloc)
-    }
-
     /// The greatest key.
     fn last_key(&self) -> Option<BatchKey>
         ensures key { result ≡ option_map (λ b. b.key) (last_batch self.now) }
         ensures sound { IsSound self.now }
     {
-        let (key, _) = self.places.last()?;
-        Some(key)
-    }
-}
-
-/// Takes in a batch whose key is new. For want of memory all is as it was.
-fn take_in<L>(
-    runs: &mut RunMap,
-    places: &mut Places,
-    alloc: Global,
-    batch: &Batch,
-    steps: &mut Steps<L>,
-) -> Result<(), AllocError>
-    requires fresh { batch_at batch.now.key (batches_of (run_at batch.now.run runs.old)) ≡ None }
-    requires fits { IsOk (learned batch.now.run (batches_of (run_at batch.now.run runs.old)) batch.now) }
-    requires new_key { place_at batch.now.key places.old ≡ None }
-    requires faultless { fault_of batch.now ≡ None }
-    requires ids { All (λ event. event.id ≤ 10 ^ 12) batch.now.events }
-    ensures runs { OnOk result (runs.new ≡ with_batch batch.now runs.old) }
-    ensures places { OnOk result (places.new ≡ with_place batch.now.key batch.now.run places.old) }
-    ensures runs_err { OnErr result (runs.new ≡ runs.old) }
-    ensures places_err { OnErr result (places.new ≡ places.old) }
-    ensures extend_steps { OnOk result (batch.now.parent ≡ current_key batch.now.run (batches_of (run_at batch.now.run runs.old)) → steps.new ≡ counted steps.old (length batch.now.events)) }
-    ensures most_steps { CountsWithin steps.old (length batch.now.events + 511) steps.new }
-{
-    places.put(batch.key, batch.run)?;
-    match runs.learn(alloc, batch, steps) {
-        Ok(()) => Ok(()),
-        Err(error) => {
-            places.take(batch.key);
-            Err(error)
-        }
-    }
-}
-
-/// Takes in two batches whose keys are new, of which the second begins a run; or, for want of memory, neither.
-fn take_both<L>(
-    runs: &mut RunMap,
-    places: &mut Places,
-    alloc: Global,
-    batch: &Batch,
-    second: &Batch,
-    steps: &mut Steps<L>,
-) -> Result<(), AllocError>
-    requires fresh { batch_at batch.now.key (batches_of (run_at batch.now.run runs.old)) ≡ None }
-    requires fits { IsOk (learned batch.now.run (batches_of (run_at batch.now.run runs.old)) batch.now) }
-    requires new_key { place_at batch.now.key places.old ≡ None }
-    requires second_fits { IsOk (learned second.now.run [] second.now) }
-    requires second_key { place_at second.now.key places.old ≡ None }
-    requires other_key { key_eq second.now.key batch.now.key ≡ false }
-    requires second_run { run_at second.now.run runs.old ≡ None }
-    requires other_run { same_run second.now.run batch.now.run ≡ false }
-    requires first { second.now.parent ≡ None }
-    requires faultless { fault_of batch.now ≡ None }
-    requires second_faultless { fault_of second.now ≡ None }
-    requires ids { All (λ event. event.id ≤ 10 ^ 12) batch.now.events }
-    requires second_ids { All (λ event. event.id ≤ 10 ^ 12) second.now.events }
-    ensures runs { OnOk result (runs.new ≡ with_batch batch.now (with_batch second.now runs.old)) }
-    ensures places { OnOk result (places.new ≡ with_place batch.now.key batch.now.run (with_place second.now.key second.now.run places.old)) }
-    ensures runs_err { OnErr result (runs.new ≡ runs.old) }
-    ensures places_err { OnErr result (places.new ≡ places.old) }
-    ensures extend_steps { OnOk result (batch.now.parent ≡ current_key batch.now.run (batches_of (run_at batch.now.run runs.old)) → steps.new ≡ counted (counted steps.old (length second.now.events)) (length batch.now.events)) }
-    ensures most_steps { CountsWithin steps.old (length second.now.events + (length batch.now.events + 511)) steps.new }
-{
-    match take_in(runs, places, alloc, second, steps) {
-        Ok(()) => {}
-        Err(error) => return Err(error),
-    }
-    match take_in(runs, places, alloc, batch, steps) {
-        Ok(()) => Ok(()),
-        Err(error) => {
-            runs.take(second.run);
-            places.take(second.key);
-            Err(error)
-        }
+        self.runs.last_key()
     }
 }
 
 /// Whether the batch, which follows all others or not, does so and comes before the key, and its run is not open.
-fn is_left(runs: &RunMap, batch: &Batch, follows: bool, key: BatchKey) -> bool
+fn is_left(runs: &RunIndex, batch: &Batch, follows: bool, key: BatchKey) -> bool
     ensures { result ≡ (follows && (key_lt batch.now.key key && not (is_open (option_map (λ r. current_state r.run r.batches) (run_at batch.now.run runs.now))))) }
 {
     follows && batch.key.is_before(key) && !is_run_open(runs.get(batch.run))

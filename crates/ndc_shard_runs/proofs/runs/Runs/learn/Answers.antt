@@ -7,25 +7,16 @@ use Rattle.ndc_model_sets.specs.Sound.{IsSound}
 use Rattle.ndc_model_sets.specs.Reading.{current_key}
 use Rattle.ndc_shard_runs.specs.Kept.{follows, lies_beside}
 use Rattle.ndc_shard_runs.specs.RunMap.{all_of}
-use Rattle.ndc_shard_runs.proofs.InsideLemmas.{index-of, fresh-in-run, all-is, no-place-yet, inside-with}
+use Rattle.ndc_shard_runs.proofs.InsideLemmas.{index-of, all-is, inside-with}
 use Rattle.ndc_shard_runs.proofs.ReadLemmas.{new-faultless}
 use Rattle.ndc_shard_runs.proofs.PartLemmas.{part-key}
 use Rattle.ndc_shard_runs.proofs.runs.Runs.learn.Goals as goal
 
-pub take_in-requires-clause-fresh : goal.take_in-requires-clause-fresh
-take_in-requires-clause-fresh g c =
-    let b = c.args.batch.now in
-    let none = subst (λ (l : List Batch). batch_at b.key l ≡ None) (sym c.self.view_is) c.requires.fresh in
-    fresh-in-run c.self.inside.runs c.self.inside.places c.self.inside.greatest_task (index-of c.self.inside c.self.invariant) b none
+pub learn-requires-clause-fresh : goal.learn-requires-clause-fresh
+learn-requires-clause-fresh g c = subst (λ (l : List Batch). batch_at c.args.batch.now.key l ≡ None) (sym c.self.view_is) c.requires.fresh
 
-pub take_in-requires-clause-new_key : goal.take_in-requires-clause-new_key
-take_in-requires-clause-new_key g c =
-    let b = c.args.batch.now in
-    let none = subst (λ (l : List Batch). batch_at b.key l ≡ None) (sym c.self.view_is) c.requires.fresh in
-    no-place-yet c.self.inside.runs c.self.inside.places c.self.inside.greatest_task (index-of c.self.inside c.self.invariant) b none
-
-pub take_in-requires-clause-faultless : goal.take_in-requires-clause-faultless
-take_in-requires-clause-faultless g c =
+pub learn-requires-clause-faultless : goal.learn-requires-clause-faultless
+learn-requires-clause-faultless g c =
     let b = c.args.batch.now in
     let none = subst (λ (l : List Batch). batch_at b.key l ≡ None) (sym c.self.view_is) c.requires.fresh in
     let sound = subst (λ (l : List Batch). IsSound (arrived b l)) (sym c.self.view_is) c.requires.sound in
@@ -36,13 +27,13 @@ invariant_of-self-2 g c =
     let b = c.args.batch.now in
     let none = subst (λ (l : List Batch). batch_at b.key l ≡ None) (sym c.self.view_is) c.requires.fresh in
     let sound = subst (λ (l : List Batch). IsSound (arrived b l)) (sym c.self.view_is) c.requires.sound in
-    inside-with c.self.inside c.self.invariant b none _ c.lies_beside-beside.result c.follows-follows.result sound (c.lies_beside-beside.ensures ∙ ap (λ (l : List Batch). lies_beside l b) (sym c.self.view_is)) (c.follows-follows.ensures ∙ ap (λ (l : List Batch). follows l b) (sym c.self.view_is)) c.pass.ensures c.in-Ok.ensures.runs c.in-Ok.ensures.places c.greater-greatest.ensures.greater
+    inside-with c.self.inside c.self.invariant b none _ c.lies_beside-beside.result c.follows-follows.result sound (c.lies_beside-beside.ensures ∙ ap (λ (l : List Batch). lies_beside l b) (sym c.self.view_is)) (c.follows-follows.ensures ∙ ap (λ (l : List Batch). follows l b) (sym c.self.view_is)) c.pass.ensures c.in-Ok.ensures.ok c.greater-greatest.ensures.greater
 
 pub returns-clause-ok : goal.returns-clause-ok
 returns-clause-ok g c =
     let b = c.args.batch.now in
     let none = subst (λ (l : List Batch). batch_at b.key l ≡ None) (sym c.self.view_is) c.requires.fresh in
-    ap all_of c.in-Ok.ensures.runs ∙ all-is c.self.inside.runs c.self.inside.places c.self.inside.greatest_task (index-of c.self.inside c.self.invariant) b none ∙ ap (arrived b) c.self.view_is
+    ap all_of c.in-Ok.ensures.ok ∙ all-is c.self.inside.runs c.self.inside.greatest_task (index-of c.self.inside c.self.invariant) b none ∙ ap (arrived b) c.self.view_is
 
 pub returns-clause-extend_steps : goal.returns-clause-extend_steps
 returns-clause-extend_steps g c = λ e.
@@ -50,8 +41,8 @@ returns-clause-extend_steps g c = λ e.
     c.in-Ok.ensures.extend_steps
     (e ∙ ap (current_key b.run) (sym c.self.view_is) ∙ sym (part-key (all_of c.self.inside.runs) c.self.invariant.sound b.run) ∙ ap (current_key b.run) (sym (c.self.invariant.parts b.run)))
 
-pub take_in-requires-clause-fits : goal.take_in-requires-clause-fits
-take_in-requires-clause-fits g c =
+pub learn-requires-clause-fits : goal.learn-requires-clause-fits
+learn-requires-clause-fits g c =
     let b = c.args.batch.now in
     let none = subst (λ (l : List Batch). batch_at b.key l ≡ None) (sym c.self.view_is) c.requires.fresh in
     let sound = subst (λ (l : List Batch). IsSound (arrived b l)) (sym c.self.view_is) c.requires.sound in

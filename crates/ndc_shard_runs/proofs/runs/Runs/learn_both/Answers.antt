@@ -11,36 +11,25 @@ use Rattle.ndc_model_sets.specs.Current.{current_state}
 use Rattle.ndc_tree.specs.Tree.{TreeValue}
 use Rattle.ndc_shard_runs.specs.Kept.{follows, is_open, lies_beside}
 use Rattle.ndc_shard_runs.specs.RunMap.{all_of, part_of, run_at}
-use Rattle.ndc_shard_runs.proofs.InsideLemmas.{index-of, fresh-in-run, no-place-yet, second-none, second-apart, other-run, second-run, all-both, inside-both, known-both}
+use Rattle.ndc_shard_runs.proofs.InsideLemmas.{second-none, second-apart, other-run, second-run, all-both, inside-both, known-both}
 use Rattle.ndc_shard_runs.proofs.ReadLemmas.{new-faultless}
 use Rattle.ndc_shard_runs.proofs.PartLemmas.{part-key}
 use Rattle.ndc_shard_runs.proofs.runs.Runs.learn_both.Goals as goal
 
-pub take_both-requires-clause-fresh : goal.take_both-requires-clause-fresh
-take_both-requires-clause-fresh g c =
-    let b = c.args.batch.now in
-    let second = c.args.second.now in
-    let none = subst (λ (l : List Batch). batch_at b.key l ≡ None) (sym c.self.view_is) c.requires.fresh in
-    fresh-in-run c.self.inside.runs c.self.inside.places c.self.inside.greatest_task (index-of c.self.inside c.self.invariant) b none
+pub learn_both-requires-clause-fresh : goal.learn_both-requires-clause-fresh
+learn_both-requires-clause-fresh g c = subst (λ (l : List Batch). batch_at c.args.batch.now.key l ≡ None) (sym c.self.view_is) c.requires.fresh
 
-pub take_both-requires-clause-new_key : goal.take_both-requires-clause-new_key
-take_both-requires-clause-new_key g c =
-    let b = c.args.batch.now in
-    let second = c.args.second.now in
-    let none = subst (λ (l : List Batch). batch_at b.key l ≡ None) (sym c.self.view_is) c.requires.fresh in
-    no-place-yet c.self.inside.runs c.self.inside.places c.self.inside.greatest_task (index-of c.self.inside c.self.invariant) b none
-
-pub take_both-requires-clause-second_key : goal.take_both-requires-clause-second_key
-take_both-requires-clause-second_key g c =
+pub learn_both-requires-clause-second_fresh : goal.learn_both-requires-clause-second_fresh
+learn_both-requires-clause-second_fresh g c =
     let b = c.args.batch.now in
     let second = c.args.second.now in
     let none = subst (λ (l : List Batch). batch_at b.key l ≡ None) (sym c.self.view_is) c.requires.fresh in
     let fresh = subst (λ (l : List Batch). batch_at second.key (arrived b l) ≡ None) (sym c.self.view_is) c.requires.second_fresh in
     let begins = subst (λ (l : List Batch). part_of second.run (arrived b l) ≡ []) (sym c.self.view_is) c.requires.begins in
-    no-place-yet c.self.inside.runs c.self.inside.places c.self.inside.greatest_task (index-of c.self.inside c.self.invariant) second (second-none c.self.inside c.self.invariant b second none fresh begins)
+    second-none c.self.inside c.self.invariant b second none fresh begins
 
-pub take_both-requires-clause-other_key : goal.take_both-requires-clause-other_key
-take_both-requires-clause-other_key g c =
+pub learn_both-requires-clause-other_key : goal.learn_both-requires-clause-other_key
+learn_both-requires-clause-other_key g c =
     let b = c.args.batch.now in
     let second = c.args.second.now in
     let none = subst (λ (l : List Batch). batch_at b.key l ≡ None) (sym c.self.view_is) c.requires.fresh in
@@ -48,8 +37,8 @@ take_both-requires-clause-other_key g c =
     let begins = subst (λ (l : List Batch). part_of second.run (arrived b l) ≡ []) (sym c.self.view_is) c.requires.begins in
     second-apart c.self.inside c.self.invariant b second none fresh begins
 
-pub take_both-requires-clause-second_run : goal.take_both-requires-clause-second_run
-take_both-requires-clause-second_run g c =
+pub learn_both-requires-clause-second_run : goal.learn_both-requires-clause-second_run
+learn_both-requires-clause-second_run g c =
     let b = c.args.batch.now in
     let second = c.args.second.now in
     let none = subst (λ (l : List Batch). batch_at b.key l ≡ None) (sym c.self.view_is) c.requires.fresh in
@@ -57,8 +46,8 @@ take_both-requires-clause-second_run g c =
     let begins = subst (λ (l : List Batch). part_of second.run (arrived b l) ≡ []) (sym c.self.view_is) c.requires.begins in
     second-run c.self.inside c.self.invariant b second none fresh begins
 
-pub take_both-requires-clause-other_run : goal.take_both-requires-clause-other_run
-take_both-requires-clause-other_run g c =
+pub learn_both-requires-clause-other_run : goal.learn_both-requires-clause-other_run
+learn_both-requires-clause-other_run g c =
     let b = c.args.batch.now in
     let second = c.args.second.now in
     let none = subst (λ (l : List Batch). batch_at b.key l ≡ None) (sym c.self.view_is) c.requires.fresh in
@@ -66,16 +55,16 @@ take_both-requires-clause-other_run g c =
     let begins = subst (λ (l : List Batch). part_of second.run (arrived b l) ≡ []) (sym c.self.view_is) c.requires.begins in
     other-run c.self.inside c.self.invariant b second none fresh begins
 
-pub take_both-requires-clause-faultless : goal.take_both-requires-clause-faultless
-take_both-requires-clause-faultless g c =
+pub learn_both-requires-clause-faultless : goal.learn_both-requires-clause-faultless
+learn_both-requires-clause-faultless g c =
     let b = c.args.batch.now in
     let second = c.args.second.now in
     let none = subst (λ (l : List Batch). batch_at b.key l ≡ None) (sym c.self.view_is) c.requires.fresh in
     let sound = subst (λ (l : List Batch). IsSound (arrived b l)) (sym c.self.view_is) c.requires.sound in
     new-faultless b (all_of c.self.inside.runs) c.self.invariant.sound sound none
 
-pub take_both-requires-clause-second_faultless : goal.take_both-requires-clause-second_faultless
-take_both-requires-clause-second_faultless g c =
+pub learn_both-requires-clause-second_faultless : goal.learn_both-requires-clause-second_faultless
+learn_both-requires-clause-second_faultless g c =
     let b = c.args.batch.now in
     let second = c.args.second.now in
     new-faultless second (arrived b c.args.self.now) c.requires.sound c.requires.sound_both c.requires.second_fresh
@@ -90,11 +79,11 @@ invariant_of-self-2 g c =
     let sound = subst (λ (l : List Batch). IsSound (arrived b l)) (sym c.self.view_is) c.requires.sound in
     let both = subst (λ (l : List Batch). IsSound (arrived second (arrived b l))) (sym c.self.view_is) c.requires.sound_both in
     let told = c.follows-follows.ensures ∙ ap (λ (l : List Batch). follows l b) (sym c.self.view_is) in
-    let tells = c.is_left-both_follow.ensures ∙ ap (λ (l : List TreeValue). c.follows-follows.result && (key_lt b.key second.key && not (is_open (option_map (λ v. current_state v.run v.batches) (run_at b.run l))))) c.in-Ok.ensures.runs in
+    let tells = c.is_left-both_follow.ensures ∙ ap (λ (l : List TreeValue). c.follows-follows.result && (key_lt b.key second.key && not (is_open (option_map (λ v. current_state v.run v.batches) (run_at b.run l))))) c.in-Ok.ensures.ok in
     inside-both c.self.inside c.self.invariant b second none fresh begins _ both
     (known-both c.self.inside c.self.invariant b second none fresh begins c.lies_beside-beside.result c.follows-follows.result c.is_left-both_follow.result c.pass.new.self c.pass-2.new.self sound both c.requires.first
     (c.lies_beside-beside.ensures ∙ ap (λ (l : List Batch). lies_beside l b) (sym c.self.view_is)) told tells c.pass.ensures c.pass-2.ensures)
-    c.in-Ok.ensures.runs c.in-Ok.ensures.places (c.greater-greatest.ensures.greater ∙ ap (λ n. max n b.key.task) c.greater-before.ensures.greater)
+    c.in-Ok.ensures.ok (c.greater-greatest.ensures.greater ∙ ap (λ n. max n b.key.task) c.greater-before.ensures.greater)
 
 pub returns-clause-ok : goal.returns-clause-ok
 returns-clause-ok g c =
@@ -103,7 +92,7 @@ returns-clause-ok g c =
     let none = subst (λ (l : List Batch). batch_at b.key l ≡ None) (sym c.self.view_is) c.requires.fresh in
     let fresh = subst (λ (l : List Batch). batch_at second.key (arrived b l) ≡ None) (sym c.self.view_is) c.requires.second_fresh in
     let begins = subst (λ (l : List Batch). part_of second.run (arrived b l) ≡ []) (sym c.self.view_is) c.requires.begins in
-    ap all_of c.in-Ok.ensures.runs ∙ all-both c.self.inside c.self.invariant b second none fresh begins ∙ ap (λ (l : List Batch). arrived second (arrived b l)) c.self.view_is
+    ap all_of c.in-Ok.ensures.ok ∙ all-both c.self.inside c.self.invariant b second none fresh begins ∙ ap (λ (l : List Batch). arrived second (arrived b l)) c.self.view_is
 
 pub returns-clause-extend_steps : goal.returns-clause-extend_steps
 returns-clause-extend_steps g c = λ e.
@@ -112,8 +101,8 @@ returns-clause-extend_steps g c = λ e.
     c.in-Ok.ensures.extend_steps
     (e ∙ ap (current_key b.run) (sym c.self.view_is) ∙ sym (part-key (all_of c.self.inside.runs) c.self.invariant.sound b.run) ∙ ap (current_key b.run) (sym (c.self.invariant.parts b.run)))
 
-pub take_both-requires-clause-fits : goal.take_both-requires-clause-fits
-take_both-requires-clause-fits g c =
+pub learn_both-requires-clause-fits : goal.learn_both-requires-clause-fits
+learn_both-requires-clause-fits g c =
     let b = c.args.batch.now in
     let second = c.args.second.now in
     let none = subst (λ (l : List Batch). batch_at b.key l ≡ None) (sym c.self.view_is) c.requires.fresh in
@@ -122,8 +111,8 @@ take_both-requires-clause-fits g c =
     subst (λ (l : List Batch). IsOk (learned b.run l b)) (sym (c.self.invariant.parts b.run))
     (taken-small (all_of c.self.inside.runs) b c.self.invariant.sound sound none (omega (arith, most)) (omega (arith, most)))
 
-pub take_both-requires-clause-second_fits : goal.take_both-requires-clause-second_fits
-take_both-requires-clause-second_fits g c =
+pub learn_both-requires-clause-second_fits : goal.learn_both-requires-clause-second_fits
+learn_both-requires-clause-second_fits g c =
     let b = c.args.batch.now in
     let second = c.args.second.now in
     let none = subst (λ (l : List Batch). batch_at b.key l ≡ None) (sym c.self.view_is) c.requires.fresh in
