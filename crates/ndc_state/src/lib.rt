@@ -13,6 +13,7 @@ mod text;
 mod tracked;
 mod written;
 
+pub use origins::origin_of;
 pub use pendings::Pending;
 pub use rule::{CloseKind, Rule, StateError};
 pub use state::State;

@@ -27,7 +27,7 @@ impl Model for Origins {
 }
 
 /// The origin of a signal event of the run: the one that a copy names, or the event itself.
-pub(crate) fn origin_of(run: RunId, event: &Event, origin: Option<Origin>) -> Origin
+pub fn origin_of(run: RunId, event: &Event, origin: Option<Origin>) -> Origin
     ensures { result ≡ origin_of run event.now.id event.now.version origin }
 {
     match origin {

@@ -34,6 +34,7 @@ impl State {
     ghost use Rattle.std.specs.Borrow.{sem};
     ghost use Rattle.ndc_state.specs.Counted.{counted};
     ghost use Rattle.ndc_state.specs.Lending.{LendsTracked};
+    ghost use Rattle.ndc_state.specs.Origins.{is_among};
     ghost use Rattle.ndc_state.specs.Pendings.{pending_of};
     ghost use Rattle.ndc_state.specs.Replay.{replay, allowed_count, collected, CountsWithin};
     ghost use Rattle.ndc_state.specs.Table.{applied};
@@ -181,6 +182,13 @@ impl State {
     {
         let tracked = &self.tracked;
         tracked.origins.as_slice()
+    }
+
+    /// Whether a signal of this origin is among those that it has seen. It is found without going over the others.
+    pub fn has_origin(&self, origin: Origin) -> bool
+        ensures { result ≡ is_among origin self.now.origins }
+    {
+        self.tracked.origins.contains(origin)
     }
 
     /// The same state.

@@ -1,0 +1,15 @@
+use Rattle.std.proofs.Common.{◌≡◌, List, sym, ◌∙◌, ap}
+use Rattle.ndc_domain.specs.declared.record.DomainRecord.{DomainRecord}
+use Rattle.ndc_domain.specs.Merge.{merged, merge_count}
+use Rattle.ndc_domain.proofs.NoNews.{merge_nothing}
+use Rattle.ndc_domain.proofs.table.DomainTable.lacks.Goals as goal
+
+-- where nothing is counted, nothing is changed
+pub returns-then-count-eq0 : goal.returns-then-count-eq0
+returns-then-count-eq0 c = λ same.
+    let ours : List DomainRecord = c.self.inside.records.items in
+    let theirs : List DomainRecord = c.other.inside.records.items in
+    let none : merge_count ours theirs ≡ 0 =
+    rw (c.as_slice.ensures.value, c.as_slice-2.ensures.value) at (sym c.merge_count-count.ensures ∙ c.if-count-eq0.true) in
+    ap (λ (records : List DomainRecord). merged records c.args.other.now) (sym c.self.view_is) ∙ ap (λ (records : List DomainRecord). merged ours records) (sym c.other.view_is)
+    ∙ merge_nothing ours theirs c.self.invariant c.other.invariant none ∙ c.self.view_is
