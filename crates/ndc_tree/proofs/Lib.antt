@@ -9,3 +9,4 @@ pub mod PathLemmas
 pub mod LastLemmas
 pub mod VersionLemmas
 pub mod ReadingLemmas
+pub mod LastPlace

@@ -27,13 +27,34 @@ impl Model for Chain {
     ghost invariant = { λ chain. InOrder comes_before chain.batches.items };
 }
 
-/// Where the batch of the key stands, or where it would go.
-fn place_of(batches: &[Batch], key: BatchKey) -> Result<usize, usize>
+/// Where the batch of the key stands, or where it would go, by a search through all.
+fn search(batches: &[Batch], key: BatchKey) -> Result<usize, usize>
     requires { InOrder comes_before batches.now }
     ensures found { IfOk result (IsAt batches.now key) }
     ensures absent { IfErr result (IsGap batches.now key) }
 {
     batches.binary_search_by(|batch| batch.key.cmp(&key))
+}
+
+/// Where the batch of the key stands, or where it would go. The last batch is looked at first: what is sought is most often
+/// this one, or goes behind it.
+fn place_of(batches: &[Batch], key: BatchKey) -> Result<usize, usize>
+    requires { InOrder comes_before batches.now }
+    ensures found { IfOk result (IsAt batches.now key) }
+    ensures absent { IfErr result (IsGap batches.now key) }
+{
+    if batches.is_empty() {
+        return Err(0);
+    }
+    let last = batches.len() - 1;
+    let there = batches[last].key;
+    if there.is_before(key) {
+        return Err(batches.len());
+    }
+    if !key.is_before(there) {
+        return Ok(last);
+    }
+    search(batches, key)
 }
 
 impl Chain {
