@@ -5,7 +5,7 @@ use Rattle.ndc_model.specs.Moves.{all_arrive, arrives, by_link, in_flight}
 use Rattle.ndc_model.specs.World.{Link}
 use Rattle.ndc_world_network.specs.Flights.{emptied_at, emptied_below}
 use Rattle.ndc_world_network.proofs.TakeLemmas.{all_emptied, all_emptied_more, all_emptied_none, all_flight_still, all_lanes_still, jobs_of_more}
-use Rattle.ndc_world_network.proofs.taking.take_all.Goals as goal
+use Rattle.ndc_world_network.proofs.taking.take_shards.Goals as goal
 
 pub take_shard-requires : goal.take_shard-requires
 take_shard-requires c =
