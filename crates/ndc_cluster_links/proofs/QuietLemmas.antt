@@ -5,8 +5,9 @@ use Rattle.std.proofs.lemmas.List.{at_drop_more, map-set}
 use Rattle.std.specs.List.{AllByRecursion}
 use Rattle.ndc_model_cells.specs.declared.message.Message.{Message}
 use Rattle.ndc_cluster_links.specs.Links.{flights_of}
-use Rattle.ndc_model.specs.Moves.{without_flight}
+use Rattle.ndc_model.specs.Moves.{link_without_flights, without_flight}
 use Rattle.ndc_model.specs.Queues.{Lane, after_rewind, new_lane}
+use Rattle.ndc_model.specs.World.{Link}
 
 -- nothing is in flight in any of the lanes
 abbrev pub AreQuiet : List Lane → Type 0
@@ -52,3 +53,7 @@ flights_rewound (lane ∷ lanes) = ap (λ (flights : List (List Message)). lane.
 pub quiet_more : (lanes : List Lane) (i : ℕ) (lane : Lane) → i < length lanes → lane ≡ get_or lanes i lane → lane.flight ≡ [] → AreQuiet (drop (i + 1) lanes) → AreQuiet (drop i lanes)
 quiet_more lanes i lane below is none quiet =
     subst (λ (ls : List Lane). AreQuiet ls) (sym (at_drop_more (λ (ls : List Lane). ls) lanes i lane below ∙ ap (λ (l : Lane). l ∷ drop (i + 1) lanes) (sym is))) (none, quiet)
+
+-- a link over which nothing is in flight
+pub quiet_link : (link : Link) → AreQuiet link.lanes → link_without_flights link ≡ link
+quiet_link link quiet = ap (λ (lanes : List Lane). record link { lanes = lanes }) (quiet_is link.lanes quiet)

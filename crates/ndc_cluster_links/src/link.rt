@@ -217,7 +217,11 @@ impl Link {
         requires within { AreWithin queues.now self.now.lanes }
         ensures { IsTrue result → (shard : ℕ) → shard < length self.now.lanes → (lane_in self.now shard).levels.done ≡ queue_len (queue_at queues.now shard) }
     {
-        self.done == queues.written()
+        let written = queues.written();
+        if self.done == written {
+            return true;
+        }
+        false
     }
 
     /// Whether it is known that nothing is in flight, for any shard. Takes no memory.
