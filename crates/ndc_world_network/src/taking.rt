@@ -17,6 +17,9 @@ pub(crate) fn add_jobs(
 ) -> Result<(), AllocError>
     ensures { OnOk result (jobs.new.items ≡ jobs.old.items ++ map (arrives shard) messages.items) }
 {
+    if messages.is_empty() {
+        return Ok(());
+    }
     for message in messages {
         jobs.push(ShardJob {
             shard,
