@@ -3,6 +3,7 @@ use Rattle.std.proofs.Common.{◌≡◌, ◌≤◌, ◌<◌, ◌+◌, ℕ, zero,
 use Rattle.std.proofs.Math.Seq.{map-set_same}
 use Rattle.std.proofs.lemmas.List.{map-append, take_more_set}
 use Rattle.std.proofs.lemmas.List.Sums.{sum_by-cons, sum_by_push}
+use Rattle.ndc_model.specs.Moves.{without_flight}
 use Rattle.ndc_model.specs.Queues.{Lane, after_rewind, new_lane}
 use Rattle.ndc_queue.specs.Queues.{QueueValue, queue_len}
 use Rattle.ndc_cluster_links.specs.Links.{done_of}
@@ -30,6 +31,14 @@ pub done_rewound : (lanes : List Lane) → done_of (map after_rewind lanes) ≡ 
 done_rewound lanes = ap sum (each lanes)
   where
     each : (xs : List Lane) → map done (map after_rewind xs) ≡ map done xs
+    each [] = refl
+    each (x ∷ xs) = ap (λ ns. done x ∷ ns) (each xs)
+
+-- so does taking out what is in flight
+pub done_emptied : (lanes : List Lane) → done_of (map without_flight lanes) ≡ done_of lanes
+done_emptied lanes = ap sum (each lanes)
+  where
+    each : (xs : List Lane) → map done (map without_flight xs) ≡ map done xs
     each [] = refl
     each (x ∷ xs) = ap (λ ns. done x ∷ ns) (each xs)
 

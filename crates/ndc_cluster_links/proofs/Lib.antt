@@ -3,3 +3,4 @@ pub mod IdleLemmas
 pub mod PlaceLemmas
 pub mod QueueLemmas
 pub mod RestLemmas
+pub mod QuietLemmas

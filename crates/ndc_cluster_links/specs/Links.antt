@@ -19,3 +19,7 @@ with_flight_in shard flight link = with_lane_in shard (record (lane_in link shar
 -- how many entries are done, over all lanes
 abbrev pub done_of : List Lane → ℕ
 done_of lanes = sum (map (λ (lane : Lane). lane.levels.done) lanes)
+
+-- what is in flight, lane by lane
+abbrev pub flights_of : List Lane → List (List Message)
+flights_of lanes = map (λ (lane : Lane). lane.flight) lanes

@@ -124,6 +124,7 @@ impl Lane {
         requires first { queue.now.first ≤ self.old.levels.done }
         requires last { self.old.levels.done ≤ queue_len queue.now }
         ensures renewed { (whole : List Sent) → IsRestOf queue.now whole → self.new ≡ after_renewal reader table.now (C.cell cell.now) whole self.old }
+        ensures flight { self.new.flight ≡ self.old.flight }
         ensures done { result ≡ self.new.levels.done }
         ensures most { result ≤ 10 ^ 12 }
     {

@@ -1,7 +1,8 @@
-ghost use Rattle.std.specs.Prelude.{◌≡◌, ◌≤◌, ℕ, None, List, length, map, sum, IfOk, OnOk};
+ghost use Rattle.std.specs.Prelude.{◌≡◌, ◌≤◌, ℕ, [], None, List, length, map, sum, IsTrue, IfOk, OnOk};
+ghost use Rattle.std.specs.List.{AllByRecursion};
 ghost use Rattle.ndc_model_cells.specs.Jobs.{cell_for};
 ghost use Rattle.ndc_model_cells.specs.declared.message.Message.{Message as Sent};
-ghost use Rattle.ndc_cluster_links.specs.Links.{done_of};
+ghost use Rattle.ndc_cluster_links.specs.Links.{done_of, flights_of};
 ghost use Rattle.ndc_cluster_links.specs.Rest.{AreRests, AreWithin};
 ghost use Rattle.ndc_model.specs.Moves.{map_from, without_flight};
 ghost use Rattle.ndc_model.specs.Queues.{after_pull, after_renewal, after_rewind, put_in_flight};
@@ -25,6 +26,8 @@ pub struct Link {
     late: Vec<Name>,
     /// How many entries are done, over all lanes.
     done: u64,
+    /// Whether it is known that nothing is in flight, in any lane.
+    quiet: bool,
 }
 
 impl Model for Link {
@@ -80,6 +83,7 @@ fn renew_lanes<C: Learns>(
     ensures renewed { (whole : ℕ → List Sent) → AreRests queues.now whole
         → lanes.new.items ≡ map_from (λ shard lane. after_renewal reader table.now (cell_for shard (map C.cell cells.now)) (whole shard) lane) 0 lanes.old.items }
     ensures shards { length lanes.new.items ≡ length lanes.old.items }
+    ensures flights { flights_of lanes.new.items ≡ flights_of lanes.old.items }
     ensures done { result ≡ done_of lanes.new.items }
 {
     let mut done = 0;
@@ -126,14 +130,27 @@ fn newly_naming(
     Ok(names)
 }
 
+/// Whether nothing is in flight in any of the lanes.
+fn are_quiet(lanes: &[Lane]) -> bool
+    ensures { IsTrue result → AllByRecursion (λ flight. flight ≡ []) (flights_of lanes.now) }
+{
+    for lane in lanes {
+        if !lane.flight().is_empty() {
+            return false;
+        }
+    }
+    true
+}
+
 impl Link {
     ghost use Rattle.std.specs.List.{filter};
-    ghost use Rattle.std.specs.Prelude.{◌≡◌, ◌≢◌, ◌<◌, ◌≤◌, ◌++◌, ℕ, [], List, None, Some, Err, drop, length, map, replicate, slice_get, slice_set, sum, MatchResult, IfOk, IfErr, OnOk, OnErr};
+    ghost use Rattle.std.specs.Prelude.{◌≡◌, ◌≢◌, ◌<◌, ◌≤◌, ◌++◌, ℕ, [], List, None, Some, Err, drop, length, map, replicate, slice_get, slice_set, sum, IsTrue, MatchResult, IfOk, IfErr, OnOk, OnErr};
     ghost use Rattle.std.specs.Option.{option_copied};
     ghost use Rattle.ndc_model_cells.specs.Jobs.{cell_for};
     ghost use Rattle.ndc_model_cells.specs.declared.message.Message.{Message as Sent};
     ghost use Rattle.ndc_cluster_links.specs.Links.{flight_in, with_flight_in, with_lane_in};
-    ghost use Rattle.ndc_cluster_links.specs.Rest.{AreRests, AreWithin, IsRestOf, IsWithin};
+    ghost use Rattle.ndc_cluster_links.specs.Rest.{AreRests, AreWithin, IsRestOf, IsWithin, queue_at};
+    ghost use Rattle.ndc_queue.specs.Queues.{queue_len};
     ghost use Rattle.ndc_model.specs.Moves.{link_without_flights, map_from};
     ghost use Rattle.ndc_model.specs.Queues.{after_pull, after_renewal, after_rewind, is_addressed, new_lane, put_in_flight};
     ghost use Rattle.ndc_model.specs.World.{is_link, lane_in, newly_naming};
@@ -160,6 +177,7 @@ impl Link {
             lanes,
             late: Vec::new(alloc),
             done: 0,
+            quiet: true,
         })
     }
 
@@ -192,6 +210,27 @@ impl Link {
         self.lanes.as_slice()
     }
 
+    /// Whether all entries of the queues of its source are done, so that nothing is due. What is kept of each queue reaches
+    /// from the lane's `done` or before it to its end. Takes no memory.
+    pub fn is_done(&self, queues: &Queues) -> bool
+        requires alike { length queues.now ≡ length self.now.lanes }
+        requires within { AreWithin queues.now self.now.lanes }
+        ensures { IsTrue result → (shard : ℕ) → shard < length self.now.lanes → (lane_in self.now shard).levels.done ≡ queue_len (queue_at queues.now shard) }
+    {
+        let written = queues.written();
+        if self.done == written {
+            return true;
+        }
+        false
+    }
+
+    /// Whether it is known that nothing is in flight, for any shard. Takes no memory.
+    pub fn is_quiet(&self) -> bool
+        ensures { IsTrue result → link_without_flights self.now ≡ self.now }
+    {
+        self.quiet
+    }
+
     /// The domains of which the reader came to be a member late, in the order in which it did. Takes no memory.
     pub fn late(&self) -> &[Name]
         ensures { result.now ≡ self.now.late }
@@ -216,6 +255,7 @@ impl Link {
             → sent ≡ sum (map_from (λ shard lane. length (put_in_flight self.old.reader table.now None (whole shard) lane)) 0 self.old.lanes)) }
     {
         let queues = queues.as_slice();
+        self.quiet = false;
         let count = pull_lanes(alloc, &mut self.lanes, table, self.reader, queues)?;
         Ok(count)
     }
@@ -238,6 +278,7 @@ impl Link {
         ensures unchanged { OnErr result (self.new ≡ self.old) }
     {
         let reader = self.reader;
+        self.quiet = false;
         let lane = &mut self.lanes[shard];
         let sent = lane.pull(alloc, table, reader, Some(count), queue)?;
         Ok(sent)
@@ -295,6 +336,7 @@ impl Link {
         ensures rest { self.new ≡ with_flight_in shard (flight_in shard self.new) self.old }
         ensures unchanged { OnErr result (self.new ≡ self.old) }
     {
+        self.quiet = false;
         let lane = &mut self.lanes[shard];
         lane.lose(place)
     }
@@ -309,6 +351,7 @@ impl Link {
         ensures rest { self.new ≡ with_flight_in shard (flight_in shard self.new) self.old }
         ensures unchanged { OnErr result (self.new ≡ self.old) }
     {
+        self.quiet = false;
         let lane = &mut self.lanes[shard];
         lane.repeat(place)
     }
@@ -323,6 +366,7 @@ impl Link {
         ensures rest { self.new ≡ with_flight_in shard (flight_in shard self.new) self.old }
         ensures unchanged { OnErr result (self.new ≡ self.old) }
     {
+        self.quiet = false;
         let lane = &mut self.lanes[shard];
         lane.move_to(from, to)
     }
@@ -337,11 +381,24 @@ impl Link {
         lane.take()
     }
 
+    /// Looks whether anything is in flight, so that it is known where nothing is. Takes no memory.
+    pub fn look(&mut self)
+        ensures { self.new ≡ self.old }
+    {
+        if !self.quiet {
+            self.quiet = are_quiet(self.lanes.as_slice());
+        }
+    }
+
     /// Nothing is in flight, for any shard. Takes no memory.
     pub fn empty(&mut self)
         ensures { self.new ≡ link_without_flights self.old }
     {
+        if self.quiet {
+            return;
+        }
         empty_lanes(&mut self.lanes);
+        self.quiet = true;
     }
 
     /// Domains whose record did not name the reader and comes to name it go last among those of which it is a member

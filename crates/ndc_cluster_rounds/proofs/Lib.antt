@@ -1,5 +1,6 @@
-pub mod ShardLemmas
-pub mod EachLemmas
 pub mod DealLemmas
+pub mod EachLemmas
 pub mod RoundLemmas
+pub mod ShardLemmas
+pub mod TurnLemmas
 pub mod WholeLemmas

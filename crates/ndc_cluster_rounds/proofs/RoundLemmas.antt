@@ -11,7 +11,7 @@ use Rattle.ndc_cluster_rounds.proofs.EachLemmas.{all_there}
 use Rattle.ndc_cluster_rounds.specs.Rounds.{SlotValue, dealt, fresh_slot, joined, taken, with_first, with_job}
 
 -- what is left of a list begins with the next item
-drop-next : {X : Type 0} (xs : List X) (i : ℕ) (x : X) → i < length xs → x ≡ get_or xs i x → drop i xs ≡ x ∷ drop (i + 1) xs
+pub drop-next : {X : Type 0} (xs : List X) (i : ℕ) (x : X) → i < length xs → x ≡ get_or xs i x → drop i xs ≡ x ∷ drop (i + 1) xs
 drop-next xs i x below is =
     let next : i + 1 ≡ suc i = omega arith in
     drop-cons xs i x below ∙ ap (λ z. z ∷ drop (suc i) xs) (sym is) ∙ ap (λ n. x ∷ drop n xs) (sym next)

@@ -54,10 +54,34 @@ fn work_halves<R: Threads + Sync, P: Work + Send>(rt: &R, front: &mut [P], back:
     );
 }
 
-/// The same of a list of pieces.
-pub(crate) fn work_list<R: Threads + Sync, P: Work + Send>(rt: &R, pieces: &mut Vec<P>)
+/// All of the work is done, the last piece first.
+fn work_in_turn<P: Work>(pieces: &mut [P])
+    requires { AllByRecursion P.ready pieces.old }
+    ensures { Each P.worked pieces.old pieces.new }
+{
+    match pieces {
+        [] => {}
+        [piece] => piece.work(),
+        _ => {
+            let (front, back) = pieces.split_at_mut(pieces.len() / 2);
+            work_in_turn(back);
+            work_in_turn(front);
+        }
+    }
+}
+
+/// All of the work of a list of pieces is done: side by side, or the last piece first.
+pub(crate) fn work_list<R: Threads + Sync, P: Work + Send>(
+    rt: &R,
+    pieces: &mut Vec<P>,
+    beside: bool,
+)
     requires { AllByRecursion P.ready pieces.old.items }
     ensures { Each P.worked pieces.old.items pieces.new.items }
 {
-    work_all(rt, pieces.as_mut_slice());
+    if beside {
+        work_all(rt, pieces.as_mut_slice());
+    } else {
+        work_in_turn(pieces.as_mut_slice());
+    }
 }

@@ -2,6 +2,7 @@
 #![tactic(auto)]
 
 mod halves;
+mod in_turn;
 mod piece;
 pub mod round_laws;
 mod rounds;

@@ -139,6 +139,17 @@ pub(crate) struct Piece<'a, G: Gate, C: Works + Drop> {
     pub(crate) is_spent: bool,
 }
 
+impl<'a, G: Gate, C: Works + Drop> Piece<'a, G, C> {
+    /// How many jobs its cells are to do.
+    pub(crate) fn jobs(&self) -> usize {
+        let mut count: usize = 0;
+        for slot in self.slots.as_slice() {
+            count = count.saturating_add(slot.jobs.len());
+        }
+        count
+    }
+}
+
 impl<'a, G: Gate, C: Works + Drop> Work for Piece<'a, G, C> {
     ghost use Rattle.std.specs.Prelude.{◌≡◌, false, map};
     ghost use Rattle.std.specs.List.{AllByRecursion};

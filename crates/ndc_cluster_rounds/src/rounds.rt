@@ -6,6 +6,7 @@ ghost use Rattle.ndc_model_cells.specs.Conditions.{AreAllowed};
 ghost use Rattle.ndc_cluster_rounds.specs.Rounds.{dealt, fresh_slot, joined, slot_of, taken};
 
 use crate::halves::work_list;
+use crate::in_turn::{do_in_turn, enter_all};
 use crate::piece::{Desk, Piece, Slot, Works};
 use ndc_model_cells::{JobReply, ShardJob};
 use ndc_port::Gate;
@@ -130,6 +131,22 @@ fn cells_of<C: Works + Drop>(alloc: Global, slots: Vec<Slot<C>>) -> Result<Vec<C
     Ok(cells)
 }
 
+/// How many jobs a piece of the cells needs so that they pay for a thread.
+const ENOUGH: usize = 64;
+
+/// Whether at least two pieces have so many jobs that they pay for a thread.
+fn pay_for_threads<G: Gate, C: Works + Drop>(pieces: &[Piece<G, C>]) -> bool {
+    let mut paying = false;
+    for piece in pieces {
+        let pays = piece.jobs() >= ENOUGH;
+        if pays && paying {
+            return true;
+        }
+        paying = pays || paying;
+    }
+    false
+}
+
 /// What a round leaves: the cells, in order, and the replies in the order of the jobs.
 #[derive(Drop)]
 pub struct Rounded<C: Drop> {
@@ -137,10 +154,41 @@ pub struct Rounded<C: Drop> {
     pub replies: Vec<JobReply>,
 }
 
-/// Cells do jobs side by side, on so many workers at most, each worker on neighbouring cells. Each worker first enters
-/// the gate with its number, counted from 0. The cells and the replies are those of the jobs done one after the other;
-/// want of memory ends the round, and the cells are gone. With one worker no thread is started. The shard of each job
-/// is that of a cell, and each job may be done by the cell that the jobs before it leave.
+/// Cells do jobs in so many pieces of neighbouring ones: side by side, or one piece after the other where the gate holds
+/// nobody and the jobs do not pay for threads.
+fn in_pieces<R: Threads + Sync, G: Gate, C: Works + Drop + Send>(
+    rt: &R,
+    alloc: Global,
+    gate: &G,
+    count: u32,
+    desk: &Desk,
+    cells: Vec<C>,
+    jobs: &[ShardJob],
+) -> Result<Rounded<C>, AllocError>
+    requires count { 0 < count }
+    requires shards { AllByRecursion (λ asked. asked.shard < length cells.items) jobs.now }
+    requires allowed { AreAllowed C.allows desk.now jobs.now (map C.cell cells.items) }
+    ensures cells { IfOk result (λ rounded. map C.cell rounded.cells.items ≡ cells_after desk.now jobs.now (map C.cell cells.items)) }
+    ensures replies { IfOk result (λ rounded. rounded.replies.items ≡ replies_to desk.now jobs.now (map C.cell cells.items)) }
+{
+    let mut slots = slots_of(alloc, cells)?;
+    deal(&mut slots, jobs)?;
+    let mut pieces = cut(alloc, slots, count, gate, desk)?;
+    let beside = !gate.is_open() || pay_for_threads(pieces.as_slice());
+    work_list(rt, &mut pieces, beside);
+    let mut slots = join(alloc, pieces)?;
+    let Some(replies) = collect(alloc, &mut slots, jobs)? else {
+        unreachable!()
+    };
+    let cells = cells_of(alloc, slots)?;
+    Ok(Rounded { cells, replies })
+}
+
+/// Cells do jobs on so many workers at most, each worker on neighbouring cells. Each worker first enters the gate with its
+/// number, counted from 0. The cells and the replies are those of the jobs done one after the other; want of memory ends
+/// the round, and the cells are gone. With one worker no thread is started, nor under a gate that holds nobody where the
+/// jobs are too few to pay for it. The shard of each job is that of a cell, and each job may be done by the cell that the
+/// jobs before it leave.
 pub fn round<R: Threads + Sync, G: Gate, C: Works + Drop + Send>(
     rt: &R,
     alloc: Global,
@@ -159,14 +207,12 @@ pub fn round<R: Threads + Sync, G: Gate, C: Works + Drop + Send>(
     let count = workers
         .min(cells.len().try_into().unwrap_or(workers))
         .max(1);
-    let mut slots = slots_of(alloc, cells)?;
-    deal(&mut slots, jobs)?;
-    let mut pieces = cut(alloc, slots, count, gate, desk)?;
-    work_list(rt, &mut pieces);
-    let mut slots = join(alloc, pieces)?;
-    let Some(replies) = collect(alloc, &mut slots, jobs)? else {
-        unreachable!()
-    };
-    let cells = cells_of(alloc, slots)?;
-    Ok(Rounded { cells, replies })
+    if count == 1 || (jobs.len() < 2 * ENOUGH && gate.is_open()) {
+        enter_all(gate, count);
+        let mut cells = cells;
+        let replies = do_in_turn(alloc, desk, &mut cells, jobs)?;
+        return Ok(Rounded { cells, replies });
+    }
+    let rounded = in_pieces(rt, alloc, gate, count, desk, cells, jobs)?;
+    Ok(rounded)
 }

@@ -10,6 +10,11 @@ const TURNS: u32 = 200_000_000;
 pub trait Gate: Sync {
     /// Lets a worker in, maybe after a while.
     fn enter(&self, worker: u32) -> bool;
+
+    /// Whether it holds nobody, so that workers need not enter it side by side. Unless it says so, it may.
+    fn is_open(&self) -> bool {
+        false
+    }
 }
 
 /// A gate that holds nobody.
@@ -18,6 +23,12 @@ pub struct OpenGate {}
 
 impl Gate for OpenGate {
     fn enter(&self, _worker: u32) -> bool
+        ensures { result ≡ true }
+    {
+        true
+    }
+
+    fn is_open(&self) -> bool
         ensures { result ≡ true }
     {
         true

@@ -12,3 +12,5 @@ pub mod TakeLemmas
 pub mod TraceLemmas
 pub mod TrimLemmas
 pub mod WorkLemmas
+pub mod QuietLemmas
+pub mod DueLemmas

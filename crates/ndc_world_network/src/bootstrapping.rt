@@ -23,7 +23,8 @@ use ndc_script_types::Header;
 use std::alloc::{AllocError, Global};
 use std::thread::Threads;
 
-/// Jobs in which all arrives that cells have learned of some domains, by shard and then by place.
+/// Jobs in which all arrives that cells have learned of some domains, by shard and then by place. Where there is no domain,
+/// no cell is asked.
 fn learned_jobs<C: Serves>(
     alloc: Global,
     cells: &[C],
@@ -34,6 +35,9 @@ fn learned_jobs<C: Serves>(
     ensures { IfOk result (λ jobs. jobs.items ≡ all_arrive (λ shard. learned_of_domains domains.now (cell_for shard (map C.cell cells.now))) (range_with_len 0 shards)) }
 {
     let mut jobs = Vec::new(alloc);
+    if domains.is_empty() {
+        return Ok(jobs);
+    }
     for shard in 0..shards {
         let messages = cells[shard as usize].learned_of(alloc, domains)?;
         add_jobs(&mut jobs, shard, messages)?;

@@ -1,4 +1,4 @@
-ghost use Rattle.std.specs.Prelude.{◌≡◌, ◌<◌, ◌++◌, map, IfOk, OnOk};
+ghost use Rattle.std.specs.Prelude.{◌≡◌, ℕ, ◌<◌, ◌++◌, [], false, map, IfOk, OnOk};
 ghost use Rattle.ndc_script_types.specs.WellFormed.{IsCluster};
 ghost use Rattle.ndc_model.specs.Moves.{arrives, by_link, due, due_arrived, from_world};
 ghost use Rattle.ndc_model.specs.Conditions.{MayDoAll, due_jobs};
@@ -42,7 +42,24 @@ impl<C: Writes + Drop> Network<C> {
         Ok(())
     }
 
-    /// Jobs in which all arrives that is due to a reader, by shard, then source, then place.
+    /// Whether anything may be due to a reader: whether a source has written more than is done.
+    fn may_be_due(&self, header: &Header, reader: ClusterNo) -> bool
+        requires orderly { IsOrderly header.now self.now }
+        ensures { result ≡ false → (shard : ℕ) → shard < header.now.shards → by_link reader (due self.now) self.now.links shard ≡ [] }
+    {
+        for link in self.links.as_slice() {
+            if link.reader().number == reader.number {
+                let source = &self.sites[link.source().number as usize];
+                if !link.is_done(source.queues()) {
+                    return true;
+                }
+            }
+        }
+        false
+    }
+
+    /// Jobs in which all arrives that is due to a reader, by shard, then source, then place. Where nothing is, no shard is
+    /// looked at.
     fn due_jobs(
         &self,
         alloc: Global,
@@ -53,6 +70,9 @@ impl<C: Writes + Drop> Network<C> {
         ensures { IfOk result (λ jobs. jobs.items ≡ due_jobs header.now reader self.now) }
     {
         let mut jobs = Vec::new(alloc);
+        if !self.may_be_due(header, reader) {
+            return Ok(jobs);
+        }
         for shard in 0..header.shards {
             self.add_due(alloc, &mut jobs, header, reader, shard)?;
         }

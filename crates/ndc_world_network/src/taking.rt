@@ -1,4 +1,4 @@
-ghost use Rattle.std.specs.Prelude.{◌≡◌, ◌<◌, ◌++◌, length, map, IfOk, OnOk};
+ghost use Rattle.std.specs.Prelude.{◌≡◌, ◌<◌, ◌++◌, false, length, map, IfOk, OnOk};
 ghost use Rattle.std.specs.List.{AllByRecursion, range_with_len};
 ghost use Rattle.ndc_model.specs.Moves.{all_arrive, arrives, by_link, in_flight};
 ghost use Rattle.ndc_world_network.specs.Flights.{emptied, emptied_at};
@@ -17,6 +17,9 @@ pub(crate) fn add_jobs(
 ) -> Result<(), AllocError>
     ensures { OnOk result (jobs.new.items ≡ jobs.old.items ++ map (arrives shard) messages.items) }
 {
+    if messages.is_empty() {
+        return Ok(());
+    }
     for message in messages {
         jobs.push(ShardJob {
             shard,
@@ -47,8 +50,8 @@ fn take_shard(
     Ok(())
 }
 
-/// Takes all that is in flight to a reader, by shard and then link by link, as jobs.
-pub(crate) fn take_all(
+/// Takes what is in flight to a reader for each shard, link by link, as jobs.
+fn take_shards(
     alloc: Global,
     links: &mut Vec<Link>,
     reader: ClusterNo,
@@ -62,5 +65,48 @@ pub(crate) fn take_all(
     for shard in 0..shards {
         take_shard(&mut jobs, links, reader, shard)?;
     }
+    Ok(jobs)
+}
+
+/// Whether it is not known that nothing is in flight to a reader.
+fn may_be_in_flight(links: &[Link], reader: ClusterNo) -> bool
+    ensures { result ≡ false → map (emptied reader) links.now ≡ links.now }
+{
+    for link in links {
+        if link.reader().number == reader.number && !link.is_quiet() {
+            return true;
+        }
+    }
+    false
+}
+
+/// Looks over which links of a reader nothing is in flight.
+fn look_all(links: &mut Vec<Link>, reader: ClusterNo)
+    ensures { links.new.items ≡ links.old.items }
+{
+    for link in links.iter_mut() {
+        if link.reader().number == reader.number {
+            link.look();
+        }
+    }
+}
+
+/// Takes all that is in flight to a reader, by shard and then link by link, as jobs. Where it is known that nothing is, no
+/// shard is looked at.
+pub(crate) fn take_all(
+    alloc: Global,
+    links: &mut Vec<Link>,
+    reader: ClusterNo,
+    shards: u32,
+) -> Result<Vec<ShardJob>, AllocError>
+    requires { AllByRecursion (λ link. length link.lanes ≡ shards) links.old.items }
+    ensures links { OnOk result (links.new.items ≡ map (emptied reader) links.old.items) }
+    ensures jobs { IfOk result (λ jobs. jobs.items ≡ all_arrive (by_link reader in_flight links.old.items) (range_with_len 0 shards)) }
+{
+    if !may_be_in_flight(links.as_slice(), reader) {
+        return Ok(Vec::new(alloc));
+    }
+    let jobs = take_shards(alloc, links, reader, shards)?;
+    look_all(links, reader);
     Ok(jobs)
 }

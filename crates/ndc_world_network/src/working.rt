@@ -51,8 +51,8 @@ fn reapply_jobs(alloc: Global, shards: u32) -> Result<Vec<ShardJob>, AllocError>
 }
 
 impl<C: Writes + Drop> Network<C> {
-    /// The cells of a cluster do jobs side by side, on so many workers at most, behind the gate. The cells and the replies
-    /// are those of the jobs done one after the other. The shard of each job is that of a cell, and each job may be done
+    /// The cells of a cluster do jobs side by side, on so many workers at most, behind the gate; where there is no job, no
+    /// worker enters it. The cells and the replies are those of the jobs done one after the other. The shard of each job is that of a cell, and each job may be done
     /// by the cell that the jobs before it leave. After want of memory the cluster has no cells.
     pub fn do_jobs<R: Threads + Sync, G: Gate>(
         &mut self,
@@ -73,6 +73,9 @@ impl<C: Writes + Drop> Network<C> {
         ensures done { OnOk result (self.new ≡ with_cells cluster (cells_after (home_at header.now cluster self.old) jobs.now (cluster_at cluster self.old).cells) self.old) }
         ensures replies { IfOk result (λ replies. replies.items ≡ replies_to (home_at header.now cluster self.old) jobs.now (cluster_at cluster self.old).cells) }
     {
+        if jobs.is_empty() {
+            return Ok(Vec::new(alloc));
+        }
         let site = &mut self.sites[cluster.number as usize];
         let limit = header.limit;
         site.round(

@@ -4,6 +4,7 @@ use Rattle.ndc_model_cells.specs.Cells.{Cell}
 use Rattle.ndc_model.specs.Queues.{after_renewal}
 use Rattle.ndc_cluster_links.specs.Links.{done_of}
 use Rattle.ndc_cluster_links.proofs.DoneLemmas.{done_more}
+use Rattle.ndc_cluster_links.proofs.QuietLemmas.{flights_still}
 use Rattle.ndc_cluster_links.proofs.PlaceLemmas.{changed_all, changed_more, rest_more}
 use Rattle.ndc_cluster_links.proofs.RestLemmas.{cell_there, rest_there, within_there}
 use Rattle.ndc_cluster_links.proofs.link.renew_lanes.Goals as goal
@@ -23,6 +24,7 @@ pub loop-shard-preserved : goal.loop-shard-preserved
 loop-shard-preserved g c = record {
   len = length-set c.loop-shard.lanes.items c.loop-shard.shard c.renew-done.new.self ∙ c.loop-shard.invariant.len;
   rest = rest_more c.loop-shard.lanes.items c.args.lanes.now.items c.loop-shard.shard c.renew-done.new.self c.loop-shard.invariant.rest;
+  flights = flights_still c.loop-shard.lanes.items c.loop-shard.shard c.index_mut-lane.result.now c.renew-done.new.self c.index_mut-lane.ensures.value c.renew-done.ensures.flight ∙ c.loop-shard.invariant.flights;
   done = done_more c.loop-shard.lanes.items c.loop-shard.shard c.loop-shard.done c.renew-done.result c.renew-done.new.self (omega arith) c.loop-shard.invariant.done c.renew-done.ensures.done;
   most = omega (arith, c.renew-done.ensures.most, c.loop-shard.invariant.most);
   renewed = λ whole rests.

@@ -1,4 +1,4 @@
-use Rattle.std.proofs.Common.{◌<◌, ℕ, List, ◌++◌, length, map, ap, ◌∙◌, arith}
+use Rattle.std.proofs.Common.{◌<◌, ℕ, List, ◌++◌, length, map, ap, sym, ◌∙◌, arith}
 use Rattle.std.specs.List.{range_with_len}
 use Rattle.ndc_model_cells.specs.Jobs.{cell_for}
 use Rattle.ndc_model_cells.specs.declared.job.ShardJob.{ShardJob}
@@ -6,6 +6,7 @@ use Rattle.ndc_model_cells.specs.declared.message.Message.{Message}
 use Rattle.ndc_cluster_links.proofs.RestLemmas.{cell_there}
 use Rattle.ndc_model.specs.Moves.{all_arrive, arrives}
 use Rattle.ndc_model_cells.specs.Domains.{learned_of_domains}
+use Rattle.ndc_world_network.proofs.QuietLemmas.{no_domain_jobs, no_item}
 use Rattle.ndc_world_network.proofs.TakeLemmas.{jobs_of_more}
 use Rattle.ndc_world_network.proofs.bootstrapping.learned_jobs.Goals as goal
 
@@ -17,3 +18,6 @@ loop-shard-preserved g c =
     ∙ ap (λ (messages : List Message). all_arrive (λ shard. learned_of_domains c.args.domains.now (cell_for shard (map g.C.Works.cell c.args.cells.now))) (range_with_len 0 c.loop-shard.shard) ++ map (arrives c.loop-shard.shard) messages)
     (c.in_ok-messages.ensures ∙ ap (learned_of_domains c.args.domains.now) (cell_there g.C.Works.cell c.args.cells.now c.loop-shard.shard c.index-cells-shard.result below c.index-cells-shard.is))
     ∙ jobs_of_more (λ shard. learned_of_domains c.args.domains.now (cell_for shard (map g.C.Works.cell c.args.cells.now))) c.loop-shard.shard
+
+pub returns-then-is_empty : goal.returns-then-is_empty
+returns-then-is_empty g c = c.new-jobs.ensures.items ∙ sym (no_domain_jobs c.args.domains.now (λ shard. cell_for shard (map g.C.Works.cell c.args.cells.now)) (range_with_len 0 c.args.shards) (no_item c.args.domains.now (sym c.if-is_empty.ensures)))

@@ -8,4 +8,5 @@ pub invariant_of-self : goal.invariant_of-self
 invariant_of-self c = record {
   few = omega (arith, length-set c.self.inside.lanes.items c.args.shard c.repeat.new.self, c.self.invariant.few);
   done = c.self.invariant.done ∙ sym (done_still c.self.inside.lanes.items c.args.shard c.index_mut-lane.result.now c.repeat.new.self c.index_mut-lane.ensures.value (ap (λ (levels : LevelPair). levels.done) c.repeat.ensures.levels));
+  quiet = λ is. absurd (cc);
 }

@@ -1,10 +1,13 @@
-use Rattle.std.proofs.Common.{◌<◌, length, set, ap, sym, ◌∙◌, arith}
+use Rattle.std.proofs.Common.{◌<◌, length, set, ap, sym, subst, ◌∙◌, arith}
 use Rattle.std.proofs.lemmas.List.{length-map}
+use Rattle.std.specs.List.{AllByRecursion}
 use Rattle.std.proofs.lemmas.Result.{on_ok_weaker}
+use Rattle.ndc_model_cells.specs.declared.job.ShardJob.{ShardJob}
 use Rattle.ndc_model_cells.specs.Jobs.{cells_after}
 use Rattle.ndc_model.specs.World.{Cluster, World, cluster_at, home_at, with_cells}
 use Rattle.ndc_world_network.proofs.LinkLemmas.{stands}
-use Rattle.ndc_world_network.proofs.WorkLemmas.{cells_change}
+use Rattle.ndc_world_network.proofs.QuietLemmas.{no_item}
+use Rattle.ndc_world_network.proofs.WorkLemmas.{cells_change, no_job_done, no_job_replied}
 use Rattle.ndc_world_network.specs.Networks.{StandsAt, world_of}
 use Rattle.ndc_cluster.specs.Sites.{SiteValue, with_site_cells}
 use Rattle.ndc_world_network.proofs.network.Network.do_jobs.Goals as goal
@@ -22,3 +25,19 @@ returns-clause-done g c =
     (cells_after (home_at c.args.header.now c.args.cluster w) c.args.jobs.now (cluster_at c.args.cluster w).cells)
     ∙ ap (λ (v : World). with_cells c.args.cluster (cells_after (home_at c.args.header.now c.args.cluster v) c.args.jobs.now (cluster_at c.args.cluster v).cells) v) c.self.view_is)
     c.round.ensures.cells
+
+pub returns-then-is_empty-clause-done : goal.returns-then-is_empty-clause-done
+returns-then-is_empty-clause-done g c = no_job_done (home_at c.args.header.now c.args.cluster c.args.self.now) c.args.jobs.now c.args.cluster c.args.self.now (no_item c.args.jobs.now (sym c.if-is_empty.ensures))
+
+pub returns-then-is_empty-clause-replies : goal.returns-then-is_empty-clause-replies
+returns-then-is_empty-clause-replies g c =
+    no_job_replied (home_at c.args.header.now c.args.cluster c.args.self.now) c.args.jobs.now (cluster_at c.args.cluster c.args.self.now).cells c.new.result.items (no_item c.args.jobs.now (sym c.if-is_empty.ensures)) c.new.ensures.items
+
+pub round-requires-clause-shards : goal.round-requires-clause-shards
+round-requires-clause-shards g c κs within =
+    let w = world_of c.self.inside.sites.items c.self.inside.links.items c.self.inside.handovers.items in
+    let below : c.args.cluster.number < length c.self.inside.sites.items =
+    omega (arith, c.requires.cluster, ap (λ (v : World). length v.clusters) c.self.view_is, length-map c.self.inside.sites.items (λ (s : SiteValue). s.cluster)) in
+    let own : StandsAt w c.args.cluster c.index_mut-site.result.now = stands c.self.inside.sites.items c.self.inside.links.items c.self.inside.handovers.items c.args.cluster c.index_mut-site.result.now below c.index_mut-site.ensures.value in
+    subst (λ (cluster : Cluster). AllByRecursion (λ (asked : ShardJob). asked.shard < length cluster.cells) c.args.jobs.now)
+    (ap (λ (v : World). cluster_at c.args.cluster v) (sym c.self.view_is) ∙ own.cluster_is) c.requires.shards

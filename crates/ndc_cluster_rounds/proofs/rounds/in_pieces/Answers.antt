@@ -5,7 +5,7 @@ use Rattle.std.proofs.lemmas.List.{length-map}
 use Rattle.ndc_cluster_rounds.specs.Rounds.{SlotMay, dealt}
 use Rattle.ndc_cluster_rounds.proofs.DealLemmas.{AreBelow, slots_may}
 use Rattle.ndc_cluster_rounds.proofs.WholeLemmas.{found_is, none_found, ready_all, slots_cells, slots_many, slots_replies, whole_done}
-use Rattle.ndc_cluster_rounds.proofs.rounds.round.Goals as goal
+use Rattle.ndc_cluster_rounds.proofs.rounds.in_pieces.Goals as goal
 
 pub work_list-requires-after_bounds : goal.work_list-requires-after_bounds
 work_list-requires-after_bounds g c =

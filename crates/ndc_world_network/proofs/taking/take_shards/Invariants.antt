@@ -2,7 +2,7 @@ use Rattle.std.proofs.Common.{◌≡◌, map}
 use Rattle.std.specs.List.{range_with_len}
 use Rattle.ndc_model.specs.Moves.{all_arrive, by_link, in_flight}
 use Rattle.ndc_world_network.specs.Flights.{emptied_below}
-use Rattle.ndc_world_network.proofs.taking.take_all.Given as goal
+use Rattle.ndc_world_network.proofs.taking.take_shards.Given as goal
 
 abbrev pub invariant-loop-shard : goal.invariant-loop-shard
 invariant-loop-shard l = record {
