@@ -16,10 +16,9 @@ ghost use Rattle.ndc_dump_causes.specs.declared.error.KeyCause.TheVariants.{NotW
 use crate::ancestors::path_from;
 use crate::keys::KeySet;
 use crate::order::Step;
-use crate::trail::origin_of;
 use indexmap::IndexSet;
 use ndc_event::{Batch, BatchKey, Event, EventKind, Origin, RunId};
-use ndc_state::{State, StateError, Steps};
+use ndc_state::{State, StateError, Steps, origin_of};
 use std::alloc::{AllocError, Global};
 
 /// Marks the steps that are taken here.

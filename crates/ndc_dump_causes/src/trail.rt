@@ -1,6 +1,5 @@
 // Paths gone over for origins that come again.
 ghost use Rattle.std.specs.Prelude.{◌≡◌, false, Ok, IfOk, OnOk};
-ghost use Rattle.ndc_state.specs.Origins.{origin_of};
 ghost use Rattle.ndc_dump_causes.specs.Causes.{has_origin_twice, holds_of_none, is_ill_formed};
 ghost use Rattle.ndc_dump_causes.specs.Given.{AreRead};
 ghost use Rattle.ndc_dump_causes.specs.Trails.{AreKnown, IsTrail};
@@ -10,6 +9,7 @@ use crate::keys::KeySet;
 use crate::order::Step;
 use indexmap::IndexSet;
 use ndc_event::{Batch, BatchKey, Event, EventKind, Origin, RunId};
+use ndc_state::origin_of;
 use std::alloc::{AllocError, Global};
 use std::marker::Model;
 
@@ -33,20 +33,6 @@ impl Model for Trail {
     ghost Value = { TrailValue };
 
     ghost view = { λ t. record { opened = t.opened.items; listed = t.origins.keys } };
-}
-
-/// The origin of a signal event of the run.
-pub(crate) fn origin_of(run: RunId, event: &Event, origin: Option<Origin>) -> Origin
-    ensures { result ≡ origin_of run event.now.id event.now.version origin }
-{
-    match origin {
-        None => Origin {
-            run,
-            event: event.id,
-            version: event.version,
-        },
-        Some(origin) => origin,
-    }
 }
 
 impl Trail {

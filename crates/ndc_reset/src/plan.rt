@@ -2,9 +2,9 @@ ghost use Rattle.std.specs.Prelude.{◌≡◌, ◌+◌, ◌++◌, IfOk, OnOk, co
 ghost use Rattle.ndc_event.specs.Outcome.{Gives};
 ghost use Rattle.ndc_reset.specs.Reset.{is_completed, is_signal, is_kept, is_point, repeated, repeated_kinds, events_before, signals_onward, reset_kinds, reset_of};
 ghost use Rattle.ndc_reset.specs.declared.plan.ResetError.TheVariants.{Memory};
-ghost use Rattle.ndc_state.specs.Origins.{origin_of};
 
-use ndc_event::{Event, EventKind, Name, NameError, Origin, RunId};
+use ndc_event::{Event, EventKind, Name, NameError, RunId};
+use ndc_state::origin_of;
 use std::alloc::{AllocError, AllocFailed, Global};
 use thiserror::Error;
 
@@ -90,20 +90,6 @@ fn count_kinds(history: &[Event], point: u64) -> u64
         }
     }
     count
-}
-
-/// The origin of a signal event of the run: the one that a copy names, or the event itself.
-fn origin_of(run: RunId, event: &Event, origin: Option<Origin>) -> Origin
-    ensures { result ≡ origin_of run event.now.id event.now.version origin }
-{
-    match origin {
-        None => Origin {
-            run,
-            event: event.id,
-            version: event.version,
-        },
-        Some(origin) => origin,
-    }
 }
 
 /// The kind of the event as another run repeats it.
