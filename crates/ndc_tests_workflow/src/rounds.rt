@@ -1,4 +1,5 @@
-ghost use Rattle.std.specs.Prelude.{◌≡◌, length, IfOk};
+ghost use Rattle.std.specs.List.{AllByRecursion};
+ghost use Rattle.std.specs.Prelude.{◌≡◌, ◌<◌, ◌≤◌, length, IfOk};
 
 use ndc_cluster_rounds::{Desk, Works, round};
 use ndc_domain::{ClusterNo, Clusters, DomainTable};
@@ -50,6 +51,45 @@ impl Gate for LateGate {
     }
 }
 
+/// A gate that says that it holds nobody, and yet holds worker 0 until worker 1 has entered.
+#[derive(Drop)]
+struct FalseGate {
+    pair: PairGate,
+    first: AtomicBool,
+    second: AtomicBool,
+}
+
+impl FalseGate {
+    /// A gate that nobody has entered.
+    fn new() -> FalseGate {
+        FalseGate {
+            pair: PairGate::new(),
+            first: AtomicBool::new(false),
+            second: AtomicBool::new(false),
+        }
+    }
+
+    /// Whether both workers have entered.
+    fn both(&self) -> bool {
+        self.first.load(Ordering::SeqCst) && self.second.load(Ordering::SeqCst)
+    }
+}
+
+impl Gate for FalseGate {
+    fn enter(&self, worker: u32) -> bool {
+        if worker == 0 {
+            self.first.store(true, Ordering::SeqCst);
+        } else {
+            self.second.store(true, Ordering::SeqCst);
+        }
+        self.pair.enter(worker)
+    }
+
+    fn is_open(&self) -> bool {
+        true
+    }
+}
+
 /// Two cells without memory.
 fn two_cells(alloc: Global) -> Result<Vec<FullCell>, AllocError>
     ensures { IfOk result (λ cells. length cells.items ≡ 2) }
@@ -75,6 +115,51 @@ fn rounded<R: Threads + Sync, G: Gate>(
     let cells = two_cells(alloc)?;
     let rounded = round(rt, alloc, gate, 2, &desk, cells, jobs.as_slice())?;
     Ok((rounded.cells.len(), rounded.replies.len()))
+}
+
+/// So many jobs for each of two shards.
+fn jobs_for_two(alloc: Global, count: u32) -> Result<Vec<ShardJob>, AllocError>
+    requires { count ≤ 1000 }
+    ensures { IfOk result (λ jobs. AllByRecursion (λ asked. asked.shard < 2) jobs.items) }
+{
+    let mut jobs = Vec::new(alloc);
+    for place in 0..2 * count {
+        jobs.push(ShardJob {
+            shard: place % 2,
+            job: Job::Reapply,
+        })?;
+    }
+    Ok(jobs)
+}
+
+/// Whether two workers find no memory for so many jobs in each of two shards, behind this gate.
+fn is_spent<R: Threads + Sync, G: Gate>(
+    rt: &R,
+    alloc: Global,
+    gate: &G,
+    count: u32,
+) -> Result<bool, Fail>
+    requires { count ≤ 1000 }
+{
+    let mut members = Vec::new(alloc);
+    members.push((Name::new(alloc, b"A".as_slice())?, 1))?;
+    let clusters = Clusters::build(10, members)?;
+    let table = DomainTable::new(alloc);
+    let desk = Desk::new(&clusters, ClusterNo { number: 0 }, 100, &table);
+    let jobs = jobs_for_two(alloc, count)?;
+    let cells = two_cells(alloc)?;
+    Ok(round(rt, alloc, gate, 2, &desk, cells, jobs.as_slice()).is_err())
+}
+
+#[test]
+fn workers_enter_side_by_side_where_their_jobs_pay(rt: HostRuntime) -> Result<(), Fail> {
+    let many = FalseGate::new();
+    assert!(rt; is_spent(&rt, rt.alloc(), &many, 64)?);
+    assert!(rt; many.both() && many.pair.met());
+    let few = FalseGate::new();
+    assert!(rt; is_spent(&rt, rt.alloc(), &few, 1)?);
+    assert!(rt; few.both() && !few.pair.met());
+    Ok(())
 }
 
 #[test]

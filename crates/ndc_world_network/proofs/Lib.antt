@@ -14,3 +14,4 @@ pub mod TrimLemmas
 pub mod WorkLemmas
 pub mod QuietLemmas
 pub mod DueLemmas
+pub mod TableLemmas

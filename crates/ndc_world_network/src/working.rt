@@ -40,7 +40,7 @@ pub struct Worked {
 fn reapply_jobs(alloc: Global, shards: u32) -> Result<Vec<ShardJob>, AllocError>
     ensures { IfOk result (λ jobs. jobs.items ≡ map (λ shard. record { shard = shard; job = Reapply }) (range_with_len 0 shards)) }
 {
-    let mut jobs = Vec::new(alloc);
+    let mut jobs = Vec::with_capacity(alloc, shards as usize)?;
     for shard in 0..shards {
         jobs.push(ShardJob {
             shard,

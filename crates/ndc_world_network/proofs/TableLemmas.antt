@@ -1,0 +1,80 @@
+-- A table that takes its own place.
+use Rattle.std.proofs.Common.{◌≡◌, ℕ, Bool, true, false, [], ◌∷◌, List, ◌++◌, Option, Some, not, ◌&&◌, map, refl, ap, sym, subst, ◌∙◌, if◌then◌else◌}
+use Rattle.std.specs.List.{AllByRecursion}
+use Rattle.std.specs.Str.{bytes_eq}
+use Rattle.std.specs.declared.cmp.Ordering.TheVariants.{Less}
+use Rattle.std.proofs.lemmas.List.{append-nil, map-id, set-get_or}
+use Rattle.std.proofs.lemmas.Slice.Eq.{bytes_eq-Decides}
+use Rattle.ndc_domain.proofs.Order.{eq_by_cmp}
+use Rattle.ndc_domain.proofs.Tables.{find_cases}
+use Rattle.ndc_domain.specs.Merge.{merged}
+use Rattle.ndc_domain.specs.Records.{AllLater, IsTable, Rise, record_of}
+use Rattle.ndc_domain.specs.declared.clusters.ClusterNo.{ClusterNo}
+use Rattle.ndc_domain.specs.declared.record.DomainRecord.{DomainRecord}
+use Rattle.ndc_event.specs.declared.name.Name.{Name}
+use Rattle.ndc_model_cells.specs.Writing.{same_cluster}
+use Rattle.ndc_model.specs.World.{Cluster, Link, World, cluster_at, names_cluster, new_cluster, newly_naming, with_late, with_table}
+
+-- each record of a table is found by its name
+found_each : (records : List DomainRecord) → Rise records → AllByRecursion (λ (one : DomainRecord). record_of records one.name ≡ Some one) records
+found_each [] rise = tt
+found_each (first ∷ records) rise = (
+  find_cases (λ (o : Option DomainRecord). o ≡ Some first) first records first.name (λ same. refl)
+      (λ apart. let clash : false ≡ true = sym apart ∙ (bytes_eq-Decides first.name first.name).1 refl in absurd (cc)),
+  behind records rise.0 (found_each records rise.1),
+)
+  where
+    behind : (rest : List DomainRecord) → AllLater first.name rest → AllByRecursion (λ (one : DomainRecord). record_of records one.name ≡ Some one) rest
+        → AllByRecursion (λ (one : DomainRecord). record_of (first ∷ records) one.name ≡ Some one) rest
+    behind [] later all = tt
+    behind (one ∷ rest) later all = (
+      find_cases (λ (o : Option DomainRecord). o ≡ Some one) first records one.name
+          (λ same. let clash : true ≡ false = sym ((bytes_eq-Decides first.name one.name).1 same) ∙ eq_by_cmp first.name one.name Less later.0 in absurd (cc))
+          (λ apart. all.0),
+      behind rest later.1 all.1,
+    )
+
+-- records that stay come to name nobody
+none-new : (reader : ClusterNo) (before after : List DomainRecord) → AllByRecursion (λ (one : DomainRecord). record_of after one.name ≡ Some one) before → newly_naming reader before after ≡ []
+none-new reader [] after all = refl
+none-new reader (one ∷ before) after all = rw all.0 (by (names_cluster reader (Some one)) refl)
+  where
+    rest : newly_naming reader before after ≡ []
+    rest = none-new reader before after all.1
+
+    by : (t : Bool) → names_cluster reader (Some one) ≡ t
+        → (if not (names_cluster reader (Some one)) && names_cluster reader (Some one) then one.name ∷ newly_naming reader before after else newly_naming reader before after) ≡ []
+    by true named = rw (named, named) rest
+    by false named = rw (named, named) rest
+
+-- so a link stays where its source's table takes its own place
+late-same : (source : ClusterNo) (table : List DomainRecord) (link : Link) → Rise table → with_late source table table link ≡ link
+late-same source table link rise = by (same_cluster link.source source) refl
+  where
+    none : newly_naming link.reader table table ≡ []
+    none = none-new link.reader table table (found_each table rise)
+
+    by : (t : Bool) → same_cluster link.source source ≡ t → with_late source table table link ≡ link
+    by true own = rw own (ap (λ (names : List Name). record link { late = names }) (ap (λ (names : List Name). link.late ++ names) none ∙ append-nil link.late))
+    by false other = rw other refl
+
+links-same : (source : ClusterNo) (table : List DomainRecord) (links : List Link) → Rise table → map (with_late source table table) links ≡ links
+links-same source table [] rise = refl
+links-same source table (link ∷ links) rise =
+    ap (λ (l : Link). l ∷ map (with_late source table table) links) (late-same source table link rise) ∙ ap (λ (ls : List Link). link ∷ ls) (links-same source table links rise)
+
+-- and the world
+own-table : (cluster : ClusterNo) (w : World) → Rise (cluster_at cluster w).table → with_table cluster (cluster_at cluster w).table w ≡ w
+unfolding with_table
+own-table cluster w rise =
+    ap (λ (clusters : List Cluster). record w { clusters = clusters; links = map (with_late cluster (cluster_at cluster w).table (cluster_at cluster w).table) w.links }) (set-get_or w.clusters cluster.number (new_cluster 0))
+    ∙ ap (λ (links : List Link). record w { links = links }) (links-same cluster (cluster_at cluster w).table w.links rise)
+
+-- a cluster that knows all of another's table merges it without a change
+pub known_table : (cluster other : ClusterNo) (w : World) (ours theirs : List DomainRecord) → ours ≡ (cluster_at cluster w).table → theirs ≡ (cluster_at other w).table → IsTable ours → merged ours theirs ≡ ours
+    → w ≡ with_table cluster (merged (cluster_at cluster w).table (cluster_at other w).table) w
+known_table cluster other w ours theirs own their table same =
+    let kept : merged (cluster_at cluster w).table (cluster_at other w).table ≡ (cluster_at cluster w).table =
+    ap (λ (records : List DomainRecord). merged records (cluster_at other w).table) (sym own) ∙ ap (merged ours) (sym their) ∙ same ∙ own in
+    let rise : Rise (cluster_at cluster w).table = subst Rise own table.ordered in
+    sym (ap (λ (records : List DomainRecord). with_table cluster records w) kept ∙ own-table cluster w rise)
