@@ -4,7 +4,7 @@ use Rattle.std.specs.List.{filter}
 use Rattle.ndc_event.specs.declared.batch.Batch.{Batch}
 use Rattle.ndc_history.specs.Common.{best_from, item_or_zero}
 use Rattle.ndc_history.specs.declared.item.Item.{Item}
-use Rattle.ndc_resend.specs.declared.gap.Gap.{Gap}
+use Rattle.ndc_resend.specs.declared.serving.Gap.{Gap}
 use Rattle.ndc_model_sets.specs.Paths.{best_item, first_id, last_id}
 
 -- the gap before an event: behind the best item that the local histories have in common with the remote one
