@@ -11,6 +11,10 @@ use Rattle.ndc_model_sets.specs.Paths.{best_item, first_id, last_id}
 abbrev pub gap_of : List (List Item) → List Item → Item → Gap
 gap_of local remote first = record { after = item_or_zero (best_item (best_from 0 local remote)); before = first }
 
+-- the first event of a batch, by its id and version; id 0 where it has none
+abbrev pub first_item : Batch → Item
+first_item b = record { id = first_id b.events; version = b.key.version }
+
 -- whether a batch lies in a gap: all of its events come after the one end and before the other
 abbrev pub is_between : Gap → Batch → Bool
 is_between gap b = nat_lt gap.after.id (first_id b.events) && nat_lt (last_id b.events) gap.before.id

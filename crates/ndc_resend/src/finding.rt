@@ -1,7 +1,8 @@
 ghost use Rattle.std.specs.Prelude.{◌≡◌};
-ghost use Rattle.ndc_resend.specs.Gaps.{gap_of};
+ghost use Rattle.ndc_resend.specs.Gaps.{first_item, gap_of};
 
-use crate::serving::Gap;
+use crate::serving::{Gap, first_id};
+use ndc_event::Batch;
 use ndc_history::{Item, VersionHistory, best_common};
 
 /// The gap before an event: behind the item with the greatest id that one of the local histories has in common
@@ -16,5 +17,15 @@ pub fn gap(local: &[VersionHistory], remote: &VersionHistory, first: Item) -> Ga
     Gap {
         after,
         before: first,
+    }
+}
+
+/// The first event of a batch, by its id and version; id 0 where it has none. Takes no memory.
+pub fn first_item(batch: &Batch) -> Item
+    ensures { result ≡ first_item batch.now }
+{
+    Item {
+        id: first_id(batch.events.as_slice()),
+        version: batch.key.version,
     }
 }

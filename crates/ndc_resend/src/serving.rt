@@ -16,7 +16,7 @@ pub struct Gap {
 }
 
 /// The id of the first event, 0 where there is none.
-fn first_id(events: &[Event]) -> u64
+pub(crate) fn first_id(events: &[Event]) -> u64
     ensures { result ≡ first_id events.now }
 {
     match events.first() {
