@@ -4,7 +4,7 @@ use Rattle.ndc_event.specs.declared.batch.Batch.{Batch}
 use Rattle.ndc_history.specs.declared.item.Item.{Item}
 use Rattle.ndc_resend.specs.Gaps.{gap_of}
 use Rattle.ndc_history.specs.Common.{item_or_zero}
-use Rattle.ndc_resend.specs.declared.gap.Gap.{Gap}
+use Rattle.ndc_resend.specs.declared.serving.Gap.{Gap}
 use Rattle.ndc_model_sets.specs.Branches.{histories}
 use Rattle.ndc_model_sets.specs.Learned.{IsClosed, IsPart}
 use Rattle.ndc_model_sets.specs.Paths.{events_to, last_item_of, path_to, versions_of}

@@ -8,7 +8,7 @@ use Rattle.ndc_event.specs.declared.batch.Batch.{Batch}
 use Rattle.ndc_event.specs.declared.batch.Event.{Event}
 use Rattle.ndc_resend.specs.Gaps.{is_between, served}
 use Rattle.ndc_history.specs.Common.{item_or_zero}
-use Rattle.ndc_resend.specs.declared.gap.Gap.{Gap}
+use Rattle.ndc_resend.specs.declared.serving.Gap.{Gap}
 use Rattle.ndc_model_sets.specs.Paths.{IsPath, first, below, first_id, last_from, last_id, last_item_of, path_to}
 use Rattle.ndc_model_sets.specs.Sets.{Has}
 use Rattle.ndc_model_sets.specs.Sound.{IsSound}

@@ -4,12 +4,16 @@ use Rattle.std.specs.List.{filter}
 use Rattle.ndc_event.specs.declared.batch.Batch.{Batch}
 use Rattle.ndc_history.specs.Common.{best_from, item_or_zero}
 use Rattle.ndc_history.specs.declared.item.Item.{Item}
-use Rattle.ndc_resend.specs.declared.gap.Gap.{Gap}
+use Rattle.ndc_resend.specs.declared.serving.Gap.{Gap}
 use Rattle.ndc_model_sets.specs.Paths.{best_item, first_id, last_id}
 
 -- the gap before an event: behind the best item that the local histories have in common with the remote one
 abbrev pub gap_of : List (List Item) → List Item → Item → Gap
 gap_of local remote first = record { after = item_or_zero (best_item (best_from 0 local remote)); before = first }
+
+-- the first event of a batch, by its id and version; id 0 where it has none
+abbrev pub first_item : Batch → Item
+first_item b = record { id = first_id b.events; version = b.key.version }
 
 -- whether a batch lies in a gap: all of its events come after the one end and before the other
 abbrev pub is_between : Gap → Batch → Bool

@@ -5,15 +5,12 @@ use ndc_cluster_reads::{Lacking, Reads};
 use ndc_event::{BatchKey, Name};
 use ndc_model_cells::{Message, Place};
 use ndc_shard_runs::Runs;
-use ndc_shard_workflows::{message_there, messages_of};
+use ndc_shard_workflows::messages_of;
 use std::alloc::{AllocError, Global};
 
 impl Learns for Shard {
     fn has_learned(&self, domain: &Name, workflow: &Name, key: BatchKey) -> bool {
-        match Shard::runs(self, domain, workflow) {
-            Some(runs) => runs.has(key),
-            None => false,
-        }
+        Shard::has_learned(self, domain, workflow, key)
     }
 }
 
@@ -29,7 +26,7 @@ impl Writes for Shard {
 
 impl Serves for Shard {
     fn learned_of(&self, alloc: Global, domains: &[Name]) -> Result<Vec<Message>, AllocError> {
-        messages_of(alloc, self.workflows(), domains)
+        messages_of(alloc, self.held(), domains)
     }
 }
 
@@ -39,14 +36,14 @@ impl Reads for Shard {
     }
 
     fn has_arrived(&self, domain: &Name, workflow: &Name, key: BatchKey) -> bool {
-        match self.workflows().find(domain, workflow) {
+        match self.held().find(domain, workflow) {
             Some(found) => found.has_arrived(key),
             None => false,
         }
     }
 
     fn behind(&self, alloc: Global) -> Result<Vec<Place>, AllocError> {
-        self.workflows().behind(alloc)
+        self.held().behind(alloc)
     }
 
     fn put_off(
@@ -55,7 +52,7 @@ impl Reads for Shard {
         domain: &Name,
         workflow: &Name,
     ) -> Result<Vec<Lacking>, AllocError> {
-        match self.workflows().find(domain, workflow) {
+        match self.held().find(domain, workflow) {
             Some(found) => lacking_in(alloc, found),
             None => Ok(Vec::new(alloc)),
         }
@@ -63,11 +60,11 @@ impl Reads for Shard {
 
     fn message_at(
         &self,
-        alloc: Global,
+        _alloc: Global,
         domain: &Name,
         workflow: &Name,
         key: BatchKey,
     ) -> Result<Option<Message>, AllocError> {
-        message_there(alloc, self.workflows(), domain, workflow, key)
+        Shard::message(self, domain, workflow, key)
     }
 }

@@ -74,7 +74,7 @@ impl Shard {
     }
 
     /// Its workflows, to be read: as a cell they differ from it by what was written alone.
-    pub(crate) fn workflows(&self) -> &Workflows
+    pub(crate) fn held(&self) -> &Workflows
         ensures { having_written self.now.written result.now ≡ self.now }
     {
         &self.workflows

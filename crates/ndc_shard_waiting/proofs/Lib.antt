@@ -18,3 +18,4 @@ pub mod ShortcutLemmas
 pub mod NoteLemmas
 pub mod OrderedLemmas
 pub mod PlacedLemmas
+mod WithLemmas

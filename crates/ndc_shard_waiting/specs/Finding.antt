@@ -1,9 +1,11 @@
 -- Messages by the key of their batch.
-use Rattle.std.specs.Prelude.{◌-◌, ◌==◌, List, [], ◌∷◌, find, Option, Some, None, if◌then◌else◌}
+use Rattle.std.specs.Prelude.{◌-◌, ◌==◌, List, [], ◌∷◌, find, is_some, Option, Some, None, if◌then◌else◌}
 use Rattle.ndc_model_cells.specs.declared.message.Message.{Message}
+use Rattle.ndc_model_cells.specs.Cells.{both}
 use Rattle.ndc_event.specs.declared.batch.Batch.{Batch}
 use Rattle.ndc_event.specs.declared.key.BatchKey.{BatchKey}
 use Rattle.ndc_event.specs.Key.{key_eq}
+use Rattle.ndc_model_sets.specs.Learned.{has_key}
 
 -- the message whose batch has this key
 abbrev pub message_at : BatchKey → List Message → Option Message
@@ -27,3 +29,17 @@ carried_of (Some sent) = sent.second
 abbrev pub carried_at : Option BatchKey → List Message → Option Batch
 carried_at None messages = None
 carried_at (Some key) messages = carried_of (message_at key messages)
+
+-- the message that has a batch of this key, its own or the one that it carries
+abbrev pub message_with : BatchKey → List Message → Option Message
+message_with key messages = find (λ sent. has_key (Some key) (both sent)) messages
+
+-- the message, where it carries a batch
+abbrev pub if_carrying : Option Message → Option Message
+if_carrying None = None
+if_carrying (Some sent) = if is_some sent.second then Some sent else None
+
+-- the message whose batch has this key, where it carries one
+abbrev pub carrier_at : Option BatchKey → List Message → Option Message
+carrier_at None messages = None
+carrier_at (Some key) messages = if_carrying (message_at key messages)

@@ -96,7 +96,7 @@ impl Shelf {
     ghost use Rattle.ndc_model_sets.specs.Keys.{is_key_among};
     ghost use Rattle.ndc_model_cells.specs.Messages.{batches_of, IsNewTo};
     ghost use Rattle.ndc_shard_waiting.specs.Waiting.{put_off, freed, still_put_off, AreWaiting, CanWait};
-    ghost use Rattle.ndc_shard_waiting.specs.Finding.{message_at, without_message, carried_at, key_before};
+    ghost use Rattle.ndc_shard_waiting.specs.Finding.{message_at, message_with, without_message, carried_at, carrier_at, key_before};
     ghost use Rattle.ndc_shard_waiting.specs.Linking.{is_woken};
 
     /// No message waits.
@@ -134,6 +134,28 @@ impl Shelf {
         let before = key_before(key)?;
         let sent = self.messages.get(before)?;
         sent.second.as_ref()
+    }
+
+    /// The message that has a batch of this key, its own or the one that it carries.
+    pub(crate) fn message(&self, key: BatchKey) -> Option<&Message>
+        ensures { option_copied result ≡ message_with key self.now }
+    {
+        match self.messages.get(key) {
+            Some(sent) => Some(sent),
+            None => self.carrier(key),
+        }
+    }
+
+    /// The message whose batch's key comes one task before this one, where it carries a batch.
+    fn carrier(&self, key: BatchKey) -> Option<&Message>
+        ensures { option_copied result ≡ carrier_at (key_before key) self.now }
+    {
+        let before = key_before(key)?;
+        let sent = self.messages.get(before)?;
+        if sent.second.is_none() {
+            return None;
+        }
+        Some(sent)
     }
 
     /// Puts a message that waits, and whose keys are new, to its place; for want of memory the shelf is as it was.

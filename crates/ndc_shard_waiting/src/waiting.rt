@@ -100,6 +100,7 @@ impl Waiting {
     ghost use Rattle.std.specs.Option.{option_copied};
     ghost use Rattle.ndc_model_sets.specs.Learned.{has_key};
     ghost use Rattle.ndc_model_sets.specs.Sets.{batch_at};
+    ghost use Rattle.ndc_shard_waiting.specs.Finding.{message_with};
     ghost use Rattle.ndc_shard_waiting.specs.Shortcuts.{GoesUp, LeadsUp};
     ghost use Rattle.ndc_model_cells.specs.Messages.{batches_of, IsNewTo};
     ghost use Rattle.ndc_shard_waiting.specs.Waiting.{put_off, freed, still_put_off, missing_from, all_missing, AreWaiting, CanWait};
@@ -135,6 +136,14 @@ impl Waiting {
         ensures { option_copied result ≡ batch_at key (batches_of self.now) }
     {
         self.shelf.get(key)
+    }
+
+    /// The message that has a batch of this key, its own or the one that it carries. In time of the logarithm of the
+    /// messages, without memory.
+    pub fn message(&self, key: BatchKey) -> Option<&Message>
+        ensures { option_copied result ≡ message_with key self.now }
+    {
+        self.shelf.message(key)
     }
 
     /// Whether a batch has this key, that of a message or the one that it carries.

@@ -14,6 +14,7 @@ pub mod FreedLemmas
 pub mod HoldLemmas
 pub mod KeptLemmas
 pub mod LearnableLemmas
+mod LearnedLemmas
 pub mod ListLemmas
 pub mod MessageDomainLemmas
 pub mod NameLemmas

@@ -49,7 +49,7 @@ apart-from (one ∷ list) sorted = (each list (sorted_head names_order one list 
     each (k ∷ rest) all = (sym (order-same one k) ∙ ap is_eq all.0, each rest all.1)
 
 -- what holds of all batches holds of the first ones of workflows
-all-first : (P : Batch → Type 0) (bs : List Batch) → AllByRecursion P bs → AllByRecursion P (workflows_of bs)
+pub all-first : (P : Batch → Type 0) (bs : List Batch) → AllByRecursion P bs → AllByRecursion P (workflows_of bs)
 all-first P [] all = tt
 all-first P (b ∷ bs) all = (all.0, kept (workflows_of bs) (all-first P bs all.1))
   where

@@ -32,7 +32,7 @@ use Rattle.ndc_shard_workflows.proofs.NameLemmas.{hold-first, hold-rest}
 use Rattle.ndc_shard_workflows.proofs.SameLemmas.{names-of}
 
 -- what is learned of a set is what is found among the learned
-learned-kept : (xs : List Batch) → IsSet xs → filter (λ b. has_key (Some b.key) (learned xs)) xs ≡ learned xs
+pub learned-kept : (xs : List Batch) → IsSet xs → filter (λ b. has_key (Some b.key) (learned xs)) xs ≡ learned xs
 learned-kept xs set =
     same-found (filter (λ b. has_key (Some b.key) (learned xs)) xs) (learned xs) (Rise-filter (λ b. has_key (Some b.key) (learned xs)) xs set.ordered) (IsSet-learned xs set).ordered
     (λ key. filter-found (λ k. has_key (Some k) (learned xs)) xs key ∙ by key (batch_at key (learned xs)) refl)

@@ -95,7 +95,7 @@ off-own d w cell =
     filter-swap (is_of d w) (λ b. not (is_learned_in cell b)) (λ b. not (is_learned (workflow_of d w cell) b)) cell.arrived (λ b e. ap not (learned-own d w b cell e))
 
 -- batches in order stay so where some are left out
-ordered-kept : (p : Batch → Bool) (bs : List Batch) → AreInOrder bs → AreInOrder (filter p bs)
+pub ordered-kept : (p : Batch → Bool) (bs : List Batch) → AreInOrder bs → AreInOrder (filter p bs)
 ordered-kept p [] order = tt
 ordered-kept p (b ∷ bs) order = filter-cases AreInOrder p b bs (λ _. (later bs order.0, ordered-kept p bs order.1)) (λ _. ordered-kept p bs order.1)
   where

@@ -1,3 +1,6 @@
+ghost use Rattle.std.specs.Prelude.{◌≡◌, ◌++◌, OnOk};
+ghost use Rattle.ndc_shard_workflows.specs.Reading.{learned_in_domain, named_where_learned};
+
 use crate::arrival::Arrival;
 use crate::workflow::Workflow;
 use ndc_event::{Batch, Name};
@@ -28,8 +31,38 @@ impl Drop for Domain {
     }
 }
 
+/// Adds the workflow of these names, where something of it is learned.
+fn add_where_learned(
+    domain: &Name,
+    name: &Name,
+    workflow: &Workflow,
+    list: &mut Vec<(Name, Name)>,
+) -> Result<(), AllocError>
+    ensures { OnOk result (list.new.items ≡ list.old.items ++ named_where_learned domain.now name.now workflow.now) }
+{
+    if workflow.runs().is_empty() {
+        return Ok(());
+    }
+    list.push((domain.try_copy()?, name.try_copy()?))?;
+    Ok(())
+}
+
+/// Adds those of the domain's workflows of which something is learned, in order.
+fn add_learned(
+    domain: &Name,
+    workflows: &BTreeMap<Name, Workflow>,
+    list: &mut Vec<(Name, Name)>,
+) -> Result<(), AllocError>
+    ensures { OnOk result (list.new.items ≡ list.old.items ++ learned_in_domain domain.now workflows.now.entries) }
+{
+    for (name, workflow) in workflows.iter() {
+        add_where_learned(domain, name, workflow, list)?;
+    }
+    Ok(())
+}
+
 impl Domain {
-    ghost use Rattle.std.specs.Prelude.{◌≡◌, [], map, true, false, IfOk, IfSome, OnOk, OnErr};
+    ghost use Rattle.std.specs.Prelude.{◌≡◌, ◌++◌, [], map, true, false, IfOk, IfSome, OnOk, OnErr};
     ghost use Rattle.std.specs.List.{AllByRecursion};
     ghost use Rattle.std.specs.Map.{values_of};
     ghost use Rattle.std.specs.Option.{option_copied};
@@ -42,6 +75,7 @@ impl Domain {
     ghost use Rattle.ndc_model_cells.specs.Messages.{carrying, HasSmallIds};
     ghost use Rattle.ndc_shard_workflows.specs.Workflow.{has_arrived, answer_to, made_learned, after_arrival, with_written};
     ghost use Rattle.ndc_shard_workflows.specs.Named.{under, IsPut};
+    ghost use Rattle.ndc_shard_workflows.specs.Reading.{learned_in_domain};
     ghost use Rattle.ndc_shard_workflows.specs.Workflows.{workflow_or_empty, AreOwn};
     ghost use Rattle.ndc_shard_workflows.specs.Writing.{MayBeWritten};
 
@@ -66,6 +100,17 @@ impl Domain {
         ensures { IfOk result (λ list. map (λ w. w.now) list.items ≡ values_of self.now) }
     {
         self.workflows.values().collect(alloc)
+    }
+
+    /// Adds the workflows of which something is learned to a list, each as the domain of this name and its own, in order.
+    pub(crate) fn add_learned(
+        &self,
+        domain: &Name,
+        list: &mut Vec<(Name, Name)>,
+    ) -> Result<(), AllocError>
+        ensures { OnOk result (list.new.items ≡ list.old.items ++ learned_in_domain domain.now self.now) }
+    {
+        add_learned(domain, &self.workflows, list)
     }
 
     /// Whether reapplication is due in the workflow of this name, as [`Workflow::is_due`] finds it.

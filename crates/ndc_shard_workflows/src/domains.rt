@@ -1,7 +1,7 @@
 ghost use Rattle.std.specs.Prelude.{◌≡◌, map, IfOk};
 ghost use Rattle.std.specs.List.{list_any};
 ghost use Rattle.std.specs.Str.{bytes_eq};
-ghost use Rattle.ndc_shard_workflows.specs.Reading.{workflows_named};
+ghost use Rattle.ndc_shard_workflows.specs.Reading.{learned_in_all, workflows_named};
 
 use crate::arrival::Arrival;
 use crate::domain::Domain;
@@ -53,6 +53,20 @@ fn named_in<'d>(
     Ok(list)
 }
 
+/// The workflows of which something is learned, each as its domain and its name, in order.
+fn learned_in(
+    alloc: Global,
+    domains: &BTreeMap<Name, Domain>,
+) -> Result<Vec<(Name, Name)>, AllocError>
+    ensures { IfOk result (λ list. list.items ≡ learned_in_all domains.now.entries) }
+{
+    let mut list = Vec::new(alloc);
+    for (name, domain) in domains.iter() {
+        domain.add_learned(name, &mut list)?;
+    }
+    Ok(list)
+}
+
 /// Whether the name is one of these.
 fn has_name(names: &[Name], name: &Name) -> bool
     ensures { result ≡ list_any (λ one. bytes_eq one name.now) names.now }
@@ -73,7 +87,7 @@ impl Domains {
     ghost use Rattle.ndc_model_cells.specs.Messages.{carrying};
     ghost use Rattle.ndc_shard_workflows.specs.Workflow.{empty_workflow, IsWorkflow};
     ghost use Rattle.ndc_model_cells.specs.Workflow.{workflow_of};
-    ghost use Rattle.ndc_shard_workflows.specs.Reading.{HoldLearned};
+    ghost use Rattle.ndc_shard_workflows.specs.Reading.{HoldLearned, learned_workflows};
     ghost use Rattle.ndc_shard_workflows.specs.Writing.{MayBeWritten};
 
     /// Nothing has arrived.
@@ -123,6 +137,14 @@ impl Domains {
         ensures { IfOk result (λ list. HoldLearned names.now (map (λ w. w.now) list.items) self.now) }
     {
         named_in(alloc, &self.domains, names)
+    }
+
+    /// The workflows of which something is learned, each as its domain and its name, in order. In time of the workflows of
+    /// the cell.
+    pub(crate) fn learned(&self, alloc: Global) -> Result<Vec<(Name, Name)>, AllocError>
+        ensures { IfOk result (λ list. list.items ≡ learned_workflows self.now) }
+    {
+        learned_in(alloc, &self.domains)
     }
 
     /// The cell is in order, and so is each workflow of it.

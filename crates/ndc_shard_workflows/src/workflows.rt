@@ -69,7 +69,7 @@ impl Workflows {
     ghost use Rattle.ndc_shard_workflows.specs.Workflow.{empty_workflow, IsWorkflow};
     ghost use Rattle.ndc_model_cells.specs.Workflow.{workflow_of};
     ghost use Rattle.ndc_shard_workflows.specs.Due.{AreDue};
-    ghost use Rattle.ndc_shard_workflows.specs.Reading.{HoldLearned};
+    ghost use Rattle.ndc_shard_workflows.specs.Reading.{HoldLearned, learned_workflows};
     ghost use Rattle.ndc_shard_workflows.specs.Writing.{MayBeWritten};
 
     /// Nothing has arrived.
@@ -152,10 +152,19 @@ impl Workflows {
         self.domains.of_domains(alloc, domains)
     }
 
+    /// The workflows of which something is learned, each as its domain and its name, in order. In time of the workflows of
+    /// the cell.
+    pub fn learned(&self, alloc: Global) -> Result<Vec<(Name, Name)>, AllocError>
+        ensures { IfOk result (λ list. list.items ≡ learned_workflows self.now) }
+    {
+        self.domains.learned(alloc)
+    }
+
     /// Of each workflow of which something is put off the place of the first batch that is, in order of place. In time of
     /// what is put off, however many other workflows there are.
     pub fn behind(&self, alloc: Global) -> Result<Vec<Place>, AllocError>
-        ensures { IfOk result (λ list. list.items ≡ map place_of (workflows_of (put_off_in self.now))) }
+        ensures cell { IsCell self.now }
+        ensures list { IfOk result (λ list. list.items ≡ map place_of (workflows_of (put_off_in self.now))) }
     {
         self.domains.is_in_order();
         let list = self.behind.list(alloc)?;

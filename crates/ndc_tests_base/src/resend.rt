@@ -1,7 +1,7 @@
 use crate::given::{SIGNALED, STARTED, batch, item};
 use ndc_event::Batch;
 use ndc_history::{AddError, VersionHistory};
-use ndc_resend::{Gap, serve};
+use ndc_resend::{Gap, gap, serve};
 use std::alloc::{AllocError, Global};
 use std::test::Fail;
 
@@ -21,18 +21,18 @@ fn path(alloc: Global) -> Result<Vec<Batch>, AllocError> {
 }
 
 /// The gap between what is learned up to the event 2 and the event 4 of another version.
-fn gap(alloc: Global) -> Result<Gap, AddError> {
+fn gap_behind(alloc: Global) -> Result<Gap, AddError> {
     let mut local = Vec::new(alloc);
     local.push(history(alloc, 2, 1)?)?;
-    Ok(Gap::of(local.as_slice(), &history(alloc, 3, 1)?, item(4, 2)))
+    Ok(gap(local.as_slice(), &history(alloc, 3, 1)?, item(4, 2)))
 }
 
 #[test]
 fn a_gap_is_served(rt: HostRuntime) -> Result<(), Fail> {
     let alloc = rt.alloc();
-    let gap = gap(alloc)?;
-    assert!(rt; gap.after == item(2, 1) && gap.before == item(4, 2));
-    let served = serve(alloc, path(alloc)?.as_slice(), &gap)?;
+    let asked = gap_behind(alloc)?;
+    assert!(rt; asked.after == item(2, 1) && asked.before == item(4, 2));
+    let served = serve(alloc, path(alloc)?.as_slice(), &asked)?;
     assert!(rt; served.len() == 1 && served[0].key.task == 2);
     Ok(())
 }

@@ -9,10 +9,10 @@ use Rattle.ndc_shard.proofs.reading.ShardReads.put_off.Goals as goal
 pub returns-in-Some : goal.returns-in-Some
 returns-in-Some c =
     subst (λ (l : List Lacking). IfOk c.lacking_in.result (λ list. list.items ≡ l))
-    (ap (λ (v : WorkflowValue). map (lacking_of v.arrived) (put_off_in v)) (c.in-Some.ensures.found ∙ ap (workflow_of c.args.domain.now c.args.workflow.now) c.workflows.ensures)
+    (ap (λ (v : WorkflowValue). map (lacking_of v.arrived) (put_off_in v)) (c.in-Some.ensures.found ∙ ap (workflow_of c.args.domain.now c.args.workflow.now) c.held.ensures)
     ∙ lacking-own c.args.domain.now c.args.workflow.now c.args.self.now) c.lacking_in.ensures
 
 pub returns-in-None : goal.returns-in-None
 returns-in-None c =
     c.new.ensures.items
-    ∙ lacking-none c.args.domain.now c.args.workflow.now c.args.self.now (sym (ap (workflow_of c.args.domain.now c.args.workflow.now) c.workflows.ensures) ∙ c.in-None.ensures.none)
+    ∙ lacking-none c.args.domain.now c.args.workflow.now c.args.self.now (sym (ap (workflow_of c.args.domain.now c.args.workflow.now) c.held.ensures) ∙ c.in-None.ensures.none)

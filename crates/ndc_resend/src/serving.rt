@@ -3,7 +3,7 @@ ghost use Rattle.ndc_resend.specs.Gaps.{is_between, served};
 ghost use Rattle.ndc_model_sets.specs.Paths.{first_id, last_id};
 
 use ndc_event::{Batch, Event};
-use ndc_history::{Item, VersionHistory, best_common};
+use ndc_history::Item;
 use std::alloc::{AllocError, Global};
 
 /// A gap in a run: what comes after one event and before another one, each by its id and version.
@@ -15,28 +15,8 @@ pub struct Gap {
     pub before: Item,
 }
 
-impl Gap {
-    ghost use Rattle.std.specs.Prelude.{◌≡◌};
-    ghost use Rattle.ndc_resend.specs.Gaps.{gap_of};
-
-    /// The gap before an event: behind the item with the greatest id that one of the local histories has in common
-    /// with the remote one; behind id 0 and version 0 where none has an item in common. Takes no memory.
-    pub fn of(local: &[VersionHistory], remote: &VersionHistory, first: Item) -> Gap
-        ensures { result ≡ gap_of local.now remote.now first }
-    {
-        let after = match best_common(local, remote) {
-            Some((_, item)) => item,
-            None => Item { id: 0, version: 0 },
-        };
-        Gap {
-            after,
-            before: first,
-        }
-    }
-}
-
 /// The id of the first event, 0 where there is none.
-fn first_id(events: &[Event]) -> u64
+pub(crate) fn first_id(events: &[Event]) -> u64
     ensures { result ≡ first_id events.now }
 {
     match events.first() {
@@ -55,8 +35,8 @@ fn last_id(events: &[Event]) -> u64
     }
 }
 
-/// Whether all events of the batch come behind the one end of the gap and before the other.
-fn is_between(gap: &Gap, batch: &Batch) -> bool
+/// Whether all events of the batch come behind the one end of the gap and before the other. Takes no memory.
+pub fn is_between(gap: &Gap, batch: &Batch) -> bool
     ensures { result ≡ is_between gap.now batch.now }
 {
     gap.after.id < first_id(batch.events.as_slice())

@@ -1,0 +1,5 @@
+mod BranchLemmas
+mod ChainLemmas
+mod GapLemmas
+mod GroupLemmas
+mod PathLemmas
