@@ -35,7 +35,7 @@ one-before b (x ∷ y ∷ runs) one = by (is_some (run_at b.run (x ∷ y ∷ run
   where
     by : (t s o l m : Bool)
         → AreOne (if t then (if s then grown b x ∷ y ∷ runs else x ∷ (if o then grown b y ∷ runs else y ∷ with_grown b runs))
-            else (if l then begun b ∷ x ∷ y ∷ runs else if s then begun b ∷ y ∷ runs else x ∷ (if m then begun b ∷ y ∷ runs else if o then begun b ∷ runs else y ∷ with_run (begun b) runs))) → ⊥
+        else (if l then begun b ∷ x ∷ y ∷ runs else if s then begun b ∷ y ∷ runs else x ∷ (if m then begun b ∷ y ∷ runs else if o then begun b ∷ runs else y ∷ with_run (begun b) runs))) → ⊥
     by true true o l m h = h
     by true false true l m h = h
     by true false false l m h = h

@@ -2,7 +2,6 @@ ghost use Rattle.std.specs.Prelude.{◌≡◌, ◌++◌, map, IfOk, OnOk};
 ghost use Rattle.std.specs.List.{cons_option};
 ghost use Rattle.std.specs.Prelude.{[]};
 ghost use Rattle.ndc_model_sets.specs.Origins.{signals, signals_in, signal_of};
-ghost use Rattle.ndc_state.specs.Origins.{origin_of};
 ghost use Rattle.ndc_shard_runs.specs.Settled.{settled_with};
 ghost use Rattle.ndc_model_sets.specs.Current.{current_state};
 
@@ -10,6 +9,7 @@ use crate::runs::Runs;
 use ndc_event::{Batch, Event, EventKind, Origin, RunId};
 use ndc_reapply::Stray;
 use ndc_run::Run;
+use ndc_state::origin_of;
 use std::alloc::{AllocError, Global};
 
 impl Runs {
@@ -121,19 +121,5 @@ fn push_signal(list: &mut Vec<Stray>, run: RunId, event: &Event) -> Result<(), A
             Ok(())
         }
         _ => Ok(()),
-    }
-}
-
-/// The origin of a signal event of the run: the one that a copy names, or the event itself.
-pub(crate) fn origin_of(run: RunId, event: &Event, origin: Option<Origin>) -> Origin
-    ensures { result ≡ origin_of run event.now.id event.now.version origin }
-{
-    match origin {
-        None => Origin {
-            run,
-            event: event.id,
-            version: event.version,
-        },
-        Some(origin) => origin,
     }
 }
