@@ -11,7 +11,6 @@ use Rattle.ndc_domain.specs.declared.clusters.ClusterNo.{ClusterNo}
 use Rattle.ndc_domain.specs.declared.record.DomainRecord.{DomainRecord}
 use Rattle.ndc_graceful.specs.declared.handover.Handover.{Handover}
 use Rattle.ndc_letters.specs.declared.letter.Letter.{Letter}
-use Rattle.ndc_progress.specs.declared.report.Report.{Report}
 use Rattle.ndc_model.specs.Letters.{with_letters}
 use Rattle.ndc_model.specs.World.{Cluster, Link, World, cluster_at, new_cluster, newly_naming, with_cells, with_cluster, with_late, with_table}
 use Rattle.ndc_world_network.proofs.LinkLemmas.{stands}
