@@ -1,3 +1,5 @@
+mod AskedLemmas
+mod AncestorLemmas
 mod BranchLemmas
 mod ChainLemmas
 mod GapLemmas

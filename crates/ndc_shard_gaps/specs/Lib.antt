@@ -1,3 +1,4 @@
+pub mod Asked
 pub mod Gaps
 pub mod Histories
 pub mod Serving
