@@ -11,7 +11,6 @@ use Rattle.ndc_model_sets.specs.Branches.{histories}
 use Rattle.ndc_model_sets.specs.Learned.{WaitsFor, learned}
 use Rattle.ndc_model_sets.specs.Paths.{Walk, last_item_of, path_to}
 use Rattle.ndc_model_sets.specs.Sets.{Has, batch_at}
-use Rattle.ndc_model_sets.proofs.BranchLemmas.{among-has}
 use Rattle.ndc_model_sets.proofs.ForkLemmas.{among-cases}
 use Rattle.ndc_model_sets.proofs.Lists.{Among, all-among}
 use Rattle.ndc_model_sets.proofs.PathLemmas.{part-path, path_is}
@@ -28,12 +27,12 @@ use Rattle.ndc_shard_gaps.proofs.AncestorLemmas.{above-in, among-back, among-fro
 use Rattle.ndc_shard_gaps.proofs.ChainLemmas.{chain_of, none-wanted}
 
 -- the two ways to say that one is among others
-among-is : (xs : List Batch) (x : Batch) → Among x xs → IsAmong xs x
+pub among-is : (xs : List Batch) (x : Batch) → Among x xs → IsAmong xs x
 among-is [] x h = absurd h
 among-is (y ∷ ys) x (inl e) = (0, (omega arith, e))
 among-is (y ∷ ys) x (inr h) = let r = among-is ys x h in (suc r.0, (omega (arith, r.1.0), r.1.1))
 
-is-among : (xs : List Batch) (x : Batch) → IsAmong xs x → Among x xs
+pub is-among : (xs : List Batch) (x : Batch) → IsAmong xs x → Among x xs
 is-among xs x h = by xs h.0 h.1.0 h.1.1
   where
     by : (ys : List Batch) (i : ℕ) → i < length ys → x ≡ slice_index_or ys i x → Among x ys
