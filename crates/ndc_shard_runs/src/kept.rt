@@ -5,9 +5,9 @@ ghost use Rattle.ndc_shard_runs.specs.Kept.{is_empty, is_unlisted};
 ghost use Rattle.ndc_model_sets.specs.Origins.{origins_in, signal_of, signals_in};
 ghost use Rattle.ndc_state.specs.Origins.{is_among, same_origin};
 
-use crate::stray::origin_of;
 use ndc_event::{Batch, Event, EventKind, Origin, RunId};
 use ndc_reapply::Stray;
+use ndc_state::origin_of;
 use std::alloc::Global;
 use std::marker::Model;
 
