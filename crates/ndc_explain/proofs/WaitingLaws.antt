@@ -1,5 +1,5 @@
 -- What waits is what is a stray.
-use Rattle.std.proofs.Common.{◌≡◌, ℕ, Bool, true, false, not, ◌&&◌, ◌||◌, List, [], ◌∷◌, ◌++◌, inl, inr, map, Option, Some, None, is_some, is_none, cond, if◌then◌else◌, refl, sym, ap, subst, ◌∙◌}
+use Rattle.std.proofs.Common.{◌≡◌, ℕ, Bool, true, false, not, ◌&&◌, ◌||◌, List, [], ◌∷◌, ◌++◌, inl, inr, map, Option, Some, None, is_some, is_none, if◌then◌else◌, refl, sym, ap, subst, ◌∙◌}
 use Rattle.std.specs.List.{list_any, cons_option, AllByRecursion}
 use Rattle.std.specs.Map.{lookup}
 use Rattle.std.proofs.lemmas.List.Folds.{list_any-append}
@@ -19,24 +19,23 @@ use Rattle.ndc_model_sets.specs.Paths.{Walk, is_wanted, path_to, walk_down, walk
 use Rattle.ndc_model_sets.specs.Sets.{ComeAfter, PointsBack, Rise}
 use Rattle.ndc_model_sets.specs.Sound.{IsSound}
 use Rattle.ndc_model_sets.specs.View.{branch_view, run_view, view_of}
-use Rattle.ndc_model_sets.specs.declared.view.BranchView.{BranchView}
 use Rattle.ndc_model_sets.proofs.CurrentLaws.{current-has}
 use Rattle.ndc_model_sets.proofs.ForkLemmas.{path-run}
 use Rattle.ndc_model_sets.proofs.KeyLemmas.{before-irrefl, before-trans, key_eq-self, same-keys}
 use Rattle.ndc_model_sets.proofs.Lists.{Among, find-among}
 use Rattle.ndc_model_sets.proofs.PathLemmas.{from, parent-back, path_is}
 use Rattle.ndc_reapply.specs.declared.stray.Stray.{Stray}
-use Rattle.ndc_reapply.specs.Strays.{origins_of, strays_of}
+use Rattle.ndc_reapply.specs.Strays.{origins_of}
 use Rattle.ndc_reapply.proofs.LawProofs.{unsettled_origins}
-use Rattle.ndc_reapply.proofs.OrderLemmas.{same_origin-is, same_origin-self}
+use Rattle.ndc_reapply.proofs.OrderLemmas.{same_origin-is}
 use Rattle.ndc_state.specs.Origins.{is_among, origin_of, same_origin}
 use Rattle.ndc_state.specs.Replay.{history_of}
 use Rattle.ndc_dump.specs.Marks.{current_key}
-use Rattle.ndc_dump_causes.specs.Keys.{is_listed, with_key}
+use Rattle.ndc_dump_causes.specs.Keys.{is_listed}
 use Rattle.ndc_explain.specs.declared.settlers.Settler.{Settler}
 use Rattle.ndc_explain.specs.Explanation.{findings, waits}
 use Rattle.ndc_explain.specs.Signals.{Settlers, with_events, with_kind, with_listed}
-use Rattle.ndc_explain.specs.Standing.{standing, with_optional, with_parent, with_parents, with_tip, with_tips}
+use Rattle.ndc_explain.specs.Standing.{with_optional, with_parent, with_parents, with_tip, with_tips}
 use Rattle.ndc_explain.proofs.LawProofs.{same_origins}
 
 -- ---- tests
