@@ -1,19 +1,19 @@
 -- What the fault that ends the explanation of a dump says of what was written.
 use Rattle.std.proofs.Common.{◌≡◌, ℕ, List, inl, inr, Option, sym, subst}
-use Rattle.ndc_domain.specs.Clusters.{ClusterList}
 use Rattle.ndc_port.specs.Bytes.{AppendsFront}
 use Rattle.ndc_port.proofs.Steps.{Sent_start, Sent_stop}
 use Rattle.ndc_explain.specs.declared.fault.Fault.{Fault}
 use Rattle.ndc_explain.specs.declared.fault.Fault.TheVariants as fault
+use Rattle.ndc_explain.specs.declared.asked.Request.{Request}
 use Rattle.ndc_explain.specs.Top.{DumpFault, ExplainFault, ExplainsFront, Streams}
 
 -- where nothing was written, a front of any text was
 pub nothing_written : (before after : Option (List ℕ)) (text : List ℕ) → after ≡ before → AppendsFront before after text
 nothing_written before after text same = subst (λ (w : Option (List ℕ)). AppendsFront before w text) (sym same) (Sent_stop before before text text (Sent_start before text))
 
-module _ (clusters : Option ClusterList) where
+module _ (request : Request) where
   -- a fault of reading is one of explaining, which has written nothing
-  pub dump_fault : (old new : Streams) (f : Fault) → new.written ≡ old.written → DumpFault old.left old.source_faults new.source_faults f → ExplainFault clusters old new f
+  pub dump_fault : (old new : Streams) (f : Fault) → new.written ≡ old.written → DumpFault old.left old.source_faults new.source_faults f → ExplainFault request old new f
   dump_fault old new fault.Words same r = absurd r
   dump_fault old new (fault.DumpLine line cause) same r = (r, same)
   dump_fault old new (fault.DumpBatch key cause) same r = (r, same)
@@ -23,7 +23,7 @@ module _ (clusters : Option ClusterList) where
   dump_fault old new fault.Memory same r = same
 
   -- whatever the fault, a front of the explanation was written
-  pub told_end : (old new : Streams) (f : Fault) → ExplainFault clusters old new f → ExplainsFront clusters old.left old.written new.written
+  pub told_end : (old new : Streams) (f : Fault) → ExplainFault request old new f → ExplainsFront request old.left old.written new.written
   told_end old new fault.Words r = absurd r
   told_end old new (fault.DumpLine line cause) r = inl r.1
   told_end old new (fault.DumpBatch key cause) r = inl r.1

@@ -1,4 +1,7 @@
+mod BlockLaws
 mod Endings
 mod LawProofs
 mod Listing
 mod Pieces
+mod PlaceLaws
+mod WaitingLaws

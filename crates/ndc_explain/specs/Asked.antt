@@ -1,4 +1,4 @@
--- The words that the program is called with: none, or the clusters whose names are to be told.
+-- The words that the program is called with: in which form a dump is told, and the clusters whose names are to be told.
 use Rattle.std.specs.Prelude.{ℕ, ◌==◌, ◌&&◌, List, [], ◌∷◌, ◌++◌, codes, Option, Some, None, Result, Ok, Err, if◌then◌else◌}
 use Rattle.std.specs.List.{slice_split}
 use Rattle.std.specs.Str.{bytes_eq}
@@ -8,6 +8,9 @@ use Rattle.ndc_event.specs.Name.{is_name}
 use Rattle.ndc_event.specs.Outcome.{◌>>=◌}
 use Rattle.ndc_event.specs.declared.name.Name.{Name}
 use Rattle.ndc_script_words.specs.Number.{number_of}
+use Rattle.ndc_explain.specs.declared.asked.Form.{Form}
+use Rattle.ndc_explain.specs.declared.asked.Form.TheVariants.{Text, Picture, TreePicture}
+use Rattle.ndc_explain.specs.declared.asked.Request.{Request}
 use Rattle.ndc_explain.specs.declared.error.WordsError.{WordsError}
 use Rattle.ndc_explain.specs.declared.error.WordsError.TheVariants.{Refused}
 
@@ -58,9 +61,23 @@ clusters_on list increment = do
   clusters ← clusters_or (clusters_of increment members)
   Ok (Some clusters)
 
--- what the words ask for: `--clusters NAME=INITIAL,.. --increment INCREMENT`, or nothing
-abbrev pub asked_of : List (List ℕ) → Result (Option ClusterList) WordsError
-asked_of [] = Ok None
-asked_of (one ∷ list ∷ two ∷ increment ∷ []) =
+-- the clusters that the words name: `--clusters NAME=INITIAL,.. --increment INCREMENT`, or none
+abbrev pub named_by : List (List ℕ) → Result (Option ClusterList) WordsError
+named_by [] = Ok None
+named_by (one ∷ list ∷ two ∷ increment ∷ []) =
     if bytes_eq one (codes "--clusters") && bytes_eq two (codes "--increment") then clusters_on list increment else Err Refused
-asked_of _ = Err Refused
+named_by _ = Err Refused
+
+-- this form, with the clusters that the words name
+unfoldable pub request_for : Form → List (List ℕ) → Result Request WordsError
+request_for form words = do
+  clusters ← named_by words
+  Ok (record { form = form; clusters = clusters })
+
+-- what the words ask for: a picture where `--picture` or `--picture=text` stands before the others, or else text
+abbrev pub asked_of : List (List ℕ) → Result Request WordsError
+asked_of [] = request_for Text []
+asked_of (word ∷ words) =
+    if bytes_eq word (codes "--picture") then request_for Picture words
+    else if bytes_eq word (codes "--picture=text") then request_for TreePicture words
+    else request_for Text (word ∷ words)

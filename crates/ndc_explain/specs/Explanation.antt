@@ -1,16 +1,19 @@
 -- The explanation of a dump.
-use Rattle.std.specs.Prelude.{ℕ, Bool, true, false, ◌||◌, nat_lt, List, [], ◌∷◌, ◌++◌, codes, decimal, length, Option}
+use Rattle.std.specs.Prelude.{ℕ, Bool, true, false, ◌||◌, ◌&&◌, is_none, nat_lt, List, [], ◌∷◌, ◌++◌, codes, decimal, length, Option}
 use Rattle.std.specs.List.{concat, flat_map, list_any}
+use Rattle.std.specs.Map.{lookup}
 use Rattle.ndc_domain.specs.Clusters.{ClusterList}
 use Rattle.ndc_event.specs.declared.batch.Event.{Event}
 use Rattle.ndc_event.specs.declared.key.BatchKey.{BatchKey}
+use Rattle.ndc_event.specs.declared.key.Origin.{Origin}
 use Rattle.ndc_model_sets.specs.Origins.{signals}
 use Rattle.ndc_model_sets.specs.declared.view.RunStatus.{RunStatus}
 use Rattle.ndc_model_sets.specs.declared.view.RunStatus.TheVariants.{Running, Zombie, Closed}
 use Rattle.ndc_model_sets.specs.declared.view.RunView.{RunView}
 use Rattle.ndc_model_sets.specs.declared.view.View.{View}
 use Rattle.ndc_reapply.specs.declared.stray.Stray.{Stray}
-use Rattle.ndc_reapply.specs.Strays.{strays_of}
+use Rattle.ndc_reapply.specs.Strays.{origins_of, strays_of}
+use Rattle.ndc_state.specs.Origins.{is_among, same_origin}
 use Rattle.ndc_dump.specs.declared.dump.Dump.{Dump}
 use Rattle.ndc_explain.specs.Branches.{run_told}
 use Rattle.ndc_explain.specs.GivenUp.{given_up, given_up_line}
@@ -39,6 +42,10 @@ findings view = record {
   signals = strays_of (signals view.batches) [];
   settlers = with_listed (standing false view) view.batches [];
 }
+
+-- whether a signal of this origin waits: the view has one, and nothing settles it
+abbrev pub waits : Findings → Origin → Bool
+waits found origin = is_among origin (origins_of found.signals) && is_none (lookup (same_origin origin) found.settlers)
 
 -- how many signals wait
 abbrev pub waiting : Findings → ℕ

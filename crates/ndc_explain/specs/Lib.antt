@@ -5,6 +5,12 @@ pub mod Standing
 pub mod GivenUp
 pub mod Signals
 pub mod Explanation
+pub mod Blocks
+pub mod Places
+pub mod Layout
+pub mod Picture
+pub mod Graph
 pub mod Asked
+pub mod Told
 pub mod Faulty
 pub mod Top

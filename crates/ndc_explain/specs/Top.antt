@@ -1,14 +1,15 @@
 -- The program as a whole: what it writes, the faults that end it, and what it tells of them.
 use Rattle.std.specs.Prelude.{◌≡◌, ◌⊎◌, ℕ, ◌==◌, ◌<◌, ◌≤◌, Bool, ⊤, true, List, [], length, codes, Option, Some, None, Err, IsOkAnd, IfSome, if◌then◌else◌}
 use Rattle.std.specs.List.{list_any}
-use Rattle.ndc_domain.specs.Clusters.{ClusterList}
 use Rattle.ndc_port.specs.Bytes.{Appends, AppendsFront}
 use Rattle.ndc_port.specs.Fault.{Rose}
 use Rattle.ndc_dump.specs.Read.{dump_of}
 use Rattle.ndc_dump_causes.specs.declared.error.DumpError.{DumpError}
 use Rattle.ndc_dump_causes.specs.declared.error.DumpError.TheVariants as error
-use Rattle.ndc_explain.specs.Explanation.{explanation_of, findings, leaves_any}
+use Rattle.ndc_explain.specs.Explanation.{findings, leaves_any}
 use Rattle.ndc_explain.specs.Faulty.{dump_batch_line, dump_line}
+use Rattle.ndc_explain.specs.Told.{told_of}
+use Rattle.ndc_explain.specs.declared.asked.Request.{Request}
 use Rattle.ndc_explain.specs.declared.fault.Fault.{Fault}
 use Rattle.ndc_explain.specs.declared.fault.Fault.TheVariants as fault
 
@@ -28,7 +29,7 @@ status_of fault.Memory = 8
 
 -- the line that tells of a fault
 abbrev pub fault_line : Fault → List ℕ
-fault_line fault.Words = codes "ndc_explain: words: [--clusters NAME=INITIAL,.. --increment INCREMENT]\n"
+fault_line fault.Words = codes "ndc_explain: words: [--picture|--picture=text] [--clusters NAME=INITIAL,.. --increment INCREMENT]\n"
 fault_line (fault.DumpLine line cause) = dump_line line cause
 fault_line (fault.DumpBatch key cause) = dump_batch_line key cause
 fault_line fault.Read = codes "ndc: read fault\n"
@@ -59,19 +60,19 @@ IsAmong status statuses = list_any (λ one. one == status) statuses ≡ true
 abbrev pub told_status : Bool → ℕ
 told_status leaves = if leaves then 1 else 0
 
--- all was read, it was a dump, its explanation was written whole, and this is whether it leaves something
-abbrev pub Explains : Option ClusterList → Bool → Option (List ℕ) → Option (List ℕ) → Option (List ℕ) → Option (List ℕ) → Type 0
-Explains clusters leaves left rest before after =
-    IfSome left (λ bytes. (length bytes ≤ most_bytes) × (rest ≡ Some []) × IsOkAnd (dump_of bytes) (λ dump. Appends before after (explanation_of clusters dump) × (leaves ≡ leaves_any (findings dump.view))))
+-- all was read, it was a dump, it was told whole in the form that was asked for, and this is whether it leaves something
+abbrev pub Explains : Request → Bool → Option (List ℕ) → Option (List ℕ) → Option (List ℕ) → Option (List ℕ) → Type 0
+Explains request leaves left rest before after =
+    IfSome left (λ bytes. (length bytes ≤ most_bytes) × (rest ≡ Some []) × IsOkAnd (dump_of bytes) (λ dump. Appends before after (told_of request dump) × (leaves ≡ leaves_any (findings dump.view))))
 
--- a dump was read, and a front of its explanation was written
-abbrev pub StopsExplaining : Option ClusterList → Option (List ℕ) → Option (List ℕ) → Option (List ℕ) → Type 0
-StopsExplaining clusters left before after =
-    IfSome left (λ bytes. (length bytes ≤ most_bytes) × IsOkAnd (dump_of bytes) (λ dump. AppendsFront before after (explanation_of clusters dump)))
+-- a dump was read, and a front of what is told of it was written
+abbrev pub StopsExplaining : Request → Option (List ℕ) → Option (List ℕ) → Option (List ℕ) → Type 0
+StopsExplaining request left before after =
+    IfSome left (λ bytes. (length bytes ≤ most_bytes) × IsOkAnd (dump_of bytes) (λ dump. AppendsFront before after (told_of request dump)))
 
--- nothing was written, or a dump was read and a front of its explanation was written
-abbrev pub ExplainsFront : Option ClusterList → Option (List ℕ) → Option (List ℕ) → Option (List ℕ) → Type 0
-ExplainsFront clusters left before after = (after ≡ before) ⊎ StopsExplaining clusters left before after
+-- nothing was written, or a dump was read and a front of what is told of it was written
+abbrev pub ExplainsFront : Request → Option (List ℕ) → Option (List ℕ) → Option (List ℕ) → Type 0
+ExplainsFront request left before after = (after ≡ before) ⊎ StopsExplaining request left before after
 
 -- what was there, and what is there, as a call saw it: the bytes left in the source, its faults, what out has, and its faults
 pub record Streams : Type 0 where
@@ -91,16 +92,16 @@ DumpFault left before after fault.Limit = IfSome left (λ bytes. most_bytes < le
 DumpFault left before after fault.Memory = ⊤
 
 -- why explaining a dump ends with a fault, between what was there and what is there
-abbrev pub ExplainFault : Option ClusterList → Streams → Streams → Fault → Type 0
-ExplainFault clusters old new fault.Words = ⊥
-ExplainFault clusters old new (fault.DumpLine line cause) =
+abbrev pub ExplainFault : Request → Streams → Streams → Fault → Type 0
+ExplainFault request old new fault.Words = ⊥
+ExplainFault request old new (fault.DumpLine line cause) =
     DumpFault old.left old.source_faults new.source_faults (fault.DumpLine line cause) × (new.written ≡ old.written)
-ExplainFault clusters old new (fault.DumpBatch key cause) =
+ExplainFault request old new (fault.DumpBatch key cause) =
     DumpFault old.left old.source_faults new.source_faults (fault.DumpBatch key cause) × (new.written ≡ old.written)
-ExplainFault clusters old new fault.Read = Rose old.source_faults new.source_faults × (new.written ≡ old.written)
-ExplainFault clusters old new fault.Write = Rose old.out_faults new.out_faults × StopsExplaining clusters old.left old.written new.written
-ExplainFault clusters old new fault.Limit = IfSome old.left (λ bytes. most_bytes < length bytes) × (new.written ≡ old.written)
-ExplainFault clusters old new fault.Memory = new.written ≡ old.written
+ExplainFault request old new fault.Read = Rose old.source_faults new.source_faults × (new.written ≡ old.written)
+ExplainFault request old new fault.Write = Rose old.out_faults new.out_faults × StopsExplaining request old.left old.written new.written
+ExplainFault request old new fault.Limit = IfSome old.left (λ bytes. most_bytes < length bytes) × (new.written ≡ old.written)
+ExplainFault request old new fault.Memory = new.written ≡ old.written
 
 -- the line on a faulty dump was written, or a front of it and a fault came
 abbrev pub TellsDumpError : Option (List ℕ) → Option (List ℕ) → ℕ → ℕ → DumpError → Type 0

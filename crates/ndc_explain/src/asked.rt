@@ -6,7 +6,7 @@ ghost use Rattle.ndc_domain.specs.Clusters.{clusters_of};
 ghost use Rattle.ndc_event.specs.Outcome.{Gives};
 ghost use Rattle.ndc_explain.specs.declared.error.WordsError.TheVariants.{Memory};
 ghost use Rattle.ndc_script_words.specs.Number.{number_of};
-ghost use Rattle.ndc_explain.specs.Asked.{asked_of, clusters_on, clusters_or, member_in, member_of, member_with, members_on, name_on, number_or};
+ghost use Rattle.ndc_explain.specs.Asked.{asked_of, clusters_on, clusters_or, member_in, member_of, member_with, members_on, name_on, named_by, number_or, request_for};
 
 use crate::error::WordsError;
 use ndc_domain::Clusters;
@@ -119,9 +119,9 @@ fn clusters_on(alloc: Global, list: &[u8], increment: &[u8]) -> Result<Option<Cl
     Ok(Some(clusters))
 }
 
-/// What the words ask for: the clusters whose names are to be told, or none.
-pub(crate) fn asked_of(alloc: Global, words: &[String]) -> Result<Option<Clusters>, WordsError>
-    ensures { Gives Memory (λ clusters. clusters) result (asked_of (map string_bytes words.now)) }
+/// The clusters that the words name, or none.
+fn named_by(alloc: Global, words: &[String]) -> Result<Option<Clusters>, WordsError>
+    ensures { Gives Memory (λ clusters. clusters) result (named_by (map string_bytes words.now)) }
 {
     match words {
         [] => Ok(None),
@@ -135,5 +135,51 @@ pub(crate) fn asked_of(alloc: Global, words: &[String]) -> Result<Option<Cluster
             }
         }
         _ => Err(WordsError::Refused),
+    }
+}
+
+/// In which form a dump is told.
+#[derive(Clone, Copy, Debug, PartialEq, Eq)]
+pub(crate) enum Form {
+    /// The explanation.
+    Text,
+    /// The picture, as an SVG document.
+    Picture,
+    /// The picture in characters.
+    TreePicture,
+}
+
+/// What the words ask for.
+#[derive(Drop)]
+pub(crate) struct Request {
+    pub(crate) form: Form,
+    /// The clusters whose names are to be told.
+    pub(crate) clusters: Option<Clusters>,
+}
+
+/// This form, with the clusters that the words name.
+#[tactic(auto, unfolding(crate::specs::Asked::request_for))]
+fn request_for(alloc: Global, form: Form, words: &[String]) -> Result<Request, WordsError>
+    ensures { Gives Memory (λ request. request) result (request_for form (map string_bytes words.now)) }
+{
+    let clusters = named_by(alloc, words)?;
+    Ok(Request { form, clusters })
+}
+
+/// What the words ask for: a picture where `--picture` or `--picture=text` stands before the others, or else text.
+pub(crate) fn asked_of(alloc: Global, words: &[String]) -> Result<Request, WordsError>
+    ensures { Gives Memory (λ request. request) result (asked_of (map string_bytes words.now)) }
+{
+    match words {
+        [] => request_for(alloc, Form::Text, words),
+        [word, others @ ..] => {
+            if word.as_bytes() == b"--picture".as_slice() {
+                request_for(alloc, Form::Picture, others)
+            } else if word.as_bytes() == b"--picture=text".as_slice() {
+                request_for(alloc, Form::TreePicture, others)
+            } else {
+                request_for(alloc, Form::Text, words)
+            }
+        }
     }
 }

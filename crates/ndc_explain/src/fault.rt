@@ -59,7 +59,7 @@ impl Fault {
         match self {
             Fault::Words => write_all(
                 err,
-                b"ndc_explain: words: [--clusters NAME=INITIAL,.. --increment INCREMENT]\n",
+                b"ndc_explain: words: [--picture|--picture=text] [--clusters NAME=INITIAL,.. --increment INCREMENT]\n",
             ),
             Fault::DumpLine { line, cause } => tell_line(err, line, cause),
             Fault::DumpBatch { key, cause } => tell_batch(err, key, cause),

@@ -1,16 +1,37 @@
 //! Laws of explanations. The functions do nothing: what each ensures is the law.
-ghost use Rattle.std.specs.Prelude.{◌≡◌};
+ghost use Rattle.std.specs.Prelude.{◌≡◌, true, List};
+ghost use Rattle.std.specs.List.{list_all};
+ghost use Rattle.ndc_event.specs.declared.batch.Batch.{Batch};
 ghost use Rattle.ndc_event.specs.declared.key.Origin.{Origin};
+ghost use Rattle.ndc_model_sets.specs.Current.{strays};
 ghost use Rattle.ndc_model_sets.specs.Origins.{signals};
+ghost use Rattle.ndc_model_sets.specs.Sound.{IsSound};
+ghost use Rattle.ndc_model_sets.specs.View.{view_of};
 ghost use Rattle.ndc_model_sets.specs.declared.view.View.{View};
 ghost use Rattle.ndc_reapply.specs.Strays.{origins_of};
 ghost use Rattle.ndc_state.specs.Laws.{AreApart};
 ghost use Rattle.ndc_state.specs.Origins.{is_among};
-ghost use Rattle.ndc_explain.specs.Explanation.{findings};
+ghost use Rattle.ndc_explain.specs.Blocks.{batches_in, blocks_of, is_filled};
+ghost use Rattle.ndc_explain.specs.Explanation.{findings, waits};
+ghost use Rattle.ndc_explain.specs.Layout.{is_placed, layout_of};
 
 /// Each signal is told exactly once: an origin is among those told exactly where a signal of the batches has it, and
 /// none is told twice.
 pub fn each_signal_is_told_once()
     ensures told { (view : View) (origin : Origin) → is_among origin (origins_of (findings view).signals) ≡ is_among origin (origins_of (signals view.batches)) }
     ensures once { (view : View) → AreApart (origins_of (findings view).signals) }
+{}
+
+/// Each batch stands in exactly one box of a picture: the blocks, one behind the other, are the batches in their order, no
+/// block is empty, and each has a place, where its box is drawn.
+pub fn each_batch_stands_in_one_box()
+    ensures once { (batches : List Batch) → batches_in (blocks_of batches) ≡ batches }
+    ensures filled { (batches : List Batch) → list_all is_filled (blocks_of batches) ≡ true }
+    ensures placed { (batches : List Batch) → list_all (is_placed (layout_of (blocks_of batches)).places) (blocks_of batches) ≡ true }
+{}
+
+/// What waits are the strays of the view, by which `ndc` applies signals again: of a sound set, as a dump is one, a signal
+/// is told as waiting exactly where it is among its strays.
+pub fn what_waits_are_strays()
+    ensures { (batches : List Batch) → IsSound batches → (origin : Origin) → waits (findings (view_of batches)) origin ≡ is_among origin (origins_of (strays batches)) }
 {}

@@ -1,21 +1,28 @@
 //! The explanation of a dump: which branch of each run leads and why, what of the others is given up, and what became
-//! of each signal; and the top call of the program that reads a dump and writes it.
+//! of each signal; its picture; and the top call of the program that reads a dump and writes these.
 #![tactic(auto)]
 
 mod asked;
+mod blocks;
 mod branches;
+mod columns;
 mod error;
 mod fault;
 mod faulty;
+mod graph;
 pub mod laws;
+mod layout;
 mod loss;
+mod picture;
 mod piece;
+mod places;
 mod settlers;
 mod signals;
 mod standing;
+mod summary;
 mod told;
 mod top;
 mod writer;
 
-pub use told::{Explanation, explain};
+pub use told::{Explanation, draw, draw_tree, explain};
 pub use top::explain_top;

@@ -31,7 +31,7 @@ fn current_key(branches: &[BranchView]) -> Option<BatchKey>
 }
 
 /// Lists the key, where there is one.
-fn insert(keys: &mut KeySet, key: Option<BatchKey>) -> Result<(), AllocError>
+pub(crate) fn insert(keys: &mut KeySet, key: Option<BatchKey>) -> Result<(), AllocError>
     ensures { OnOk result (keys.new ≡ with_optional key keys.old) }
 {
     match key {

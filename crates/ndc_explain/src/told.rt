@@ -1,10 +1,16 @@
 //! The explanation of a dump.
 ghost use Rattle.std.specs.Prelude.{◌≡◌, ◌++◌, not, IfOk, OnOk};
 ghost use Rattle.std.specs.List.{flat_map};
+ghost use Rattle.ndc_explain.specs.Graph.{tree_picture_of};
+ghost use Rattle.ndc_explain.specs.Picture.{picture_of};
+ghost use Rattle.ndc_explain.specs.Told.{told_of};
 ghost use Rattle.ndc_explain.specs.Explanation.{counts_line, explanation_of, findings, findings_told, is_open, is_running, leaves_any};
 
+use crate::asked::{Form, Request};
 use crate::branches::push_runs;
+use crate::graph::push_tree_picture;
 use crate::loss::{given_up, push_losses};
+use crate::picture::push_picture;
 use crate::piece::{Piece, push_pieces};
 use crate::settlers::{Settlers, settlers_of};
 use crate::signals::{each_signal, push_fates, waiting_count};
@@ -18,7 +24,7 @@ use ndc_reapply::Stray;
 use std::alloc::{AllocError, Global};
 use std::marker::Model;
 
-/// The explanation of a dump.
+/// What is told of a dump.
 #[derive(Drop)]
 pub struct Explanation {
     /// Its text.
@@ -97,6 +103,9 @@ fn findings(alloc: Global, view: &View) -> Result<Found, AllocError>
 impl<'v> Found<'v> {
     ghost use Rattle.std.specs.Prelude.{◌≡◌, ◌++◌, OnOk};
     ghost use Rattle.std.specs.List.{flat_map};
+    ghost use Rattle.ndc_explain.specs.Graph.{tree_picture_of};
+    ghost use Rattle.ndc_explain.specs.Picture.{picture_of};
+    ghost use Rattle.ndc_explain.specs.Told.{told_of};
     ghost use Rattle.ndc_explain.specs.Explanation.{counts_line, leaves_any, waiting};
     ghost use Rattle.ndc_explain.specs.GivenUp.{given_up_line};
     ghost use Rattle.ndc_explain.specs.Signals.{signal_line};
@@ -211,4 +220,60 @@ pub fn explain(
         text,
         leaves_any: found.leaves_any(),
     })
+}
+
+/// Draws a dump as an SVG document: a lane for each version; in it the batches in key order, those in a row between two
+/// forks as one box with the kinds of its first events; a line from each box to the boxes of its children, and of the
+/// run that continues its own; and an arrow from each signal to its copies. The boxes and lines of current branches are
+/// wide, the others dashed.
+///
+/// It takes time of the dump.
+pub fn draw(
+    alloc: Global,
+    clusters: &Option<Clusters>,
+    dump: &Dump,
+) -> Result<Explanation, AllocError>
+    ensures text { IfOk result (λ told. told.text.items ≡ picture_of clusters.now dump.now) }
+    ensures leaves { IfOk result (λ told. told.leaves_any ≡ leaves_any (findings dump.now.view)) }
+{
+    let found = findings(alloc, &dump.view)?;
+    let mut text = Vec::new(alloc);
+    push_picture(alloc, &mut text, clusters, dump)?;
+    Ok(Explanation {
+        text,
+        leaves_any: found.leaves_any(),
+    })
+}
+
+/// Draws a dump in characters: a line for each block of batches, the newest first, beside a column for each branch that
+/// goes on above it.
+///
+/// It takes time of the dump, and for each block of the branches that go on beside it.
+pub fn draw_tree(
+    alloc: Global,
+    clusters: &Option<Clusters>,
+    dump: &Dump,
+) -> Result<Explanation, AllocError>
+    ensures text { IfOk result (λ told. told.text.items ≡ tree_picture_of clusters.now dump.now) }
+    ensures leaves { IfOk result (λ told. told.leaves_any ≡ leaves_any (findings dump.now.view)) }
+{
+    let found = findings(alloc, &dump.view)?;
+    let mut text = Vec::new(alloc);
+    push_tree_picture(alloc, &mut text, clusters, dump)?;
+    Ok(Explanation {
+        text,
+        leaves_any: found.leaves_any(),
+    })
+}
+
+/// Tells a dump in the form that was asked for.
+pub(crate) fn told(alloc: Global, request: &Request, dump: &Dump) -> Result<Explanation, AllocError>
+    ensures text { IfOk result (λ told. told.text.items ≡ told_of request.now dump.now) }
+    ensures leaves { IfOk result (λ told. told.leaves_any ≡ leaves_any (findings dump.now.view)) }
+{
+    match request.form {
+        Form::Text => explain(alloc, &request.clusters, dump),
+        Form::Picture => draw(alloc, &request.clusters, dump),
+        Form::TreePicture => draw_tree(alloc, &request.clusters, dump),
+    }
 }

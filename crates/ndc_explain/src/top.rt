@@ -1,19 +1,19 @@
-//! The program's top call, over any source and sinks: it reads a dump and writes its explanation.
+//! The program's top call, over any source and sinks: it reads a dump and tells it.
 ghost use Rattle.std.specs.Prelude.{◌≡◌, ◌≤◌, ◌<◌, true, false, Ok, Err, Some, [], ◌∷◌, map, length, IfOk, IfErr, IfSome, IsOk, IsErr, IsErrAnd, OnOk, OnErr};
 ghost use Rattle.std.specs.String.{string_bytes};
 ghost use Rattle.ndc_port.specs.Bytes.{Appends, AppendsFront};
 ghost use Rattle.ndc_port.specs.Fault.{Rose};
 ghost use Rattle.ndc_dump.specs.Read.{dump_of};
 ghost use Rattle.ndc_explain.specs.Asked.{asked_of};
-ghost use Rattle.ndc_explain.specs.Explanation.{explanation_of, findings, leaves_any};
+ghost use Rattle.ndc_explain.specs.Explanation.{findings, leaves_any};
+ghost use Rattle.ndc_explain.specs.Told.{told_of};
 ghost use Rattle.ndc_explain.specs.Top.{most_bytes, status_of, status_line, told_status, fault_line, IsAmong, Tells, TellsDumpError, Explains, ExplainsFront, DumpFault, ExplainFault};
 ghost use Rattle.ndc_explain.specs.declared.error.WriteError.TheVariants as write;
 
-use crate::asked::asked_of;
+use crate::asked::{Request, asked_of};
 use crate::error::{WordsError, WriteError};
 use crate::fault::Fault;
-use crate::told::explain;
-use ndc_domain::Clusters;
+use crate::told::told;
 use ndc_dump::{Dump, DumpError, read_dump};
 use ndc_port::{ReadError, Sink, Source, read_all, write_all};
 use std::alloc::Global;
@@ -42,34 +42,34 @@ fn read_input<S: Source>(alloc: Global, source: &mut S) -> Result<Dump, Fault>
     }
 }
 
-/// Writes the explanation of a dump in one piece, and answers whether it leaves something given up or waiting.
+/// Tells a dump in one piece, in the form that was asked for, and answers whether it leaves something given up or waiting.
 fn write_explanation<K: Sink>(
     alloc: Global,
-    clusters: &Option<Clusters>,
+    request: &Request,
     dump: &Dump,
     out: &mut K,
 ) -> Result<bool, WriteError>
-    ensures whole { OnOk result (Appends (K.written out.old) (K.written out.new) (explanation_of clusters.now dump.now)) }
+    ensures whole { OnOk result (Appends (K.written out.old) (K.written out.new) (told_of request.now dump.now)) }
     ensures leaves { IfOk result (λ leaves. leaves ≡ leaves_any (findings dump.now.view)) }
-    ensures front { OnErr result (AppendsFront (K.written out.old) (K.written out.new) (explanation_of clusters.now dump.now)) }
+    ensures front { OnErr result (AppendsFront (K.written out.old) (K.written out.new) (told_of request.now dump.now)) }
     ensures cause { result ≡ Err write.Write → Rose (K.faults out.old) (K.faults out.new) }
     ensures unwritten { result ≡ Err write.Memory → K.written out.new ≡ K.written out.old }
     ensures count { K.faults out.old ≤ K.faults out.new }
 {
-    let told = explain(alloc, clusters, dump)?;
+    let told = told(alloc, request, dump)?;
     write_all(out, told.text.as_slice())?;
     Ok(told.leaves_any)
 }
 
-/// Reads a dump and writes its explanation, and answers whether it leaves something given up or waiting.
+/// Reads a dump and tells it, and answers whether it leaves something given up or waiting.
 fn explain_dump<S: Source, K: Sink>(
     alloc: Global,
-    clusters: &Option<Clusters>,
+    request: &Request,
     source: &mut S,
     out: &mut K,
 ) -> Result<bool, Fault>
-    ensures done { IfOk result (λ leaves. Explains clusters.now leaves (S.left source.old) (S.left source.new) (K.written out.old) (K.written out.new)) }
-    ensures fault { IfErr result (ExplainFault clusters.now
+    ensures done { IfOk result (λ leaves. Explains request.now leaves (S.left source.old) (S.left source.new) (K.written out.old) (K.written out.new)) }
+    ensures fault { IfErr result (ExplainFault request.now
         (record { left = S.left source.old; source_faults = S.faults source.old; written = K.written out.old; out_faults = K.faults out.old })
         (record { left = S.left source.new; source_faults = S.faults source.new; written = K.written out.new; out_faults = K.faults out.new })) }
     ensures source_count { S.faults source.old ≤ S.faults source.new }
@@ -79,7 +79,7 @@ fn explain_dump<S: Source, K: Sink>(
         Ok(dump) => dump,
         Err(fault) => return Err(fault),
     };
-    match write_explanation(alloc, clusters, &dump, out) {
+    match write_explanation(alloc, request, &dump, out) {
         Ok(leaves) => Ok(leaves),
         Err(WriteError::Write) => Err(Fault::Write),
         Err(WriteError::Memory) => Err(Fault::Memory),
@@ -102,17 +102,17 @@ fn end<E: Sink>(fault: Fault, err: &mut E) -> u8
     fault.status()
 }
 
-/// Reads a dump and writes its explanation, tells of the fault that comes, and answers the status.
+/// Reads a dump, tells it, tells of the fault that comes, and answers the status.
 fn explain_input<S: Source, K: Sink, E: Sink>(
     alloc: Global,
-    clusters: &Option<Clusters>,
+    request: &Request,
     source: &mut S,
     out: &mut K,
     err: &mut E,
 ) -> u8
     ensures among { IsAmong result (0 ∷ 1 ∷ 4 ∷ 5 ∷ 6 ∷ 7 ∷ 8 ∷ []) }
-    ensures whole { result ≡ 0 → Explains clusters.now false (S.left source.old) (S.left source.new) (K.written out.old) (K.written out.new) }
-    ensures leaving { result ≡ 1 → Explains clusters.now true (S.left source.old) (S.left source.new) (K.written out.old) (K.written out.new) }
+    ensures whole { result ≡ 0 → Explains request.now false (S.left source.old) (S.left source.new) (K.written out.old) (K.written out.new) }
+    ensures leaving { result ≡ 1 → Explains request.now true (S.left source.old) (S.left source.new) (K.written out.old) (K.written out.new) }
     ensures silent { IsAmong result (0 ∷ 1 ∷ []) → E.written err.new ≡ E.written err.old }
     ensures dump { result ≡ 7 → IfSome (S.left source.old) (λ bytes. (length bytes ≤ most_bytes)
         × IsErrAnd (dump_of bytes) (TellsDumpError (E.written err.old) (E.written err.new) (E.faults err.old) (E.faults err.new))) }
@@ -124,23 +124,24 @@ fn explain_input<S: Source, K: Sink, E: Sink>(
     ensures no_dump { IfSome (S.left source.old) (λ bytes. length bytes ≤ most_bytes → IsErr (dump_of bytes) → IsAmong result (4 ∷ 7 ∷ 8 ∷ [])) }
     ensures whole_dump { IfSome (S.left source.old) (λ bytes. length bytes ≤ most_bytes → IsOk (dump_of bytes) → IsAmong result (0 ∷ 1 ∷ 4 ∷ 5 ∷ 8 ∷ [])) }
     ensures early { IsAmong result (4 ∷ 6 ∷ 7 ∷ []) → K.written out.new ≡ K.written out.old }
-    ensures front { IsAmong result (4 ∷ 5 ∷ 6 ∷ 7 ∷ 8 ∷ []) → ExplainsFront clusters.now (S.left source.old) (K.written out.old) (K.written out.new) }
+    ensures front { IsAmong result (4 ∷ 5 ∷ 6 ∷ 7 ∷ 8 ∷ []) → ExplainsFront request.now (S.left source.old) (K.written out.old) (K.written out.new) }
 {
-    match explain_dump(alloc, clusters, source, out) {
+    match explain_dump(alloc, request, source, out) {
         Ok(leaves) => told_status(leaves),
         Err(fault) => end(fault, err),
     }
 }
 
 /// Runs the program on its words, which do not hold its name, and answers the status that it ends with: it reads a dump
-/// and writes its explanation. The words are none, or `--clusters NAME=INITIAL,.. --increment INCREMENT`; then the
-/// explanation names the cluster that wrote with each version that it tells.
+/// and tells it: by its explanation, or, where the first word is `--picture` or `--picture=text`, by a picture, which is
+/// an SVG document or in characters. Behind that may stand `--clusters NAME=INITIAL,.. --increment INCREMENT`; then the
+/// clusters that wrote with the versions are named.
 ///
 /// 0 where the input was read to its end, all was written, and the dump leaves nothing given up and no signal waiting;
 /// 1 where it leaves some; 2 only where the words are refused; 4 only where reading failed; 5 only where writing failed;
 /// 6 only where the input has more than 16,777,216 bytes; 7 only where it is no dump; 8 where memory ran out, which may
 /// be at any time. The order of the faults is 2, 4, 6, 7, 5. After a fault a line on `err` tells of it. Refused words
-/// read and write nothing. Whatever the status, `out` has what it had, followed by a front of the explanation; by
+/// read and write nothing. Whatever the status, `out` has what it had, followed by a front of what is told; by
 /// nothing where the input is no dump.
 pub fn explain_top<S: Source, K: Sink, E: Sink>(
     alloc: Global,
@@ -155,8 +156,8 @@ pub fn explain_top<S: Source, K: Sink, E: Sink>(
     ensures refused_out { IsErr (asked_of (map string_bytes words.now)) → out.new ≡ out.old }
 
     // What was done at statuses 0 and 1.
-    ensures whole { IfOk (asked_of (map string_bytes words.now)) (λ clusters. result ≡ 0 → Explains clusters false (S.left source.old) (S.left source.new) (K.written out.old) (K.written out.new)) }
-    ensures leaving { IfOk (asked_of (map string_bytes words.now)) (λ clusters. result ≡ 1 → Explains clusters true (S.left source.old) (S.left source.new) (K.written out.old) (K.written out.new)) }
+    ensures whole { IfOk (asked_of (map string_bytes words.now)) (λ request. result ≡ 0 → Explains request false (S.left source.old) (S.left source.new) (K.written out.old) (K.written out.new)) }
+    ensures leaving { IfOk (asked_of (map string_bytes words.now)) (λ request. result ≡ 1 → Explains request true (S.left source.old) (S.left source.new) (K.written out.old) (K.written out.new)) }
     ensures silent { IsAmong result (0 ∷ 1 ∷ []) → E.written err.new ≡ E.written err.old }
 
     // Why it ended with a fault, and what was told of it.
@@ -174,10 +175,10 @@ pub fn explain_top<S: Source, K: Sink, E: Sink>(
 
     // What is written: nothing before the output begins or where the input is no dump, and never more than a front of it.
     ensures early { IsAmong result (2 ∷ 4 ∷ 6 ∷ 7 ∷ []) → K.written out.new ≡ K.written out.old }
-    ensures front { IfOk (asked_of (map string_bytes words.now)) (λ clusters. IsAmong result (4 ∷ 5 ∷ 6 ∷ 7 ∷ 8 ∷ []) → ExplainsFront clusters (S.left source.old) (K.written out.old) (K.written out.new)) }
+    ensures front { IfOk (asked_of (map string_bytes words.now)) (λ request. IsAmong result (4 ∷ 5 ∷ 6 ∷ 7 ∷ 8 ∷ []) → ExplainsFront request (S.left source.old) (K.written out.old) (K.written out.new)) }
 {
     match asked_of(alloc, words) {
-        Ok(clusters) => explain_input(alloc, &clusters, source, out, err),
+        Ok(request) => explain_input(alloc, &request, source, out, err),
         Err(WordsError::Refused) => end(Fault::Words, err),
         Err(WordsError::Memory) => end(Fault::Memory, err),
     }

@@ -1,5 +1,5 @@
 //! `ndc_explain`: reads a dump and tells which branch of each run leads and why, what of the others is given up, and
-//! what became of each signal.
+//! what became of each signal; or draws it.
 #![tactic(auto)]
 
 use ndc_explain::explain_top;

@@ -10,4 +10,4 @@ returns-in-Err-clause-fault g c =
     let out = c.args.out.now in
     let old : Streams = record { left = source.left c.args.source.now; source_faults = source.faults c.args.source.now; written = g.K.Sink.written out; out_faults = g.K.Sink.faults out } in
     let new : Streams = record { left = source.left c.read_input.new.source; source_faults = source.faults c.read_input.new.source; written = g.K.Sink.written out; out_faults = g.K.Sink.faults out } in
-    dump_fault c.args.clusters.now old new c.in-Err.fault refl c.in-Err.ensures.fault
+    dump_fault c.args.request.now old new c.in-Err.fault refl c.in-Err.ensures.fault

@@ -8,4 +8,4 @@ returns-in-Err-clause-front g c = λ _.
     let sink = g.K.Sink in
     let old : Streams = record { left = source.left c.args.source.now; source_faults = source.faults c.args.source.now; written = sink.written c.args.out.now; out_faults = sink.faults c.args.out.now } in
     let new : Streams = record { left = source.left c.explain_dump.new.source; source_faults = source.faults c.explain_dump.new.source; written = sink.written c.explain_dump.new.out; out_faults = sink.faults c.explain_dump.new.out } in
-    told_end c.args.clusters.now old new c.in-Err.fault c.in-Err.ensures.fault
+    told_end c.args.request.now old new c.in-Err.fault c.in-Err.ensures.fault
