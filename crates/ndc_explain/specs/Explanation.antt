@@ -3,8 +3,6 @@ use Rattle.std.specs.Prelude.{ℕ, Bool, true, false, ◌||◌, ◌&&◌, is_non
 use Rattle.std.specs.List.{concat, flat_map, list_any}
 use Rattle.std.specs.Map.{lookup}
 use Rattle.ndc_domain.specs.Clusters.{ClusterList}
-use Rattle.ndc_event.specs.declared.batch.Event.{Event}
-use Rattle.ndc_event.specs.declared.key.BatchKey.{BatchKey}
 use Rattle.ndc_event.specs.declared.key.Origin.{Origin}
 use Rattle.ndc_model_sets.specs.Origins.{signals}
 use Rattle.ndc_model_sets.specs.declared.view.RunStatus.{RunStatus}
@@ -16,7 +14,7 @@ use Rattle.ndc_reapply.specs.Strays.{origins_of, strays_of}
 use Rattle.ndc_state.specs.Origins.{is_among, same_origin}
 use Rattle.ndc_dump.specs.declared.dump.Dump.{Dump}
 use Rattle.ndc_explain.specs.Branches.{run_told}
-use Rattle.ndc_explain.specs.GivenUp.{given_up, given_up_line}
+use Rattle.ndc_explain.specs.GivenUp.{Loss, given_up}
 use Rattle.ndc_explain.specs.Signals.{Settlers, signal_line, waiting_count, with_listed}
 use Rattle.ndc_explain.specs.Standing.{standing}
 
@@ -32,7 +30,7 @@ is_open runs = list_any (λ run. is_running run.status) runs
 
 -- what a view holds beside its runs: the events that are given up, the signals, each once by its origin, and what settles them
 pub record Findings : Type 0 where
-  pub lost : List (BatchKey × Event)
+  pub lost : List Loss
   pub signals : List Stray
   pub settlers : Settlers
 
@@ -65,9 +63,13 @@ counts_line view found =
 -- the lines of what was found
 abbrev pub findings_told : Option ClusterList → Dump → Findings → List ℕ
 findings_told clusters dump found =
-    flat_map (given_up_line clusters) found.lost ++ flat_map (signal_line clusters dump.workflow (is_open dump.view.runs) found.settlers) found.signals ++ counts_line dump.view found
+    flat_map (signal_line clusters dump.workflow (is_open dump.view.runs) found.settlers) found.signals ++ counts_line dump.view found
 
--- the explanation: the workflow; each run and which of its branches leads; what is given up; what became of each signal; the counts
+-- the explanation with what was found
+abbrev pub explanation_with : Option ClusterList → Dump → Findings → List ℕ
+explanation_with clusters dump found =
+    codes "workflow " ++ dump.domain ++ codes " " ++ dump.workflow ++ codes "\n" ++ flat_map (run_told clusters found.lost) dump.view.runs ++ findings_told clusters dump found
+
+-- the explanation: the workflow; each run, which of its branches leads and what is given up; what became of each signal; the counts
 abbrev pub explanation_of : Option ClusterList → Dump → List ℕ
-explanation_of clusters dump =
-    codes "workflow " ++ dump.domain ++ codes " " ++ dump.workflow ++ codes "\n" ++ flat_map (run_told clusters) dump.view.runs ++ findings_told clusters dump (findings dump.view)
+explanation_of clusters dump = explanation_with clusters dump (findings dump.view)

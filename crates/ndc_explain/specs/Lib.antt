@@ -1,8 +1,8 @@
 pub mod Pieces
 pub mod Writers
+pub mod GivenUp
 pub mod Branches
 pub mod Standing
-pub mod GivenUp
 pub mod Signals
 pub mod Explanation
 pub mod Blocks

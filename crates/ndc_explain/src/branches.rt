@@ -1,13 +1,15 @@
-//! Runs and their branches: which branch leads, and why.
-ghost use Rattle.std.specs.Prelude.{◌≡◌, ◌++◌, OnOk};
+//! Runs and their branches: which branch leads, and why, and what of the others is given up.
+ghost use Rattle.std.specs.Prelude.{◌≡◌, ◌++◌, map, OnOk};
 ghost use Rattle.std.specs.List.{flat_map};
 ghost use Rattle.std.specs.Option.{option_copied};
 ghost use Rattle.ndc_explain.specs.Branches.{branch_told, branches_told, leader, leading_line, losing_line, run_told};
 
+use crate::loss::push_losses;
 use crate::piece::{Piece, push_pieces};
 use crate::writer::writer_name;
 use ndc_domain::Clusters;
 use ndc_dump_show::line::push_run_line;
+use ndc_event::{BatchKey, Event, RunId};
 use ndc_model_sets::{BranchView, RunView};
 use std::alloc::{AllocError, Global};
 
@@ -124,29 +126,33 @@ fn push_branches(
 }
 
 /// Appends the lines of a run.
-fn push_run(
+#[tactic(auto, unfolding(crate::specs::Branches::run_told))]
+fn push_run<'x>(
     alloc: Global,
     text: &mut Vec<u8>,
-    clusters: &Option<Clusters>,
+    clusters: &'x Option<Clusters>,
+    lost: &[(RunId, BatchKey, &'x Event)],
     run: &RunView,
 ) -> Result<(), AllocError>
-    ensures { OnOk result (text.new.items ≡ text.old.items ++ run_told clusters.now run.now) }
+    ensures { OnOk result (text.new.items ≡ text.old.items ++ run_told clusters.now (map (λ entry. (entry.0, entry.1, entry.2.now)) lost.now) run.now) }
 {
     push_run_line(alloc, text, run)?;
-    push_branches(text, clusters, run.branches.as_slice())
+    push_branches(text, clusters, run.branches.as_slice())?;
+    push_losses(text, clusters, run.run, lost)
 }
 
 /// Appends the lines of runs.
-pub(crate) fn push_runs(
+pub(crate) fn push_runs<'x>(
     alloc: Global,
     text: &mut Vec<u8>,
-    clusters: &Option<Clusters>,
+    clusters: &'x Option<Clusters>,
+    lost: &[(RunId, BatchKey, &'x Event)],
     runs: &[RunView],
 ) -> Result<(), AllocError>
-    ensures { OnOk result (text.new.items ≡ text.old.items ++ flat_map (run_told clusters.now) runs.now) }
+    ensures { OnOk result (text.new.items ≡ text.old.items ++ flat_map (run_told clusters.now (map (λ entry. (entry.0, entry.1, entry.2.now)) lost.now)) runs.now) }
 {
     for run in runs {
-        push_run(alloc, text, clusters, run)?;
+        push_run(alloc, text, clusters, lost, run)?;
     }
     Ok(())
 }

@@ -1,9 +1,8 @@
 //! The events that are given up: those of losing branches, but for signals.
 ghost use Rattle.std.specs.Prelude.{◌≡◌, ◌++◌, [], is_none, map, unwrap_or, IfOk, OnOk};
-ghost use Rattle.std.specs.List.{flat_map};
 ghost use Rattle.ndc_event.specs.Attributes.{first_name as first_name_of};
 ghost use Rattle.ndc_model_sets.specs.Origins.{signal_of};
-ghost use Rattle.ndc_explain.specs.GivenUp.{given_up, given_up_at, given_up_in, given_up_line};
+ghost use Rattle.ndc_explain.specs.GivenUp.{given_up, given_up_at, given_up_in, given_up_line, loss_told, losses_told};
 
 use crate::piece::{Piece, push_pieces};
 use crate::writer::writer_name;
@@ -24,27 +23,27 @@ fn is_no_signal(run: RunId, event: &Event) -> bool
     }
 }
 
-/// Appends an event of a batch, with the batch's key, unless it is a signal.
+/// Appends an event of a batch, with its run and the batch's key, unless it is a signal.
 fn push_unless_signal<'b>(
-    lost: &mut Vec<(BatchKey, &'b Event)>,
+    lost: &mut Vec<(RunId, BatchKey, &'b Event)>,
     batch: &Batch,
     event: &'b Event,
 ) -> Result<(), AllocError>
-    ensures { OnOk result (map (λ entry. (entry.0, entry.1.now)) lost.new.items ≡ map (λ entry. (entry.0, entry.1.now)) lost.old.items ++ given_up_at batch.now event.now) }
+    ensures { OnOk result (map (λ entry. (entry.0, entry.1, entry.2.now)) lost.new.items ≡ map (λ entry. (entry.0, entry.1, entry.2.now)) lost.old.items ++ given_up_at batch.now event.now) }
 {
     if is_no_signal(batch.run, event) {
-        lost.push((batch.key, event))?;
+        lost.push((batch.run, batch.key, event))?;
     }
     Ok(())
 }
 
-/// Appends these events of a batch, with the batch's key, but for signals.
+/// Appends these events of a batch, with their run and the batch's key, but for signals.
 fn push_given_up<'b>(
-    lost: &mut Vec<(BatchKey, &'b Event)>,
+    lost: &mut Vec<(RunId, BatchKey, &'b Event)>,
     batch: &Batch,
     events: &'b [Event],
 ) -> Result<(), AllocError>
-    ensures { OnOk result (map (λ entry. (entry.0, entry.1.now)) lost.new.items ≡ map (λ entry. (entry.0, entry.1.now)) lost.old.items ++ given_up_in batch.now events.now) }
+    ensures { OnOk result (map (λ entry. (entry.0, entry.1, entry.2.now)) lost.new.items ≡ map (λ entry. (entry.0, entry.1, entry.2.now)) lost.old.items ++ given_up_in batch.now events.now) }
 {
     for event in events {
         push_unless_signal(lost, batch, event)?;
@@ -52,13 +51,13 @@ fn push_given_up<'b>(
     Ok(())
 }
 
-/// The events of the batches whose keys are not listed, each with its batch's key, but for signals.
+/// The events of the batches whose keys are not listed, each with its run and its batch's key, but for signals.
 pub(crate) fn given_up<'b>(
     alloc: Global,
     keys: &KeySet,
     batches: &'b [Batch],
-) -> Result<Vec<(BatchKey, &'b Event)>, AllocError>
-    ensures { IfOk result (λ lost. map (λ entry. (entry.0, entry.1.now)) lost.items ≡ given_up keys.now batches.now) }
+) -> Result<Vec<(RunId, BatchKey, &'b Event)>, AllocError>
+    ensures { IfOk result (λ lost. map (λ entry. (entry.0, entry.1, entry.2.now)) lost.items ≡ given_up keys.now batches.now) }
 {
     let mut lost = Vec::new(alloc);
     for batch in batches {
@@ -112,7 +111,7 @@ fn push_loss<'x>(
     key: BatchKey,
     event: &'x Event,
 ) -> Result<(), AllocError>
-    ensures { OnOk result (text.new.items ≡ text.old.items ++ given_up_line clusters.now (key, event.now)) }
+    ensures { OnOk result (text.new.items ≡ text.old.items ++ given_up_line clusters.now key event.now) }
 {
     push_pieces(
         text,
@@ -133,16 +132,33 @@ fn push_loss<'x>(
     )
 }
 
-/// Appends the lines of events that are given up.
+/// Appends the line of an event that is given up, where it is of this run.
+fn push_loss_of<'x>(
+    text: &mut Vec<u8>,
+    clusters: &'x Option<Clusters>,
+    run: RunId,
+    entry: (RunId, BatchKey, &'x Event),
+) -> Result<(), AllocError>
+    ensures { OnOk result (text.new.items ≡ text.old.items ++ loss_told clusters.now run (entry.entry.0, entry.entry.1, entry.entry.2.now)) }
+{
+    if entry.0.value == run.value {
+        push_loss(text, clusters, entry.1, entry.2)
+    } else {
+        Ok(())
+    }
+}
+
+/// Appends the lines of the events of a run that are given up.
 pub(crate) fn push_losses<'x>(
     text: &mut Vec<u8>,
     clusters: &'x Option<Clusters>,
-    lost: &[(BatchKey, &'x Event)],
+    run: RunId,
+    lost: &[(RunId, BatchKey, &'x Event)],
 ) -> Result<(), AllocError>
-    ensures { OnOk result (text.new.items ≡ text.old.items ++ flat_map (given_up_line clusters.now) (map (λ entry. (entry.0, entry.1.now)) lost.now)) }
+    ensures { OnOk result (text.new.items ≡ text.old.items ++ losses_told clusters.now run (map (λ entry. (entry.0, entry.1, entry.2.now)) lost.now)) }
 {
     for entry in lost {
-        push_loss(text, clusters, entry.0, entry.1)?;
+        push_loss_of(text, clusters, run, *entry)?;
     }
     Ok(())
 }

@@ -9,7 +9,7 @@ ghost use Rattle.ndc_explain.specs.Explanation.{counts_line, explanation_of, fin
 use crate::asked::{Form, Request};
 use crate::branches::push_runs;
 use crate::graph::push_tree_picture;
-use crate::loss::{given_up, push_losses};
+use crate::loss::given_up;
 use crate::picture::push_picture;
 use crate::piece::{Piece, push_pieces};
 use crate::settlers::{Settlers, settlers_of};
@@ -18,7 +18,7 @@ use crate::standing::standing;
 use ndc_domain::Clusters;
 use ndc_dump::Dump;
 use ndc_dump_show::print::push_heading;
-use ndc_event::{BatchKey, Event, Name};
+use ndc_event::{BatchKey, Event, Name, RunId};
 use ndc_model_sets::{RunStatus, RunView, View};
 use ndc_reapply::Stray;
 use std::alloc::{AllocError, Global};
@@ -36,8 +36,8 @@ pub struct Explanation {
 /// What a view holds beside its runs.
 #[derive(Drop)]
 struct Found<'v> {
-    /// The events that are given up, each with its batch's key.
-    lost: Vec<(BatchKey, &'v Event)>,
+    /// The events that are given up, each with its run and its batch's key.
+    lost: Vec<(RunId, BatchKey, &'v Event)>,
     /// The signals, each once by its origin.
     signals: Vec<Stray>,
     /// What settles them.
@@ -51,7 +51,7 @@ impl<'v> Model for Found<'v> {
     ghost Value = { Findings };
 
     ghost view = { λ found. record {
-      lost = map (λ entry. (entry.0, entry.1.now)) found.lost.items;
+      lost = map (λ entry. (entry.0, entry.1, entry.2.now)) found.lost.items;
       signals = found.signals.items;
       settlers = found.settlers;
     } };
@@ -107,7 +107,7 @@ impl<'v> Found<'v> {
     ghost use Rattle.ndc_explain.specs.Picture.{picture_of};
     ghost use Rattle.ndc_explain.specs.Told.{told_of};
     ghost use Rattle.ndc_explain.specs.Explanation.{counts_line, leaves_any, waiting};
-    ghost use Rattle.ndc_explain.specs.GivenUp.{given_up_line};
+    ghost use Rattle.ndc_explain.specs.Branches.{run_told};
     ghost use Rattle.ndc_explain.specs.Signals.{signal_line};
 
     /// How many signals wait.
@@ -124,11 +124,17 @@ impl<'v> Found<'v> {
         0 < self.lost.len() || 0 < self.waiting()
     }
 
-    /// Appends the lines of the events that are given up.
-    fn push_losses(&self, text: &mut Vec<u8>, clusters: &Option<Clusters>) -> Result<(), AllocError>
-        ensures { OnOk result (text.new.items ≡ text.old.items ++ flat_map (given_up_line clusters.now) self.now.lost) }
+    /// Appends the lines of runs, with the events of each that are given up.
+    fn push_runs(
+        &self,
+        alloc: Global,
+        text: &mut Vec<u8>,
+        clusters: &Option<Clusters>,
+        runs: &[RunView],
+    ) -> Result<(), AllocError>
+        ensures { OnOk result (text.new.items ≡ text.old.items ++ flat_map (run_told clusters.now self.now.lost) runs.now) }
     {
-        push_losses(text, clusters, self.lost.as_slice())
+        push_runs(alloc, text, clusters, self.lost.as_slice(), runs)
     }
 
     /// Appends the lines of the signals of a workflow, whose current run is open or not.
@@ -186,18 +192,17 @@ fn push_findings(
 ) -> Result<(), AllocError>
     ensures { OnOk result (text.new.items ≡ text.old.items ++ findings_told clusters.now dump.now found.now) }
 {
-    found.push_losses(text, clusters)?;
     found.push_fates(alloc, text, clusters, &dump.workflow, has_open(&dump.view))?;
     found.push_counts(text, &dump.view)?;
     Ok(())
 }
 
 /// Explains a dump, with the names of the clusters that wrote where these are given: the workflow; each run, which of
-/// its branches leads, and why each other one lost; each event of a losing branch but for signals, which stands in no
+/// its branches leads, why each other one lost, and each event of a losing branch but for signals, which stands in no
 /// state of a current branch; each signal, once, with the batch on a current branch that has it or a copy of it, or
 /// with what it waits for; and a line of counts.
 ///
-/// It takes time of the dump, and of sorting its signals.
+/// It takes time of the dump, of sorting its signals, and for each run of the events that are given up.
 pub fn explain(
     alloc: Global,
     clusters: &Option<Clusters>,
@@ -214,7 +219,7 @@ pub fn explain(
         &dump.domain,
         &dump.workflow,
     )?;
-    push_runs(alloc, &mut text, clusters, dump.view.runs.as_slice())?;
+    found.push_runs(alloc, &mut text, clusters, dump.view.runs.as_slice())?;
     push_findings(alloc, &mut text, clusters, dump, &found)?;
     Ok(Explanation {
         text,

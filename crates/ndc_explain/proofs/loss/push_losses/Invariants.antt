@@ -1,7 +1,8 @@
 use Rattle.std.proofs.Common.{◌≡◌, ◌++◌, drop, map}
-use Rattle.std.specs.List.{flat_map}
-use Rattle.ndc_explain.specs.GivenUp.{given_up_line}
+use Rattle.ndc_explain.specs.GivenUp.{losses_told}
 use Rattle.ndc_explain.proofs.loss.push_losses.Given as goal
 
+-- the text so far, with what is left, is the whole
 abbrev pub invariant-loop-entry : goal.invariant-loop-entry
-invariant-loop-entry l = l.text.items ++ flat_map (given_up_line l.clusters) (map (λ entry. (entry.0, entry.1.now)) (drop l.entry-index l.lost)) ≡ l.initial.text.items ++ flat_map (given_up_line l.clusters) (map (λ entry. (entry.0, entry.1.now)) l.lost)
+invariant-loop-entry l = l.text.items ++ losses_told l.clusters l.run (map (λ entry. (entry.0, entry.1, entry.2.now)) (drop l.entry-index l.lost))
+    ≡ l.initial.text.items ++ losses_told l.clusters l.run (map (λ entry. (entry.0, entry.1, entry.2.now)) l.lost)
