@@ -4,31 +4,29 @@ use ndc_domain::{ClusterNo, Clusters, DomainTable};
 use ndc_letters::Letters;
 use ndc_model_cells::{JobReply, ShardJob};
 use ndc_port::Gate;
-use ndc_progress::Progress;
 use std::alloc::{AllocError, Global};
 use std::marker::Model;
 use std::mem;
 use std::thread::Threads;
 
-/// A cluster: its domain records, its cells by shard with the queues of what they have written, what it set aside, and
-/// the progress reports that it told or took over.
+/// A cluster: its domain records, its cells by shard with the queues of what they have written, and what it set aside. It
+/// holds no progress reports.
 pub struct Site<C: Writes + Drop> {
     table: DomainTable,
     cells: Vec<C>,
     queues: Queues,
     letters: Letters,
-    reports: Progress,
 }
 
 impl<C: Writes + Drop> Model for Site<C> {
-    ghost use Rattle.std.specs.Prelude.{map};
+    ghost use Rattle.std.specs.Prelude.{[], map};
     ghost use Rattle.ndc_queue.specs.Queues.{QueueValue};
     ghost use Rattle.ndc_cluster.specs.Sites.{AreTied, SiteValue};
 
     ghost Value = { SiteValue };
 
     ghost view = { λ site. record {
-      cluster = record { table = site.table; cells = map C.cell site.cells.items; letters = site.letters; reports = site.reports };
+      cluster = record { table = site.table; cells = map C.cell site.cells.items; letters = site.letters; reports = [] };
       trimmed = map (λ (queue : QueueValue). queue.first) site.queues;
     } };
 
@@ -42,7 +40,6 @@ impl<C: Writes + Drop> Drop for Site<C> {
             cells: _cells,
             queues: _queues,
             letters: _letters,
-            reports: _reports,
         } = self;
     }
 }
@@ -70,7 +67,6 @@ impl<C: Writes + Drop> Site<C> {
             cells,
             queues,
             letters: Letters::new(alloc),
-            reports: Progress::new(alloc),
         })
     }
 

@@ -7,6 +7,7 @@ use crate::kind::EventKind;
 use crate::name::Name;
 use std::alloc::{AllocError, Global};
 use std::marker::Model;
+use std::sync::Arc;
 use thiserror::Error;
 
 /// One event of a run's history.
@@ -37,29 +38,31 @@ impl Event {
     }
 }
 
-/// A list of events, in order.
+/// A list of events, in order. Copies share the events.
 #[derive(Debug, Drop)]
 pub struct Events {
-    items: Vec<Event>,
+    items: Arc<Vec<Event>, Global>,
 }
 
 impl Model for Events {
     ghost use Rattle.std.specs.Prelude.{List};
+    ghost use Rattle.std.specs.Arc.{arc_value};
     ghost use Rattle.ndc_event.specs.declared.batch.Event.{Event};
 
     ghost Value = { List Event };
 
-    ghost view = { λ events. events.items.items };
+    ghost view = { λ events. (arc_value events.items).items };
 }
 
 impl Events {
     ghost use Rattle.std.specs.Prelude.{◌≡◌, ◌↔◌, IfOk, IsTrue};
 
     /// The list of these events.
-    pub fn new(items: Vec<Event>) -> Events
-        ensures { result ≡ items.items }
+    pub fn new(alloc: Global, items: Vec<Event>) -> Result<Events, AllocError>
+        ensures { IfOk result (λ events. events ≡ items.items) }
     {
-        Events { items }
+        let items = Arc::new(alloc, items)?;
+        Ok(Events { items })
     }
 
     /// The events, to be read.
@@ -69,21 +72,11 @@ impl Events {
         self.items.as_slice()
     }
 
-    /// The events, given back.
-    pub fn into_vec(self) -> Vec<Event>
-        ensures { result.items ≡ self }
-    {
-        self.items
-    }
-
-    /// The same events.
+    /// The same list, over the same events: in the same time for any number of them.
     pub fn try_copy(&self) -> Result<Events, AllocError>
         ensures { IfOk result (λ copy. copy ≡ self.now) }
     {
-        let mut items = Vec::with_capacity(*self.items.allocator(), self.items.len())?;
-        for event in self.items.as_slice() {
-            items.push(event.clone()?)?;
-        }
+        let items = Arc::try_clone(&self.items)?;
         Ok(Events { items })
     }
 
@@ -91,7 +84,7 @@ impl Events {
     pub fn is_same(&self, other: &Events) -> bool
         ensures { IsTrue result ↔ (self.now ≡ other.now) }
     {
-        are_same(self.items.as_slice(), other.items.as_slice())
+        are_same(self.as_slice(), other.as_slice())
     }
 }
 

@@ -1,5 +1,5 @@
 -- The batches that lead to one, through parents and carriers.
-use Rattle.std.proofs.Common.{◌≡◌, ℕ, ◌+◌, ◌<◌, Bool, true, false, List, [], ◌∷◌, ◌++◌, length, reverse, Option, Some, None, if◌then◌else◌, refl, sym, ◌∙◌, subst, ap, arith, length-append}
+use Rattle.std.proofs.Common.{◌≡◌, ◌+◌, ◌<◌, Bool, true, false, List, [], ◌∷◌, ◌++◌, length, reverse, Option, Some, None, if◌then◌else◌, refl, sym, ◌∙◌, subst, ap, arith, length-append}
 use Rattle.std.specs.Prelude.{IfSome}
 use Rattle.std.proofs.lemmas.List.{append-nil, append_assoc, reverse-append}
 use Rattle.ndc_event.specs.Key.{key_eq, key_lt}
@@ -28,7 +28,7 @@ goes_on-over b more one two g = by (is_wanted two.wanted b) refl
         record { wanted = rw (e, f) g.wanted; path = rw (e, f) g.path }
 
 -- nothing is found where nothing is wanted, or a key that is not there
-none-wanted : (batches : List Batch) → ancestors_down batches (from None) ≡ from None
+pub none-wanted : (batches : List Batch) → ancestors_down batches (from None) ≡ from None
 none-wanted [] = refl
 none-wanted (b ∷ batches) = ap (ancestors_over b) (none-wanted batches)
 
@@ -81,7 +81,7 @@ abbrev pub chain_of : Option Batch → List Batch → List Batch
 chain_of None batches = []
 chain_of (Some b) batches = chain_to (Some b.key) batches
 
-chain-named : (wanted : Option BatchKey) (batches : List Batch) → chain_of (named wanted batches) batches ≡ chain_to wanted batches
+pub chain-named : (wanted : Option BatchKey) (batches : List Batch) → chain_of (named wanted batches) batches ≡ chain_to wanted batches
 chain-named None batches = sym (ap (λ (w : Walk). w.path) (none-wanted batches))
 chain-named (Some key) batches = by (batch_at key batches) refl
   where
@@ -89,7 +89,7 @@ chain-named (Some key) batches = by (batch_at key batches) refl
     by None e = sym (ap (λ (w : Walk). w.path) (absent batches key e))
     by (Some b) e = ap (λ (k : BatchKey). chain_to (Some k) batches) (found-key batches key b e)
 
-chain-step : (batches : List Batch) (b : Batch) → IsSet batches → Has batches b → chain_of (Some b) batches ≡ chain_of (named (earlier b) batches) batches ++ b ∷ []
+pub chain-step : (batches : List Batch) (b : Batch) → IsSet batches → Has batches b → chain_of (Some b) batches ≡ chain_of (named (earlier b) batches) batches ++ b ∷ []
 chain-step batches b set has =
     (walk-earlier batches b set.ordered (found-all PointsBack batches b.key b set.back has) has).path ∙ ap (λ (l : List Batch). l ++ b ∷ []) (sym (chain-named (earlier b) batches))
 

@@ -1,4 +1,7 @@
+mod AskedLemmas
+mod AncestorLemmas
 mod BranchLemmas
+mod BringLemmas
 mod ChainLemmas
 mod GapLemmas
 mod GroupLemmas

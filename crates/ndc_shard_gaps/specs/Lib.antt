@@ -1,3 +1,5 @@
+pub mod Asked
+pub mod Bringing
 pub mod Gaps
 pub mod Histories
 pub mod Serving

@@ -3,6 +3,7 @@
 
 mod finding;
 mod histories;
+pub mod laws;
 mod serving;
 
 pub use finding::{GapOf, gaps};

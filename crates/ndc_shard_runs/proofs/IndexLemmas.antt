@@ -1,10 +1,10 @@
 -- Batches found by key, in one run and in several.
-use Rattle.std.proofs.Common.{◌≡◌, Bool, true, false, nat_lt, Result, Ok, Err, OnOk, List, [], ◌∷◌, ◌++◌, Option, Some, None, slice_get, if◌then◌else◌, refl, sym, ◌∙◌, subst, ap}
+use Rattle.std.proofs.Common.{◌≡◌, Bool, true, false, nat_lt, Result, Ok, Err, OnOk, List, [], ◌∷◌, ◌++◌, Option, Some, None, slice_get, if◌then◌else◌, refl, sym, ◌∙◌, ap}
 use Rattle.std.specs.Prelude.{is_some}
 use Rattle.std.specs.List.{AllByRecursion}
 use Rattle.std.specs.Option.{option_map}
 use Rattle.std.proofs.lemmas.List.{append_assoc}
-use Rattle.ndc_event.specs.Key.{key_lt, key_eq}
+use Rattle.ndc_event.specs.Key.{key_lt}
 use Rattle.ndc_event.specs.declared.batch.Batch.{Batch}
 use Rattle.ndc_event.specs.declared.key.BatchKey.{BatchKey}
 use Rattle.ndc_event.specs.declared.key.RunId.{RunId}
@@ -22,7 +22,7 @@ use Rattle.ndc_shard_runs.specs.Index.{AreOne, AreIndexed, left, run_named, run_
 use Rattle.ndc_shard_runs.specs.Places.{places_of, place_at, with_place, without_place, all_placed, last_place}
 use Rattle.ndc_shard_runs.specs.RunMap.{AreParts, all_of, all_arrived, batches_of, run_at, run_in, begun, grown, with_run, with_grown, with_batch}
 use Rattle.ndc_shard_runs.proofs.AllLemmas.{all-with, none-arrived}
-use Rattle.ndc_shard_runs.proofs.ArrivedLemmas.{arrived-less, Compared, compared, less, same, more}
+use Rattle.ndc_shard_runs.proofs.ArrivedLemmas.{arrived-less}
 use Rattle.ndc_shard_runs.proofs.PlaceLemmas.{place, place-batch, last-batch, with-arrived, without-with, placed-behind}
 use Rattle.ndc_shard_runs.proofs.ReadLemmas.{run-there, place-run}
 use Rattle.ndc_shard_runs.proofs.TipLemmas.{none-map, some-map, got}
@@ -93,9 +93,6 @@ arrived-alone [] rise = refl
 arrived-alone (b ∷ batches) rise = ap (arrived b) (arrived-alone batches rise.1) ∙ arrived-first b batches rise.0
 
 module _ (runs : List TreeValue) (one : AreOne runs) where
-  pub none-all : None ≡ slice_get runs 0 → all_of runs ≡ []
-  none-all e = ap all_of (one-none runs e)
-
   pub one-all : (t : TreeValue) → Some t ≡ slice_get runs 0 → Rise t.batches → all_of runs ≡ t.batches
   one-all t e rise = ap all_of (one-some runs t one e) ∙ arrived-alone t.batches rise
 
@@ -113,17 +110,6 @@ module _ (runs : List TreeValue) (one : AreOne runs) where
 -- a key that is not there has no run
 pub none-with : (key : BatchKey) (runs : List TreeValue) → batch_at key (all_of runs) ≡ None → None ≡ run_with key runs
 none-with key runs none = sym (ap (λ (o : Option Batch). run_named o runs) none)
-
--- with one run more, or the same
-pub first-one : (b : Batch) (runs : List TreeValue) → runs ≡ [] → AreOne (with_batch b runs)
-first-one b runs e = subst (λ (l : List TreeValue). AreOne (with_batch b l)) (sym e) tt
-
-pub same-one : (b : Batch) (runs : List TreeValue) (t : TreeValue) → runs ≡ t ∷ [] → same_run t.run b.run ≡ true → AreOne (with_batch b runs)
-same-one b runs t e own = subst (λ (l : List TreeValue). AreOne (with_batch b l)) (sym e) (by (same_run t.run b.run) own)
-  where
-    by : (s : Bool) → s ≡ true → AreOne (if is_some (if s then Some t else None) then (if s then grown b t ∷ [] else t ∷ []) else with_run (begun b) (t ∷ []))
-    by true h = tt
-    by false h = absurd (cc)
 
 -- what the place of a key gives
 module _ (runs : List TreeValue) (places : List (BatchKey × RunId)) (key : BatchKey) (are : places ≡ places_of (all_of runs)) where

@@ -25,7 +25,7 @@ use Rattle.ndc_state.specs.Value.{StateValue}
 use Rattle.ndc_shard_runs.specs.Kept.{AreKnown, after_batch, follows, is_open, Follows, after_any, lies_beside}
 use Rattle.ndc_shard_runs.specs.RunMap.{all_of, batches_of, part_of, run_at, begun, grown, with_run, with_grown, with_batch}
 use Rattle.ndc_shard_runs.proofs.AllLemmas.{all-with, parts-with}
-use Rattle.ndc_shard_runs.proofs.ArrivedLemmas.{Rise-arrived, none-before, none-after, none-filter, filter-arrived, arrived-swap, greatest-arrived}
+use Rattle.ndc_shard_runs.proofs.ArrivedLemmas.{Rise-arrived, none-before, none-after, filter-arrived, arrived-swap, greatest-arrived}
 use Rattle.ndc_shard_runs.proofs.BesideLemmas.{known-any}
 use Rattle.ndc_shard_runs.proofs.FollowLemmas.{known-when, follows-is, follows-both}
 use Rattle.ndc_shard_runs.proofs.LearnLemmas.{found-run}

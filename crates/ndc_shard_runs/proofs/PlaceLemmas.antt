@@ -112,16 +112,3 @@ without-with key run (p ∷ ps) none = by (key_lt key p.0) (key_eq key p.0) (key
     by false true false f g h none rest =
         let t : key_eq p.0 key ≡ true = subst (λ (k : BatchKey). key_eq k key ≡ true) (same-keys key p.0 g) (key_eq-self key) in absurd (cc)
     by false false false f g h none rest = rw (f, g, h) (ap (λ l. p ∷ l) (rest none))
-
--- another key stands where it did
-pub place-other : (key other : BatchKey) (run : RunId) (places : List (BatchKey × RunId)) → key_eq key other ≡ false → place_at other (with_place key run places) ≡ place_at other places
-place-other key other run [] e = rw e refl
-place-other key other run (p ∷ ps) e = by (key_lt key p.0) (key_eq key p.0) refl refl (place-other key other run ps e)
-  where
-    unlike : key_eq key p.0 ≡ true → key_eq p.0 other ≡ false
-    unlike g = subst (λ (k : BatchKey). key_eq k other ≡ false) (same-keys key p.0 g) e
-
-    by : (l t : Bool) → key_lt key p.0 ≡ l → key_eq key p.0 ≡ t → place_at other (with_place key run ps) ≡ place_at other ps → place_at other (with_place key run (p ∷ ps)) ≡ place_at other (p ∷ ps)
-    by true t f g rest = rw (f, e) refl
-    by false true f g rest = rw (f, g, unlike g) refl
-    by false false f g rest = rw (f, g) (ap (λ o. if key_eq p.0 other then Some p.1 else o) rest)

@@ -21,11 +21,11 @@ use Rattle.ndc_model_sets.proofs.SetLemmas.{found-has}
 use Rattle.ndc_tree.proofs.LastLemmas.{last-among, none-last}
 use Rattle.ndc_model_sets.specs.Last.{last_batch}
 use Rattle.ndc_tree.specs.Tree.{TreeValue}
-use Rattle.ndc_shard_runs.specs.Places.{places_of, place_at, last_place}
+use Rattle.ndc_shard_runs.specs.Places.{places_of, place_at}
 use Rattle.ndc_shard_runs.specs.RunMap.{part_of, run_in, run_at, batches_of}
 use Rattle.ndc_shard_runs.proofs.LearnLemmas.{found-run}
 use Rattle.ndc_shard_runs.proofs.PartLemmas.{has-part, found-part, part-state, part-tip}
-use Rattle.ndc_shard_runs.proofs.PlaceLemmas.{place, place-batch, last-batch}
+use Rattle.ndc_shard_runs.proofs.PlaceLemmas.{place-batch}
 
 pub last-above : (batches : List Batch) (m : Batch) → Rise batches → last_batch batches ≡ Some m → (x : Batch) → Among x batches → (x ≡ m) ⊎ (key_lt x.key m.key ≡ true)
 last-above [] m rise h x among = absurd among
@@ -112,13 +112,6 @@ module _ (batches : List Batch) (sound : IsSound batches) where
           let own : b.run ≡ run = cc in
           ap (λ i. run_at i runs) (sym own) ∙ run-there runs parts b (found-has batches key b at) ∙ sym (ap (option_map (λ x. run_in batches x.run)) at)
 
-  pub no-place : (key : BatchKey) → place_at key (places_of batches) ≡ None → batch_at key batches ≡ None
-  no-place key h = by (batch_at key batches) (sym (place-batch key batches) ∙ h)
-    where
-      by : (o : Option Batch) → option_map (λ b. b.run) o ≡ None → o ≡ None
-      by None e = refl
-      by (Some b) e = absurd (cc)
-
 -- the batch of a key in the run that has it
 pub at-part : (batches : List Batch) → IsSound batches → (key : BatchKey) (b : Batch) → batch_at key batches ≡ Some b → batch_at key (part_of b.run batches) ≡ Some b
 at-part batches sound key b at = found-part batches sound b.run key b at refl
@@ -145,21 +138,6 @@ version-of-last batches m rise e = version-up batches rise ∙ ap version_of e
 
 pub no-version : (batches : List Batch) → last_batch batches ≡ None → greatest_version batches ≡ 0
 no-version batches e = ap greatest_version (none-last batches e)
-
--- what the last place tells of the last batch
-pub last-none : (batches : List Batch) → last_place (places_of batches) ≡ None → last_batch batches ≡ None
-last-none batches h = by (last_batch batches) (sym (last-batch batches) ∙ h)
-  where
-    by : (o : Option Batch) → option_map (λ b. place b) o ≡ None → o ≡ None
-    by None e = refl
-    by (Some b) e = absurd (cc)
-
-pub last-some : (batches : List Batch) (p : BatchKey × RunId) → last_place (places_of batches) ≡ Some p → (m : Batch) × (last_batch batches ≡ Some m) × (m.key ≡ p.0) × (m.run ≡ p.1)
-last-some batches p h = by (last_batch batches) refl (sym (last-batch batches) ∙ h)
-  where
-    by : (o : Option Batch) → last_batch batches ≡ o → option_map (λ b. place b) o ≡ Some p → (m : Batch) × (last_batch batches ≡ Some m) × (m.key ≡ p.0) × (m.run ≡ p.1)
-    by None at e = absurd (cc)
-    by (Some m) at e = let one : place m ≡ p = cc in (m, at, ap (λ (q : BatchKey × RunId). q.0) one, ap (λ (q : BatchKey × RunId). q.1) one)
 
 -- a batch that was not there and leaves a sound set has no fault
 pub new-faultless : (b : Batch) (batches : List Batch) → IsSound batches → IsSound (arrived b batches) → batch_at b.key batches ≡ None → fault_of b ≡ None

@@ -1,8 +1,7 @@
 -- Where the run of an id stands among runs in the order of ids, and what changes there.
-use Rattle.std.proofs.Common.{◌≡◌, ℕ, zero, suc, ◌+◌, ◌<◌, ◌≤◌, Bool, true, false, nat_lt, ◌==◌, List, [], ◌∷◌, cond, length, set, insert, remove, get_or, slice_get, Option, Some, None, is_some, Result, Ok, Err, OnOk, OnErr, IfOk, IfErr, Ordering, Less, Equal, Greater, nat_cmp, if◌then◌else◌, refl, ap, sym, ◌∙◌, subst, arith}
+use Rattle.std.proofs.Common.{◌≡◌, ℕ, zero, suc, ◌<◌, ◌≤◌, Bool, true, false, nat_lt, ◌==◌, List, [], ◌∷◌, cond, length, set, insert, remove, get_or, slice_get, Some, None, Result, Ok, Err, OnOk, OnErr, IfOk, IfErr, Ordering, Less, Equal, Greater, nat_cmp, if◌then◌else◌, refl, ap, sym, ◌∙◌, subst, arith}
 use Rattle.std.proofs.lemmas.Bool.Decides.{nat_tests}
 use Rattle.std.specs.Ordering.{ordering_index}
-use Rattle.std.specs.List.{AllByRecursion}
 use Rattle.std.specs.List.Sorted.{IsSearchInRange, IsBinarySearchResult}
 use Rattle.ndc_event.specs.declared.key.RunId.{RunId}
 use Rattle.ndc_event.specs.declared.batch.Batch.{Batch}

@@ -1,17 +1,22 @@
 -- What runs settle, read of their parts.
-use Rattle.std.proofs.Common.{◌≡◌, Bool, true, false, not, ◌&&◌, List, [], ◌∷◌, ◌++◌, inl, inr, Option, Some, None, if◌then◌else◌, refl, sym, ◌∙◌, subst, ap, OnOk, Result, Ok, Err, ℕ, zero, suc, ◌<◌, length, get_or, arith}
+use Rattle.std.proofs.Common.{◌≡◌, ◌+◌, Bool, true, false, not, ◌&&◌, ◌||◌, List, [], ◌∷◌, ◌++◌, inl, inr, Option, Some, None, cond, if◌then◌else◌, refl, sym, ◌∙◌, subst, ap, ℕ, zero, suc, ◌<◌, length, get_or, arith}
 use Rattle.std.specs.Prelude.{map, is_none, is_some}
-use Rattle.std.specs.Result.{is_ok}
-use Rattle.std.specs.List.{filter_map, flat_map, cons_option}
+use Rattle.std.specs.List.{filter, filter_map, flat_map, cons_option, position, position_from}
 use Rattle.std.specs.Option.{option_map}
+use Rattle.std.proofs.lemmas.List.{append_assoc}
+use Rattle.std.proofs.lemmas.List.Elements.{filter-append}
+use Rattle.std.proofs.lemmas.List.Folds.{list_any-append}
+use Rattle.std.proofs.lemmas.Iterator.Adapters.{position_from-zero}
 use Rattle.ndc_event.specs.declared.batch.Batch.{Batch}
+use Rattle.ndc_event.specs.declared.batch.Event.{Event}
 use Rattle.ndc_event.specs.declared.key.BatchKey.{BatchKey}
 use Rattle.ndc_event.specs.declared.key.Origin.{Origin}
 use Rattle.ndc_event.specs.declared.key.RunId.{RunId}
 use Rattle.ndc_model_sets.specs.Branches.{current_tip, is_current_run, runs}
 use Rattle.ndc_model_sets.specs.Current.{current_state, state_at, state_to, status_of, is_zombie, run_status, origins_at, settled_by, settled_by_runs, settled, strays}
-use Rattle.ndc_reapply.specs.Strays.{strays_of}
-use Rattle.ndc_model_sets.specs.Origins.{signals}
+use Rattle.ndc_reapply.specs.Strays.{strays_of, with_stray}
+use Rattle.ndc_reapply.specs.declared.stray.Stray.{Stray}
+use Rattle.ndc_model_sets.specs.Origins.{signal_of, signals, signals_in}
 use Rattle.ndc_model_sets.specs.Paths.{events_to, path_to, versions_of}
 use Rattle.ndc_model_sets.specs.Sets.{Rise, batch_at, Has}
 use Rattle.ndc_model_sets.specs.Sound.{IsSound}
@@ -20,12 +25,14 @@ use Rattle.ndc_model_sets.proofs.CurrentLaws.{current-has}
 use Rattle.ndc_model_sets.proofs.Lists.{Among}
 use Rattle.ndc_model_sets.proofs.SetLemmas.{found-key, found-has}
 use Rattle.ndc_model_sets.proofs.ViewLaws.{origins_of_the_path}
+use Rattle.ndc_state.specs.Origins.{is_among, same_origin}
 use Rattle.ndc_state.specs.Value.{StateValue}
 use Rattle.ndc_model_sets.specs.Reading.{history_at, path_at}
 use Rattle.ndc_tree.specs.Tree.{TreeValue}
 use Rattle.ndc_shard_runs.specs.Places.{places_of}
 use Rattle.ndc_shard_runs.specs.RunMap.{part_of, run_in}
-use Rattle.ndc_shard_runs.specs.Settled.{settled_with, settled_from}
+use Rattle.ndc_shard_runs.specs.Kept.{is_unlisted}
+use Rattle.ndc_shard_runs.specs.Settled.{origins_seen, settled_with, settled_from, unsettled, unsettled_in}
 use Rattle.ndc_shard_runs.proofs.PartLemmas.{part-state, part-tip, part-path, part-events}
 use Rattle.ndc_shard_runs.proofs.ReadLemmas.{at-part}
 use Rattle.ndc_shard_runs.proofs.TipLemmas.{some-map}
@@ -124,11 +131,6 @@ module _ (batches : List Batch) (sound : IsSound batches) (key : BatchKey) (r : 
       ap (λ (v : TreeValue). path_at key v.batches) (sym found.2) ∙ ap (λ (o : Option Batch). option_map (λ _. path_to key (part_of found.0.run batches)) o) same-at
       ∙ ap (λ (path : List Batch). option_map (λ _. path) (batch_at key batches)) path-same
 
--- what was added, where there was memory
-pub added : {X E U : Type 0} (r : Result U E) (new old more : List X) → new ≡ (if is_ok r then old ++ more else old) → OnOk r (new ≡ old ++ more)
-added (Ok u) new old more e = e
-added (Err u) new old more e = tt
-
 -- an item of a list that rises is one of its batches
 pub item-has : {R : Type 0} (f : R → Batch) (items : List R) (i : ℕ) (x : R) → Rise (map f items) → i < length items → x ≡ get_or items i x → Has (map f items) (f x)
 item-has f items i x rise l e = among-has (map f items) (f x) rise (among f items i x l e)
@@ -138,7 +140,68 @@ item-has f items i x rise l e = among-has (map f items) (f x) rise (among f item
     among f (y ∷ ys) zero x l e = inl (ap f e)
     among f (y ∷ ys) (suc i) x l e = inr (among f ys i x (omega (arith, l)) e)
 
+-- the signals that are not settled, event by event and batch by batch
+unsettled-in : (origins : List Origin) (run : RunId) (events : List Event) → unsettled_in origins run events ≡ filter (is_unlisted origins) (signals_in run events)
+unsettled-in origins run [] = refl
+unsettled-in origins run (e ∷ events) = by (signal_of run e.id e.version e.kind) (unsettled-in origins run events)
+  where
+    by : (o : Option Stray) → unsettled_in origins run events ≡ filter (is_unlisted origins) (signals_in run events)
+        → filter (is_unlisted origins) (cons_option o []) ++ unsettled_in origins run events ≡ filter (is_unlisted origins) (cons_option o (signals_in run events))
+    by None rest = rest
+    by (Some stray) rest = ap (λ l. filter (is_unlisted origins) (stray ∷ []) ++ l) rest ∙ sym (filter-append (is_unlisted origins) (stray ∷ []) (signals_in run events))
+
+unsettled-is : (origins : List Origin) (batches : List Batch) → unsettled origins batches ≡ filter (is_unlisted origins) (signals batches)
+unsettled-is origins [] = refl
+unsettled-is origins (b ∷ batches) =
+    ap (λ l. l ++ unsettled origins batches) (unsettled-in origins b.run b.events) ∙ ap (λ l. filter (is_unlisted origins) (signals_in b.run b.events) ++ l) (unsettled-is origins batches)
+    ∙ sym (filter-append (is_unlisted origins) (signals_in b.run b.events) (signals batches))
+
+-- signals that are not settled are strays, whatever else is settled
+strays-left : (origins : List Origin) (list : List Stray) → strays_of (filter (is_unlisted origins) list) [] ≡ strays_of list origins
+strays-left origins [] = refl
+strays-left origins (stray ∷ list) = by (is_among stray.origin origins) (strays-left origins list)
+  where
+    by : (t : Bool) → strays_of (filter (is_unlisted origins) list) [] ≡ strays_of list origins
+        → strays_of (cond (not t) (stray ∷ filter (is_unlisted origins) list) (filter (is_unlisted origins) list)) [] ≡ (if t then strays_of list origins else with_stray stray (strays_of list origins))
+    by true rest = rest
+    by false rest = ap (with_stray stray) rest
+
 -- the strays, by what the runs of all batches settle
-pub strays-by : (batches all : List Batch) (settled_by : List Origin) → all ≡ batches → settled_by ≡ flat_map (settled_from batches) all → strays_of (signals all) settled_by ≡ strays batches
-strays-by batches all settled_by same e =
-    ap (strays_of (signals all)) (e ∙ ap (flat_map (settled_from batches)) same ∙ settled-from batches batches) ∙ ap (λ l. strays_of (signals l) (settled batches)) same
+pub strays-by : (batches all : List Batch) (origins : List Origin) → all ≡ batches → origins ≡ flat_map (settled_from batches) all → strays_of (unsettled origins all) [] ≡ strays batches
+strays-by batches all origins are e =
+    ap (λ l. strays_of l []) (unsettled-is origins all) ∙ strays-left origins (signals all)
+    ∙ ap (strays_of (signals all)) (e ∙ ap (flat_map (settled_from batches)) are ∙ settled-from batches batches) ∙ ap (λ l. strays_of (signals l) (settled batches)) are
+
+-- what states have seen, with one state more
+pub seen-more : {R : Type 0} (f : R → StateValue) (items : List R) (x : R) → origins_seen (map f (items ++ x ∷ [])) ≡ origins_seen (map f items) ++ (f x).origins
+seen-more f [] x = nothing (f x).origins
+  where
+    nothing : (l : List Origin) → l ++ [] ≡ l
+    nothing [] = refl
+    nothing (o ∷ l) = ap (λ m. o ∷ m) (nothing l)
+seen-more f (y ∷ items) x = ap (λ l. (f y).origins ++ l) (seen-more f items x) ∙ sym (append_assoc (f y).origins (origins_seen (map f items)) (f x).origins)
+
+-- an origin that one of the states has seen
+pub seen-at : {R : Type 0} (f : R → StateValue) (items : List R) (o : Origin) (i : ℕ) (x : R) → i < length items → x ≡ get_or items i x → is_among o (f x).origins ≡ true → is_among o (origins_seen (map f items)) ≡ true
+seen-at f [] o i x l at e = absurd (omega (arith, l))
+seen-at {R = R} f (y ∷ items) o zero x l at e =
+    list_any-append (same_origin o) (f y).origins (origins_seen (map f items)) ∙ ap (λ t. t || is_among o (origins_seen (map f items))) (ap (λ (z : R). is_among o (f z).origins) (sym at) ∙ e)
+seen-at f (y ∷ items) o (suc i) x l at e =
+    list_any-append (same_origin o) (f y).origins (origins_seen (map f items)) ∙ ap (λ t. is_among o (f y).origins || t) (seen-at f items o i x (omega (arith, l)) at e) ∙ or-true (is_among o (f y).origins)
+  where
+    or-true : (t : Bool) → (t || true) ≡ true
+    or-true true = refl
+    or-true false = refl
+
+any-seen : {R : Type 0} (f : R → StateValue) (items : List R) (o : Origin) (i : ℕ) → is_some (position_from (λ x. is_among o (f x).origins) i items) ≡ is_among o (origins_seen (map f items))
+any-seen f [] o i = refl
+any-seen f (y ∷ items) o i =
+    by (is_among o (f y).origins) (any-seen f items o (i + 1)) ∙ sym (list_any-append (same_origin o) (f y).origins (origins_seen (map f items)))
+  where
+    by : (t : Bool) → is_some (position_from (λ x. is_among o (f x).origins) (i + 1) items) ≡ is_among o (origins_seen (map f items))
+        → is_some (cond t (Some i) (position_from (λ x. is_among o (f x).origins) (i + 1) items)) ≡ (t || is_among o (origins_seen (map f items)))
+    by true rest = refl
+    by false rest = rest
+
+pub seen-first : {R : Type 0} (f : R → StateValue) (items : List R) (o : Origin) → is_some (position (λ x. is_among o (f x).origins) items) ≡ is_among o (origins_seen (map f items))
+seen-first f items o = ap is_some (position_from-zero (λ x. is_among o (f x).origins) items) ∙ any-seen f items o 0

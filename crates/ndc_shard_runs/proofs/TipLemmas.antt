@@ -17,10 +17,8 @@ use Rattle.ndc_model_sets.specs.Last.{is_nil, last_batch}
 use Rattle.ndc_shard_runs.specs.Kept.{is_idle, is_open}
 use Rattle.ndc_tree.proofs.LastLemmas.{none-last}
 use Rattle.ndc_tree.specs.Tree.{TreeValue}
-use Rattle.ndc_shard_runs.specs.Places.{places_of, place_at, last_place}
 use Rattle.ndc_shard_runs.specs.RunMap.{part_of, run_in, run_at, batches_of}
-use Rattle.ndc_shard_runs.proofs.PlaceLemmas.{place-batch}
-use Rattle.ndc_shard_runs.proofs.ReadLemmas.{tip-is-last, last-has, last-state, last-none, last-some, no-place, version-of-last, no-version, at-part}
+use Rattle.ndc_shard_runs.proofs.ReadLemmas.{tip-is-last, last-has, last-state, version-of-last, no-version, at-part}
 
 -- where nothing is made of what there is, there is nothing
 pub none-map : {X Y : Type 0} (f : X → Y) (o : Option X) → None ≡ option_map f o → o ≡ None
@@ -33,13 +31,6 @@ some-map f (Some x) y e = (x, refl, by f x y e)
   where
     by : {X Y : Type 0} (f : X → Y) (x : X) (y : Y) → Some y ≡ Some (f x) → f x ≡ y
     by f x y e = cc
-
--- the last key of the places is that of the last batch
-pub last-key-none : (batches : List Batch) → None ≡ last_place (places_of batches) → None ≡ option_map (λ b. b.key) (last_batch batches)
-last-key-none batches e = sym (ap (option_map (λ b. b.key)) (last-none batches (sym e)))
-
-pub last-key-some : (batches : List Batch) (p : BatchKey × RunId) → Some p ≡ last_place (places_of batches) → Some p.0 ≡ option_map (λ b. b.key) (last_batch batches)
-last-key-some batches p e = let m = last-some batches p (sym e) in ap Some (sym m.2) ∙ sym (ap (option_map (λ b. b.key)) m.1)
 
 module _ (batches : List Batch) (sound : IsSound batches) where
   pub tip-none : None ≡ option_map (λ b. b.key) (last_batch batches) → None ≡ workflow_tip batches
@@ -77,14 +68,7 @@ module _ (batches : List Batch) (sound : IsSound batches) where
         same : {X : Type 0} {x y : X} → Some x ≡ Some y → x ≡ y
         same e = cc
 
--- the run of a key
-pub run-id : (batches : List Batch) (key : BatchKey) → place_at key (places_of batches) ≡ option_map (λ b. b.run) (batch_at key batches)
-run-id batches key = place-batch key batches
-
 module _ (batches : List Batch) (sound : IsSound batches) (key : BatchKey) where
-  pub run-none : None ≡ place_at key (places_of batches) → None ≡ option_map (λ b. run_in batches b.run) (batch_at key batches)
-  run-none e = sym (ap (option_map (λ b. run_in batches b.run)) (no-place batches sound key (sym e)))
-
   -- a batch of a key is in its run
   pub got : (r : TreeValue) → Some r ≡ option_map (λ b. run_in batches b.run) (batch_at key batches) → batch_at key r.batches ≡ batch_at key batches
   got r e =

@@ -4,7 +4,7 @@ ghost use Rattle.ndc_event.specs.Batch.{fault_of};
 ghost use Rattle.ndc_event.specs.Key.{key_eq};
 ghost use Rattle.ndc_model_sets.specs.Branches.{same_run};
 ghost use Rattle.ndc_model_sets.specs.Reading.{current_key};
-ghost use Rattle.ndc_model_sets.specs.Sets.{Rise, batch_at};
+ghost use Rattle.ndc_model_sets.specs.Sets.{batch_at};
 ghost use Rattle.ndc_model_sets.specs.Sound.{IsSound};
 ghost use Rattle.ndc_run.specs.Learning.{learned};
 ghost use Rattle.ndc_shard_runs.specs.Index.{AreIndexed, AreOne, left, run_with};

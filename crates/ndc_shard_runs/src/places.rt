@@ -21,8 +21,8 @@ impl Model for Places {
 }
 
 impl Places {
-    ghost use Rattle.std.specs.Prelude.{◌≡◌, [], map, None, IfOk, OnOk, OnErr};
-    ghost use Rattle.std.specs.Option.{option_copied, option_map};
+    ghost use Rattle.std.specs.Prelude.{◌≡◌, [], map, IfOk, OnOk, OnErr};
+    ghost use Rattle.std.specs.Option.{option_map};
     ghost use Rattle.ndc_model_sets.specs.Sets.{Rise};
     ghost use Rattle.ndc_shard_runs.specs.Places.{place_at, places_of, with_place, without_place, last_place};
 

@@ -1,5 +1,5 @@
 -- A batch without a parent, with which the set is sound, is the first of its run.
-use Rattle.std.proofs.Common.{ℕ, ◌≡◌, ◌+◌, ◌*◌, ◌<◌, ◌^◌, Bool, true, false, ◌==◌, List, [], ◌∷◌, ◌⊎◌, inl, inr, Option, Some, None, max, refl, sym, ◌∙◌, subst, ap, arith}
+use Rattle.std.proofs.Common.{ℕ, ◌≡◌, ◌+◌, ◌*◌, ◌<◌, ◌^◌, true, ◌==◌, List, [], ◌∷◌, inl, Option, Some, None, refl, sym, ◌∙◌, subst, ap, arith}
 use Rattle.std.proofs.lemmas.Bool.{and_parts, eqb-true}
 use Rattle.ndc_model_cells.specs.Writing.{greatest_task}
 use Rattle.ndc_event.specs.Batch.{fault_of, is_first_fit}

@@ -1,5 +1,5 @@
 -- A workflow where a message is learned, with what waits for it.
-use Rattle.std.proofs.Common.{◌≡◌, true, not, List, [], ◌∷◌, Some, sym, ◌∙◌, subst, ap}
+use Rattle.std.proofs.Common.{◌≡◌, true, not, List, Some, sym, ◌∙◌, subst, ap}
 use Rattle.std.specs.Prelude.{map}
 use Rattle.std.specs.List.{AllByRecursion, filter}
 use Rattle.ndc_model_cells.specs.declared.message.Message.{Message}

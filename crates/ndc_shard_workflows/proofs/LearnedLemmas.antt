@@ -2,7 +2,6 @@
 use Rattle.std.proofs.Common.{◌≡◌, Bool, true, false, not, List, [], ◌∷◌, ◌++◌, Option, Some, None, cond, map, refl, sym, ◌∙◌, subst, ap, true≢false}
 use Rattle.std.specs.Prelude.{option_to_list, if◌then◌else◌}
 use Rattle.std.specs.List.{AllByRecursion, filter}
-use Rattle.std.specs.Str.{bytes_eq}
 use Rattle.std.proofs.lemmas.List.{map-append, map-id}
 use Rattle.ndc_model_cells.specs.Cells.{Cell, arrived_of, is_learned_in}
 use Rattle.ndc_model_cells.specs.Jobs.{workflows_of}
@@ -19,7 +18,7 @@ use Rattle.ndc_shard_workflows.specs.Behind.{first_batch}
 use Rattle.ndc_shard_workflows.specs.Named.{all_under}
 use Rattle.ndc_shard_workflows.specs.Reading.{learned_in_all, learned_in_domain, learned_workflows, named_where_learned}
 use Rattle.ndc_shard_workflows.specs.Workflow.{is_learned}
-use Rattle.ndc_shard_workflows.specs.Workflows.{AreDomains, AreOwn, DomainValue, IsOwn, cell_of, found, workflow_or_empty}
+use Rattle.ndc_shard_workflows.specs.Workflows.{AreDomains, AreOwn, DomainValue, IsOwn, cell_of}
 use Rattle.ndc_shard_workflows.proofs.BehindLemmas.{workflow-own}
 use Rattle.ndc_shard_workflows.proofs.CellLemmas.{filter-swap, learned-own}
 use Rattle.ndc_shard_workflows.proofs.DomainLemmas.{arrived-ordered, items-of-workflow, items-ordered, workflow-there}

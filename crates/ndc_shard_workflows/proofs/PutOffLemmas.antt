@@ -1,19 +1,18 @@
 -- A workflow where a message is put off, and what its put-off batches miss.
-use Rattle.std.proofs.Common.{◌≡◌, Bool, true, false, not, List, [], ◌∷◌, Option, Some, None, IsSome, cond, refl, sym, ◌∙◌, subst, ap, true≢false}
+use Rattle.std.proofs.Common.{◌≡◌, false, not, List, [], ◌∷◌, Option, Some, None, IsSome, cond, refl, sym, ◌∙◌, subst, ap, true≢false}
 use Rattle.std.specs.Prelude.{is_some, map, unwrap_or}
 use Rattle.std.specs.Option.{option_or}
 use Rattle.std.specs.List.{AllByRecursion, filter}
 use Rattle.ndc_model_cells.specs.declared.message.Message.{Message}
-use Rattle.ndc_model_cells.specs.declared.job.Arrived.{Arrived}
 use Rattle.ndc_model_cells.specs.declared.job.Arrived.TheVariants.{PutOff}
 use Rattle.ndc_model_cells.specs.Arrival.{arrival_in}
 use Rattle.ndc_model_cells.specs.Cells.{both, missing_of}
 use Rattle.ndc_event.specs.declared.batch.Batch.{Batch}
 use Rattle.ndc_event.specs.declared.key.BatchKey.{BatchKey}
 use Rattle.ndc_model_sets.specs.Learned.{has_key, learned}
-use Rattle.ndc_model_sets.specs.Sets.{earlier, batch_at, Has}
+use Rattle.ndc_model_sets.specs.Sets.{earlier, batch_at}
 use Rattle.ndc_model_sets.proofs.BranchLemmas.{Rise-filter}
-use Rattle.ndc_model_sets.proofs.SetLemmas.{found-key, found-all, found-has}
+use Rattle.ndc_model_sets.proofs.SetLemmas.{found-key, found-all}
 use Rattle.ndc_shard_waiting.specs.Learning.{with_message, with_messages, ArePutOff}
 use Rattle.ndc_model_cells.specs.Messages.{batches_of, IsMessage, IsNewTo, HasSmallIds}
 use Rattle.ndc_shard_waiting.specs.Waiting.{put_off, missing_from, CanWait}
@@ -22,7 +21,7 @@ use Rattle.ndc_shard_waiting.proofs.FreeLemmas.{filter-found, all-there, none_le
 use Rattle.ndc_shard_waiting.proofs.LawLemmas.{nothing_new, answers_missing}
 use Rattle.ndc_shard_waiting.proofs.LearnLemmas.{learned_is, set-all, found-all-of}
 use Rattle.ndc_shard_waiting.proofs.MissingLemmas.{missing_is}
-use Rattle.ndc_shard_waiting.proofs.OrderLemmas.{all-more, same-found}
+use Rattle.ndc_shard_waiting.proofs.OrderLemmas.{same-found}
 use Rattle.ndc_shard_waiting.proofs.PutLemmas.{batches-put}
 use Rattle.ndc_model_cells.specs.Workflow.{WorkflowValue}
 use Rattle.ndc_shard_workflows.specs.Workflow.{IsWorkflow, beside, put_off_in, still_waiting, all_missing, workflow_with, learned_with}

@@ -1,5 +1,5 @@
 -- A small worked workflow: the second batch of a run comes before the first.
-use Rattle.std.specs.Prelude.{List, [], ◌∷◌, Some, None}
+use Rattle.std.specs.Prelude.{[], ◌∷◌, Some, None}
 use Rattle.ndc_model_cells.specs.declared.message.Message.{Message}
 use Rattle.ndc_event.specs.declared.batch.Batch.{Batch}
 use Rattle.ndc_event.specs.declared.kind.EventKind.TheVariants.{DecisionTaskStarted}

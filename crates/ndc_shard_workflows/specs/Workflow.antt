@@ -9,7 +9,6 @@ use Rattle.ndc_model_cells.specs.Cells.{missing_of}
 use Rattle.ndc_event.specs.declared.batch.Batch.{Batch}
 use Rattle.ndc_event.specs.declared.key.BatchKey.{BatchKey}
 use Rattle.ndc_model_sets.specs.Learned.{has_key, learned}
-use Rattle.ndc_model_sets.specs.Sets.{batch_at}
 use Rattle.ndc_state.specs.Counted.{counted}
 use Rattle.ndc_shard_waiting.specs.Learning.{with_message, with_messages, ArePutOff}
 use Rattle.ndc_shard_waiting.specs.Waiting.{put_off}

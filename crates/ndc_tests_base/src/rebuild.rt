@@ -54,7 +54,7 @@ fn batch(alloc: Global, count: u16) -> Result<Batch, AllocError>
         },
         parent: None,
         carrier: None,
-        events: Events::new(events),
+        events: Events::new(alloc, events)?,
     })
 }
 

@@ -31,7 +31,7 @@ fn batch(
         key,
         parent,
         carrier,
-        events: Events::new(events),
+        events: Events::new(alloc, events)?,
     })
 }
 

@@ -81,7 +81,7 @@ pub(crate) fn begun(alloc: Global, task: u64) -> Result<Batch, AllocError>
         key: key(task),
         parent: None,
         carrier: None,
-        events: Events::new(events),
+        events: Events::new(alloc, events)?,
     })
 }
 
@@ -98,7 +98,7 @@ pub(crate) fn started(alloc: Global) -> Result<Batch, AllocError>
         key: key(2),
         parent: Some(key(1)),
         carrier: None,
-        events: Events::new(events),
+        events: Events::new(alloc, events)?,
     })
 }
 

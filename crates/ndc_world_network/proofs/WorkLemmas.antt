@@ -11,9 +11,7 @@ use Rattle.ndc_domain.specs.declared.clusters.ClusterNo.{ClusterNo}
 use Rattle.ndc_domain.specs.declared.record.DomainRecord.{DomainRecord}
 use Rattle.ndc_graceful.specs.declared.handover.Handover.{Handover}
 use Rattle.ndc_letters.specs.declared.letter.Letter.{Letter}
-use Rattle.ndc_progress.specs.declared.report.Report.{Report}
 use Rattle.ndc_model.specs.Letters.{with_letters}
-use Rattle.ndc_model.specs.Progress.{with_reports}
 use Rattle.ndc_model.specs.World.{Cluster, Link, World, cluster_at, new_cluster, newly_naming, with_cells, with_cluster, with_late, with_table}
 use Rattle.ndc_world_network.proofs.LinkLemmas.{stands}
 use Rattle.ndc_world_network.specs.Networks.{StandsAt, world_of}
@@ -49,9 +47,6 @@ module _ (sites : List SiteValue) (links : List Link) (handovers : List Handover
 
   pub letters_change : (letters : List Letter) → world_of (set sites cluster.number (record site { cluster = record site.cluster { letters = letters } })) links handovers ≡ with_letters cluster letters (world_of sites links handovers)
   letters_change letters = cluster_change (λ (c : Cluster). record c { letters = letters })
-
-  pub reports_change : (reports : List Report) → world_of (set sites cluster.number (record site { cluster = record site.cluster { reports = reports } })) links handovers ≡ with_reports cluster reports (world_of sites links handovers)
-  reports_change reports = cluster_change (λ (c : Cluster). record c { reports = reports })
 
   -- its table is another, and the links become those of readers that noted what comes to name them
   pub table_change : (table : List DomainRecord) → world_of (set sites cluster.number (record site { cluster = record site.cluster { table = table } })) (map (with_late cluster site.cluster.table table) links) handovers

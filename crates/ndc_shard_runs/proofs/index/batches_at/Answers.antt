@@ -1,4 +1,4 @@
-use Rattle.std.proofs.Common.{◌++◌, List, map, ◌∙◌, ap}
+use Rattle.std.proofs.Common.{◌++◌, map, ◌∙◌, ap}
 use Rattle.std.specs.List.{filter_map}
 use Rattle.ndc_model_sets.specs.Sets.{batch_at}
 use Rattle.ndc_shard_runs.specs.RunMap.{all_of}

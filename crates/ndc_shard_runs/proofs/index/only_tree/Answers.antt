@@ -1,5 +1,4 @@
 use Rattle.std.proofs.Common.{ap, sym, ◌∙◌}
-use Rattle.ndc_shard_runs.specs.RunMap.{all_of}
 use Rattle.ndc_tree.specs.Tree.{TreeValue}
 use Rattle.ndc_shard_runs.proofs.IndexLemmas.{one-all}
 use Rattle.ndc_shard_runs.proofs.index.only_tree.Goals as goal

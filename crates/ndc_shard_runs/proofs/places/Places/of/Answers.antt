@@ -1,7 +1,7 @@
-use Rattle.std.proofs.Common.{[], List, length, drop, map, ◌∙◌, ap, sym}
+use Rattle.std.proofs.Common.{[], List, map, ◌∙◌, ap, sym}
 use Rattle.std.proofs.lemmas.List.{drop_all}
 use Rattle.ndc_event.specs.declared.batch.Batch.{Batch}
-use Rattle.ndc_shard_runs.specs.Places.{all_placed, places_of}
+use Rattle.ndc_shard_runs.specs.Places.{all_placed}
 use Rattle.ndc_shard_runs.proofs.IndexLemmas.{all-placed, before-all}
 use Rattle.ndc_shard_runs.proofs.places.Places.of.Goals as goal
 

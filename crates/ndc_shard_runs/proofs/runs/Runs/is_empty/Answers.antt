@@ -1,4 +1,3 @@
-use Rattle.std.proofs.Common.{◌∙◌, ap}
 use Rattle.ndc_shard_runs.proofs.TipLemmas.{nil-last}
 use Rattle.ndc_shard_runs.proofs.runs.Runs.is_empty.Goals as goal
 

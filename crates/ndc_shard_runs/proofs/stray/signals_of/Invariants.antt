@@ -1,7 +1,0 @@
-use Rattle.std.proofs.Common.{◌≡◌, ◌++◌, map, drop}
-use Rattle.ndc_model_sets.specs.Origins.{signals}
-use Rattle.ndc_shard_runs.proofs.stray.signals_of.Given as goal
-
--- the signals so far, and those of the other batches, are all
-abbrev pub invariant-loop-batch : goal.invariant-loop-batch
-invariant-loop-batch l = l.list.items ++ signals (map (λ b. b.now) (drop l.batch-index l.batches)) ≡ signals (map (λ b. b.now) l.batches)
