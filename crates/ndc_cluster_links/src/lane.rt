@@ -1,4 +1,5 @@
-ghost use Rattle.std.specs.Prelude.{◌≡◌, ◌≤◌, ◌+◌, ◌-◌, ◌^◌, drop, length, prefix_len, List};
+ghost use Rattle.std.specs.Prelude.{◌≡◌, ◌≤◌, ◌+◌, ◌-◌, ◌^◌, drop, length, List};
+ghost use Rattle.std.specs.List.{prefix_len};
 ghost use Rattle.ndc_model.specs.Queues.{needs_nothing};
 ghost use Rattle.ndc_model_cells.specs.declared.message.Message.{Message as Sent};
 ghost use Rattle.ndc_cluster_links.specs.Rest.{IsRestOf};
