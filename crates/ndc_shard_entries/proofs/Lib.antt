@@ -7,3 +7,4 @@ pub mod NewRunLemmas
 pub mod ResetLemmas
 pub mod TipLemmas
 pub mod WriterLemmas
+pub mod AgainLemmas
