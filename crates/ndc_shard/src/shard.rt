@@ -107,7 +107,10 @@ impl Shard {
         let clusters = desk.clusters();
         let me = desk.me();
         let table = desk.table();
-        let version = writes_to(clusters, me, table.find(domain))?;
+        let version = match writes_to(clusters, me, table.find(domain)) {
+            Ok(version) => version,
+            Err(refusal) => return Err(refusal),
+        };
         match self.runs(domain, workflow) {
             Some(runs) => unless_behind(version, runs),
             None => Ok(version),
