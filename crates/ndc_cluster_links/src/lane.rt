@@ -1,4 +1,6 @@
-ghost use Rattle.std.specs.Prelude.{◌≡◌, ◌≤◌, ◌+◌, ◌-◌, ◌^◌, length, List};
+ghost use Rattle.std.specs.Prelude.{◌≡◌, ◌≤◌, ◌+◌, ◌-◌, ◌^◌, drop, length, List};
+ghost use Rattle.std.specs.List.{prefix_len};
+ghost use Rattle.ndc_model.specs.Queues.{needs_nothing};
 ghost use Rattle.ndc_model_cells.specs.declared.message.Message.{Message as Sent};
 ghost use Rattle.ndc_cluster_links.specs.Rest.{IsRestOf};
 ghost use Rattle.ndc_queue.specs.Lists.{entries_from};
@@ -44,6 +46,26 @@ fn entries_of(queue: &Queue, level: u64, count: Option<u64>) -> &[Message]
         Some(count) if count < entries.len() as u64 => &entries[..count as usize],
         _ => entries,
     }
+}
+
+/// How many of a queue's entries from a level on there are for which nothing is to be done. Where the level is its end, no
+/// entry is looked at.
+fn settled_from<C: Learns>(
+    table: &DomainTable,
+    reader: ClusterNo,
+    cell: &C,
+    queue: &Queue,
+    level: u64,
+) -> usize
+    requires first { queue.now.first ≤ level }
+    requires last { level ≤ queue_len queue.now }
+    ensures front { (whole : List Sent) → IsRestOf queue.now whole → result ≡ prefix_len (needs_nothing reader table.now (C.cell cell.now)) (drop level whole) }
+    ensures most { level + result ≤ 10 ^ 12 }
+{
+    if level == queue.len() {
+        return 0;
+    }
+    settled_front(table, reader, cell, entries_of(queue, level, None))
 }
 
 impl Lane {
@@ -129,7 +151,7 @@ impl Lane {
         ensures most { result ≤ 10 ^ 12 }
     {
         let done = self.levels.done;
-        let settled = settled_front(table, reader, cell, entries_of(queue, done, None));
+        let settled = settled_from(table, reader, cell, queue, done);
         let done = done + settled as u64;
         self.levels.advance(done);
         done

@@ -5,7 +5,7 @@ use ndc_command::{Command, CommandError, Refusal};
 use ndc_event::{Batch, Name};
 use ndc_model_cells::Message;
 use ndc_model_sets::Batches;
-use ndc_shard_entries::{Entry, may_write, reapplication_entry, reset_entries};
+use ndc_shard_entries::{Entry, reapplication_entry, reset_entries, unless_behind, writes_to};
 use ndc_shard_runs::Runs;
 use ndc_shard_workflows::{Arrival, Workflows};
 use ndc_state::Steps;
@@ -97,17 +97,23 @@ impl Shard {
         Some(self.workflows.find(domain, workflow)?.runs())
     }
 
-    /// The version with which the cell may write to a workflow, or why it may not, as [`ndc_shard_entries::may_write`] says.
+    /// The version with which the cell may write to a workflow: that of its record of the domain. Takes no memory. Refused
+    /// with the first of these that holds: [`Refusal::UnknownDomain`] where there is no record, [`Refusal::NotActive`] with
+    /// the version where another cluster writes with it, or none does, and [`Refusal::Behind`] with the greatest learned
+    /// version where that is above it. The workflow is looked up only where the record lets it write.
     pub fn may_write(&self, desk: &Desk, domain: &Name, workflow: &Name) -> Result<u64, Refusal>
         ensures { result ≡ may_write desk.now domain.now workflow.now self.now }
     {
         let clusters = desk.clusters();
         let me = desk.me();
         let table = desk.table();
-        let record = table.find(domain);
+        let version = match writes_to(clusters, me, table.find(domain)) {
+            Ok(version) => version,
+            Err(refusal) => return Err(refusal),
+        };
         match self.runs(domain, workflow) {
-            Some(runs) => may_write(clusters, me, record, runs),
-            None => may_write(clusters, me, record, &Runs::new(self.alloc)),
+            Some(runs) => unless_behind(version, runs),
+            None => Ok(version),
         }
     }
 

@@ -6,3 +6,5 @@ pub mod LawProofs
 pub mod NewRunLemmas
 pub mod ResetLemmas
 pub mod TipLemmas
+pub mod WriterLemmas
+pub mod AgainLemmas

@@ -1,6 +1,7 @@
 ghost use Rattle.std.specs.Prelude.{◌≡◌, ◌≤◌, ◌+◌, ◌^◌, ℕ, List, [], ◌∷◌, IfOk, IfSome, length};
 ghost use Rattle.std.specs.Option.{option_copied};
-ghost use Rattle.ndc_model_cells.specs.Writing.{command_entries, entry_below, greatest_task, is_writer, may_write_by, next_key, state_under};
+ghost use Rattle.ndc_model_cells.specs.Writing.{command_entries, entry_below, greatest_task, is_writer, next_key, state_under};
+ghost use Rattle.ndc_shard_entries.specs.Writer.{unless_behind, writes_to};
 ghost use Rattle.ndc_command.specs.declared.refusal.CommandError.TheVariants.{Memory};
 ghost use Rattle.ndc_command.specs.Laws.{begins_run};
 ghost use Rattle.ndc_domain.specs.declared.record.DomainRecord.{DomainRecord as RecordValue};
@@ -16,17 +17,15 @@ use ndc_event::{BatchKey, EventKind, Name, RunId};
 use ndc_shard_runs::Runs;
 use std::alloc::{AllocError, Global};
 
-/// The version with which a cluster may write to a workflow of this domain, of which this is learned: that of its
-/// record of the domain. Takes no memory. Refused with the first of these that holds: [`Refusal::UnknownDomain`] where
-/// it has no record, [`Refusal::NotActive`] with the version where another cluster writes with it, or none does, and
-/// [`Refusal::Behind`] with the greatest learned version where that is above it.
-pub fn may_write(
+/// The version with which a cluster writes to a domain: that of its record. Takes no memory. Refused with
+/// [`Refusal::UnknownDomain`] where it has no record, then with [`Refusal::NotActive`] and the version where another cluster
+/// writes with it, or none does.
+pub fn writes_to(
     clusters: &Clusters,
     me: ClusterNo,
     domain: Option<&DomainRecord>,
-    runs: &Runs,
 ) -> Result<u64, Refusal>
-    ensures { (limit : ℕ) (table : List RecordValue) → result ≡ may_write_by (record { clusters = clusters.now; me = me; limit = limit; table = table }) (option_copied domain.entry) runs.now }
+    ensures { (limit : ℕ) (table : List RecordValue) → result ≡ writes_to (record { clusters = clusters.now; me = me; limit = limit; table = table }) (option_copied domain.entry) }
 {
     let Some(domain) = domain else {
         return Err(Refusal::UnknownDomain);
@@ -35,6 +34,14 @@ pub fn may_write(
     if !is_writer(me, clusters.writer_of(version)) {
         return Err(Refusal::NotActive { version });
     }
+    Ok(version)
+}
+
+/// The same version, with which a cluster writes to a workflow of which this is learned. Takes no memory. Refused with
+/// [`Refusal::Behind`] and the greatest learned version where that is above it.
+pub fn unless_behind(version: u64, runs: &Runs) -> Result<u64, Refusal>
+    ensures { result ≡ unless_behind version runs.now }
+{
     let greatest = runs.greatest_version();
     if version < greatest {
         return Err(Refusal::Behind { version: greatest });
