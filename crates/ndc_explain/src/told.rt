@@ -103,9 +103,6 @@ fn findings(alloc: Global, view: &View) -> Result<Found, AllocError>
 impl<'v> Found<'v> {
     ghost use Rattle.std.specs.Prelude.{◌≡◌, ◌++◌, OnOk};
     ghost use Rattle.std.specs.List.{flat_map};
-    ghost use Rattle.ndc_explain.specs.Graph.{tree_picture_of};
-    ghost use Rattle.ndc_explain.specs.Picture.{picture_of};
-    ghost use Rattle.ndc_explain.specs.Told.{told_of};
     ghost use Rattle.ndc_explain.specs.Explanation.{counts_line, leaves_any, waiting};
     ghost use Rattle.ndc_explain.specs.Branches.{run_told};
     ghost use Rattle.ndc_explain.specs.Signals.{signal_line};
