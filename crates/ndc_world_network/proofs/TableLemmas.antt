@@ -13,7 +13,8 @@ use Rattle.ndc_domain.specs.declared.clusters.ClusterNo.{ClusterNo}
 use Rattle.ndc_domain.specs.declared.record.DomainRecord.{DomainRecord}
 use Rattle.ndc_event.specs.declared.name.Name.{Name}
 use Rattle.ndc_model_cells.specs.Writing.{same_cluster}
-use Rattle.ndc_model.specs.World.{Cluster, Link, World, cluster_at, names_cluster, new_cluster, newly_naming, with_late, with_table}
+use Rattle.ndc_model.specs.Queues.{names_cluster}
+use Rattle.ndc_model.specs.World.{Cluster, Link, World, cluster_at, new_cluster, newly_naming, with_late, with_table}
 
 -- each record of a table is found by its name
 found_each : (records : List DomainRecord) → Rise records → AllByRecursion (λ (one : DomainRecord). record_of records one.name ≡ Some one) records
@@ -34,18 +35,20 @@ found_each (first ∷ records) rise = (
       behind rest later.1 all.1,
     )
 
+-- one record more that stays comes to name nobody
+none-more : (reader : ClusterNo) (one : DomainRecord) (before after : List DomainRecord) → record_of after one.name ≡ Some one → newly_naming reader before after ≡ [] → newly_naming reader (one ∷ before) after ≡ []
+none-more reader one before after found rest =
+    ap (λ (o : Option DomainRecord). if not (names_cluster reader (Some one)) && names_cluster reader o then one.name ∷ newly_naming reader before after else newly_naming reader before after) found
+    ∙ by (names_cluster reader (Some one))
+  where
+    by : (t : Bool) → (if not t && t then one.name ∷ newly_naming reader before after else newly_naming reader before after) ≡ []
+    by true = rest
+    by false = rest
+
 -- records that stay come to name nobody
 none-new : (reader : ClusterNo) (before after : List DomainRecord) → AllByRecursion (λ (one : DomainRecord). record_of after one.name ≡ Some one) before → newly_naming reader before after ≡ []
 none-new reader [] after all = refl
-none-new reader (one ∷ before) after all = rw all.0 (by (names_cluster reader (Some one)) refl)
-  where
-    rest : newly_naming reader before after ≡ []
-    rest = none-new reader before after all.1
-
-    by : (t : Bool) → names_cluster reader (Some one) ≡ t
-        → (if not (names_cluster reader (Some one)) && names_cluster reader (Some one) then one.name ∷ newly_naming reader before after else newly_naming reader before after) ≡ []
-    by true named = rw (named, named) rest
-    by false named = rw (named, named) rest
+none-new reader (one ∷ before) after all = none-more reader one before after all.0 (none-new reader before after all.1)
 
 -- so a link stays where its source's table takes its own place
 late-same : (source : ClusterNo) (table : List DomainRecord) (link : Link) → Rise table → with_late source table table link ≡ link
