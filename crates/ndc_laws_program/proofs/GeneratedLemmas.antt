@@ -31,7 +31,7 @@ use Rattle.ndc_model.specs.World.{World, new_cluster, opening_world}
 use Rattle.ndc_model.proofs.ListLemmas.{all-append}
 use Rattle.ndc_model.proofs.ScriptLemmas.{world_in_parts}
 use Rattle.ndc_script.proofs.GeneratedFits.{generated_fits}
-use Rattle.ndc_world_summary.specs.Summaries.{summary_of}
+use Rattle.ndc_world_summary.specs.Summaries.{totals_of}
 use Rattle.ndc_script.specs.Generate.{drawn, drawn_cluster, drawn_command, drawn_domain, drawn_lines, drawn_move, drawn_other, drawn_target, drawn_workflow, first_lines, generated_act, generated_header, generated_lines, line_at, next_state}
 
 -- lines after which each record names all clusters, where it did before
@@ -133,9 +133,9 @@ all-sharing count seed =
     Sharing line = IsSharing generated_header line.act
 
 -- behind so many made lines all clusters are the same
-pub generated-same : (count seed : ℕ) → count ≤ 99000 → (summary_of generated_header (world_before generated_header (generated_lines count seed))).same ≡ true
+pub generated-same : (count seed : ℕ) → count ≤ 99000 → (totals_of generated_header (world_before generated_header (generated_lines count seed))).same ≡ true
 generated-same count seed most =
-    subst (λ (w : World). (summary_of generated_header w).same ≡ true) (sym behind)
+    subst (λ (w : World). (totals_of generated_header w).same ≡ true) (sym behind)
     (clusters-same generated_header (runs.lines + 1) (act_step generated_header act.Settle before).world
     (line_reached generated_header runs.lines act.Settle before is.header runs.fit runs.most runs.reached)
     (settle-line generated_header front [] (14 + count) is)

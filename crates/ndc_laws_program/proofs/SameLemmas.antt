@@ -23,8 +23,8 @@ use Rattle.ndc_model.specs.Fair.{IsOwn, written_of}
 use Rattle.ndc_model.specs.Queues.{names_cluster}
 use Rattle.ndc_model.proofs.ListLemmas.{all-append, all-weaker}
 use Rattle.ndc_model.specs.World.{Cluster, World, cell_at, cluster_at, new_cluster, shards_of}
-use Rattle.ndc_world_summary.specs.declared.parts.Summary.{Summary}
-use Rattle.ndc_world_summary.specs.Summaries.{added, are_alike, are_one_table, cells_of, learned_with, messages_of, part_of, same_keys, same_table, summary_in, summary_of, tables_alone, with_workflow, workflows_in}
+use Rattle.ndc_world_summary.specs.declared.parts.Totals.{Totals}
+use Rattle.ndc_world_summary.specs.Summaries.{added, are_alike, are_one_table, cells_of, learned_with, messages_of, part_of, same_keys, same_table, totals_in, totals_of, tables_alone, with_workflow, workflows_in}
 use Rattle.ndc_world_summary.proofs.TableLemmas.{table_decides}
 
 both-true : (a b : Bool) → a ≡ true → b ≡ true → (a && b) ≡ true
@@ -32,7 +32,7 @@ both-true true b first second = second
 both-true false b first second = first
 
 -- parts that are all the same, and a beginning that is
-fold-same : (parts : List Summary) (start : Summary) → start.same ≡ true → AllByRecursion (λ (part : Summary). part.same ≡ true) parts → (fold added start parts).same ≡ true
+fold-same : (parts : List Totals) (start : Totals) → start.same ≡ true → AllByRecursion (λ (part : Totals). part.same ≡ true) parts → (fold added start parts).same ≡ true
 fold-same [] start is all = is
 fold-same (part ∷ parts) start is all = fold-same parts (added start part) (both-true start.same part.same is all.0) all.1
 
@@ -132,11 +132,11 @@ module _ (header : Header) (lines : ℕ) (w : World) (is : IsReached header line
       (places-all (λ (one : Cluster). learned_with b (cell_for shard one.cells) ≡ written_of header b.domain b.workflow w) w.clusters
       (λ i below. all-learned cluster (cluster_no i) shard b there (known i below) own))))
 
-  shard-same : (shard : ℕ) → shard < header.shards → (summary_in (cells_of w shard)).same ≡ true
-  unfolding summary_in
+  shard-same : (shard : ℕ) → shard < header.shards → (totals_in (cells_of w shard)).same ≡ true
+  unfolding totals_in
   shard-same shard inside =
       fold-same (map (part_of (cells_of w shard)) (workflows_in (cells_of w shard))) _ refl
-      (mapped-all (λ (part : Summary). part.same ≡ true) (part_of (cells_of w shard)) (workflows_in (cells_of w shard))
+      (mapped-all (λ (part : Totals). part.same ≡ true) (part_of (cells_of w shard)) (workflows_in (cells_of w shard))
       (found-all Same (map (λ (sent : Message). sent.batch) (messages_of (cells_of w shard))) [] tt (cells-all Same (cells_of w shard)
       (mapped-all (λ (cell : Cell). AllByRecursion Same (flat_map both cell.written)) (λ (one : Cluster). cell_for shard one.cells) w.clusters
       (places-all (λ (one : Cluster). AllByRecursion Same (flat_map both (cell_for shard one.cells).written)) w.clusters own)))))
@@ -157,9 +157,9 @@ module _ (header : Header) (lines : ℕ) (w : World) (is : IsReached header line
       (λ i below. settled.tables (cluster_no i) (cluster_no 0) (known i below) (known 0 (omega (arith, below))))))
 
   -- all clusters are the same
-  pub clusters-same : (summary_of header w).same ≡ true
-  unfolding summary_of
+  pub clusters-same : (totals_of header w).same ≡ true
+  unfolding totals_of
   clusters-same =
-      fold-same (map (λ shard. summary_in (cells_of w shard)) (shards_of header)) (tables_alone w) one-table
-      (mapped-all (λ (part : Summary). part.same ≡ true) (λ shard. summary_in (cells_of w shard)) (shards_of header)
-      (range-all (λ shard. (summary_in (cells_of w shard)).same ≡ true) 0 header.shards (λ shard below. shard-same shard (omega (arith, below)))))
+      fold-same (map (λ shard. totals_in (cells_of w shard)) (shards_of header)) (tables_alone w) one-table
+      (mapped-all (λ (part : Totals). part.same ≡ true) (λ shard. totals_in (cells_of w shard)) (shards_of header)
+      (range-all (λ shard. (totals_in (cells_of w shard)).same ≡ true) 0 header.shards (λ shard below. shard-same shard (omega (arith, below)))))

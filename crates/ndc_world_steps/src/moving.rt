@@ -4,6 +4,7 @@ ghost use Rattle.ndc_script_types.specs.WellFormed.{AreTwoClusters, IsCluster};
 ghost use Rattle.ndc_laws_reached.specs.Sometime.{IsReachedSometime};
 ghost use Rattle.ndc_world_answers.specs.Tallies.{with_notes};
 ghost use Rattle.ndc_world_steps.specs.Telling.{tally_of};
+ghost use Rattle.ndc_model.specs.Moves.{after_settlement};
 ghost use Rattle.ndc_model.specs.Sending.{bootstrap_step, resend_step, settle_step, work_step};
 ghost use Rattle.ndc_model.specs.Steps.{seen_of};
 ghost use Rattle.ndc_model.specs.World.{link_at};
@@ -42,9 +43,9 @@ fn tell(tally: &mut Tally, seen: &mut Vec<Seen>, done: Done) -> Result<(), Alloc
 
 /// What jobs came to: how much, and what they made learned, in the order of being told.
 #[derive(Drop)]
-pub(crate) struct Telling {
-    pub(crate) tally: Tally,
-    pub(crate) seen: Vec<Seen>,
+pub struct Telling {
+    pub tally: Tally,
+    pub seen: Vec<Seen>,
 }
 
 /// Counts all that was done, in order, and lists what it made learned.
@@ -143,6 +144,27 @@ pub fn bootstrap<R: Threads + Sync, G: Gate, C: Serves + Drop + Send>(
     Ok(Step::new(answer, seen))
 }
 
+/// A settlement: what its jobs came to, and what they made learned.
+pub fn settlement<R: Threads + Sync, G: Gate, C: Serves + Drop + Send>(
+    network: &mut Network<C>,
+    rt: &R,
+    alloc: Global,
+    gate: &G,
+    workers: u32,
+    header: &Header,
+) -> Result<Telling, AllocError>
+    requires workers { 0 < workers }
+    requires orderly { IsOrderly header.now network.old }
+    requires allowed { MaySettle C.allows header.now network.old }
+    ensures world { OnOk result (network.new ≡ (after_settlement header.now network.old).world) }
+    ensures tally { IfOk result (λ telling. telling.tally ≡ tally_of (after_settlement header.now network.old).notes) }
+    ensures seen { IfOk result (λ telling. telling.seen.items ≡ seen_of (after_settlement header.now network.old).notes) }
+{
+    let dones = network.settle(rt, alloc, gate, workers, header)?;
+    let telling = tell_all(alloc, dones)?;
+    Ok(telling)
+}
+
 /// `settle`.
 pub fn settle<R: Threads + Sync, G: Gate, C: Serves + Drop + Send>(
     network: &mut Network<C>,
@@ -157,8 +179,7 @@ pub fn settle<R: Threads + Sync, G: Gate, C: Serves + Drop + Send>(
     requires allowed { MaySettle C.allows header.now network.old }
     ensures { IfOk result (λ step. leaving network.new step ≡ settle_step header.now network.old) }
 {
-    let dones = network.settle(rt, alloc, gate, workers, header)?;
-    let Telling { tally, seen } = tell_all(alloc, dones)?;
+    let Telling { tally, seen } = settlement(network, rt, alloc, gate, workers, header)?;
     let answer = ndc_world_answers::settled(alloc, tally)?;
     Ok(Step::new(answer, seen))
 }

@@ -10,7 +10,7 @@ use Rattle.ndc_model.specs.Fair.{IsShaped}
 use Rattle.ndc_model.specs.World.{Cluster, World}
 use Rattle.ndc_cluster.specs.Sites.{SiteValue}
 use Rattle.ndc_world_summary.specs.Summaries.{added, cells_of}
-use Rattle.ndc_world_summary.specs.declared.parts.Summary.{Summary}
+use Rattle.ndc_world_summary.specs.declared.parts.Totals.{Totals}
 
 from-clusters : (shards shard : ℕ) (sites : List SiteValue) → shard < shards → AllByRecursion (λ (cluster : Cluster). length cluster.cells ≡ shards) (map (λ (site : SiteValue). site.cluster) sites)
     → AllByRecursion (λ (site : SiteValue). shard < length site.cluster.cells) sites
@@ -35,7 +35,7 @@ pub tables_same : (w : World) (sites : List SiteValue) → map (λ (site : SiteV
 tables_same w sites same = sym (map-map (λ (cluster : Cluster). cluster.table) (λ (site : SiteValue). site.cluster) sites) ∙ ap (map (λ (cluster : Cluster). cluster.table)) same
 
 -- the part of one shard more is added
-pub whole_more : (start : Summary) (part : ℕ → Summary) (shard : ℕ)
+pub whole_more : (start : Totals) (part : ℕ → Totals) (shard : ℕ)
     → added (fold added start (map part (range_with_len 0 shard))) (part shard) ≡ fold added start (map part (range_with_len 0 (shard + 1)))
 whole_more start part shard =
     sym (ap (fold added start) (map-range_with_len_more part 0 shard shard (omega arith)) ∙ fold_push added start (map part (range_with_len 0 shard)) (part shard))

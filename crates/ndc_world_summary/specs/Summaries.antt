@@ -14,7 +14,7 @@ use Rattle.ndc_event.specs.declared.batch.Batch.{Batch}
 use Rattle.ndc_model.specs.Reading.{is_nothing}
 use Rattle.ndc_model.specs.World.{World, shards_of}
 use Rattle.ndc_model_sets.specs.Branches.{runs, tips}
-use Rattle.ndc_world_summary.specs.declared.parts.Summary.{Summary}
+use Rattle.ndc_world_summary.specs.declared.parts.Totals.{Totals}
 
 -- the messages that cells have written, cell by cell
 abbrev pub messages_of : List Cell → List Message
@@ -65,7 +65,7 @@ one_if_any batches = if is_nothing batches then 0 else 1
 
 -- what the workflow of a batch comes to in the cells of its shard, without the batches that were written: whether the first cell has
 -- learned anything of it, how many branches its runs have there, and whether all cells have learned the same of it
-unfoldable pub part_of : List Cell → Batch → Summary
+unfoldable pub part_of : List Cell → Batch → Totals
 part_of cells b = record {
   batches = 0;
   workflows = one_if_any (first_learned cells b);
@@ -74,7 +74,7 @@ part_of cells b = record {
 }
 
 -- two parts together
-abbrev pub added : Summary → Summary → Summary
+abbrev pub added : Totals → Totals → Totals
 added one two = record {
   batches = one.batches + two.batches;
   workflows = one.workflows + two.workflows;
@@ -83,23 +83,23 @@ added one two = record {
 }
 
 -- so many batches alone
-abbrev pub batches_alone : ℕ → Summary
+abbrev pub batches_alone : ℕ → Totals
 batches_alone count = record { batches = count; workflows = 0; branches = 0; same = true }
 
 -- what the cells of one shard come to, a cell for each cluster: the batches that they have written, carried ones too, and a part for each
 -- workflow to which one of them has written
-unfoldable pub summary_in : List Cell → Summary
-summary_in cells = fold added (batches_alone (length (flat_map both (messages_of cells)))) (map (part_of cells) (workflows_in cells))
+unfoldable pub totals_in : List Cell → Totals
+totals_in cells = fold added (batches_alone (length (flat_map both (messages_of cells)))) (map (part_of cells) (workflows_in cells))
 
 -- the cells of all clusters for a shard
 abbrev pub cells_of : World → ℕ → List Cell
 cells_of w shard = map (λ cluster. cell_for shard cluster.cells) w.clusters
 
 -- nothing, and whether all clusters hold one table
-abbrev pub tables_alone : World → Summary
+abbrev pub tables_alone : World → Totals
 tables_alone w = record { batches = 0; workflows = 0; branches = 0; same = are_one_table (map (λ cluster. cluster.table) w.clusters) }
 
 -- what all clusters come to: how many batches they have written; how many workflows there are of which the first cluster has learned
 -- anything, and how many branches their runs have there; and whether all hold one table and have learned the same of each workflow
-unfoldable pub summary_of : Header → World → Summary
-summary_of header w = fold added (tables_alone w) (map (λ shard. summary_in (cells_of w shard)) (shards_of header))
+unfoldable pub totals_of : Header → World → Totals
+totals_of header w = fold added (tables_alone w) (map (λ shard. totals_in (cells_of w shard)) (shards_of header))

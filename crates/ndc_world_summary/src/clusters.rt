@@ -3,9 +3,9 @@ ghost use Rattle.std.specs.List.{AllByRecursion};
 ghost use Rattle.ndc_model_cells.specs.Jobs.{cell_for};
 ghost use Rattle.ndc_model.specs.Fair.{IsShaped};
 ghost use Rattle.ndc_cluster.specs.Sites.{SiteValue};
-ghost use Rattle.ndc_world_summary.specs.Summaries.{cells_of, summary_in, summary_of};
+ghost use Rattle.ndc_world_summary.specs.Summaries.{cells_of, totals_in, totals_of};
 
-use crate::parts::{Summary, added, summary_in};
+use crate::parts::{Totals, added, totals_in};
 use crate::tables::have_one_table;
 use ndc_cluster::Site;
 use ndc_cluster_links::Writes;
@@ -39,38 +39,38 @@ fn cells_of<C: Writes + Drop>(
 }
 
 /// What the cells of a shard come to, at all clusters.
-fn shard_summary<C: Reads + Drop>(
+fn shard_totals<C: Reads + Drop>(
     alloc: Global,
     header: &Header,
     network: &Network<C>,
     shard: u32,
-) -> Result<Summary, AllocError>
+) -> Result<Totals, AllocError>
     requires shaped { IsShaped header.now network.now }
     requires shard { shard < header.now.shards }
-    ensures { IfOk result (λ part. part ≡ summary_in (cells_of network.now shard)) }
+    ensures { IfOk result (λ part. part ≡ totals_in (cells_of network.now shard)) }
 {
     let cells = cells_of(alloc, network.sites(), shard)?;
-    summary_in(alloc, cells.as_slice())
+    totals_in(alloc, cells.as_slice())
 }
 
 /// What all clusters come to. In time of all that was written and learned.
-#[tactic(auto, unfolding(crate::specs::Summaries::summary_of))]
-pub fn summary<C: Reads + Drop>(
+#[tactic(auto, unfolding(crate::specs::Summaries::totals_of))]
+pub fn totals<C: Reads + Drop>(
     alloc: Global,
     header: &Header,
     network: &Network<C>,
-) -> Result<Summary, AllocError>
+) -> Result<Totals, AllocError>
     requires { IsShaped header.now network.now }
-    ensures { IfOk result (λ summary. summary ≡ summary_of header.now network.now) }
+    ensures { IfOk result (λ totals. totals ≡ totals_of header.now network.now) }
 {
-    let mut whole = Summary {
+    let mut whole = Totals {
         batches: 0,
         workflows: 0,
         branches: 0,
         same: have_one_table(network.sites()),
     };
     for shard in 0..header.shards {
-        let part = shard_summary(alloc, header, network, shard)?;
+        let part = shard_totals(alloc, header, network, shard)?;
         whole = added(whole, part)?;
     }
     Ok(whole)

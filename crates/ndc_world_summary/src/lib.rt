@@ -8,5 +8,5 @@ mod learned;
 mod parts;
 mod tables;
 
-pub use clusters::summary;
-pub use parts::Summary;
+pub use clusters::totals;
+pub use parts::Totals;

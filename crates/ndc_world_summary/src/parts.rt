@@ -1,5 +1,5 @@
 ghost use Rattle.std.specs.Prelude.{◌≡◌, map, IfOk};
-ghost use Rattle.ndc_world_summary.specs.Summaries.{added, branch_count, first_learned, one_if_any, part_of, summary_in};
+ghost use Rattle.ndc_world_summary.specs.Summaries.{added, branch_count, first_learned, one_if_any, part_of, totals_in};
 
 use crate::alike::are_alike;
 use crate::found::{found_in, sum};
@@ -10,7 +10,7 @@ use std::alloc::{AllocError, Global};
 
 /// What the clusters of a script come to.
 #[derive(Clone, Copy, Debug, PartialEq, Eq)]
-pub struct Summary {
+pub struct Totals {
     /// How many batches all clusters have written.
     pub batches: u64,
     /// Of how many workflows the first cluster has learned anything.
@@ -22,10 +22,10 @@ pub struct Summary {
 }
 
 /// Two parts together.
-pub(crate) fn added(one: Summary, two: Summary) -> Result<Summary, AllocError>
+pub(crate) fn added(one: Totals, two: Totals) -> Result<Totals, AllocError>
     ensures { IfOk result (λ both. both ≡ added one two) }
 {
-    Ok(Summary {
+    Ok(Totals {
         batches: sum(one.batches, two.batches)?,
         workflows: sum(one.workflows, two.workflows)?,
         branches: sum(one.branches, two.branches)?,
@@ -48,12 +48,12 @@ fn counts_of<C: Reads>(alloc: Global, cells: &[&C], batch: &Batch) -> Result<(u6
 
 /// What the workflow of a batch comes to in the cells of its shard, without the batches that were written.
 #[tactic(auto, unfolding(crate::specs::Summaries::part_of))]
-fn part_of<C: Reads>(alloc: Global, cells: &[&C], batch: &Batch) -> Result<Summary, AllocError>
+fn part_of<C: Reads>(alloc: Global, cells: &[&C], batch: &Batch) -> Result<Totals, AllocError>
     ensures { IfOk result (λ part. part ≡ part_of (map (λ cell. C.cell cell.now) cells.now) batch.now) }
 {
     let (workflows, branches) = counts_of(alloc, cells, batch)?;
     let same = are_alike(alloc, cells, batch)?;
-    Ok(Summary {
+    Ok(Totals {
         batches: 0,
         workflows,
         branches,
@@ -62,12 +62,12 @@ fn part_of<C: Reads>(alloc: Global, cells: &[&C], batch: &Batch) -> Result<Summa
 }
 
 /// What the cells of one shard come to, a cell for each cluster.
-#[tactic(auto, unfolding(crate::specs::Summaries::summary_in))]
-pub(crate) fn summary_in<C: Reads>(alloc: Global, cells: &[&C]) -> Result<Summary, AllocError>
-    ensures { IfOk result (λ whole. whole ≡ summary_in (map (λ cell. C.cell cell.now) cells.now)) }
+#[tactic(auto, unfolding(crate::specs::Summaries::totals_in))]
+pub(crate) fn totals_in<C: Reads>(alloc: Global, cells: &[&C]) -> Result<Totals, AllocError>
+    ensures { IfOk result (λ whole. whole ≡ totals_in (map (λ cell. C.cell cell.now) cells.now)) }
 {
     let found = found_in(alloc, cells)?;
-    let mut whole = Summary {
+    let mut whole = Totals {
         batches: found.batches,
         workflows: 0,
         branches: 0,

@@ -1,8 +1,0 @@
-use Rattle.std.proofs.Common.{◌≡◌, drop, map}
-use Rattle.std.specs.List.{fold}
-use Rattle.ndc_world_summary.specs.Summaries.{added, summary_in, part_of}
-use Rattle.ndc_world_summary.proofs.parts.summary_in.Given as goal
-
-abbrev pub invariant-loop-batch : goal.invariant-loop-batch
-invariant-loop-batch g l =
-    fold added l.whole (map (part_of (map (λ cell. g.C.Works.cell cell.now) l.cells)) (drop l.batch-index l.batch-items)) ≡ summary_in (map (λ cell. g.C.Works.cell cell.now) l.cells)
