@@ -18,6 +18,7 @@ use Rattle.ndc_index.specs.declared.seen.Seen.{Seen}
 use Rattle.ndc_model.proofs.ListLemmas.{all-listed, set-there}
 use Rattle.ndc_model.specs.Facts.{IsReached}
 use Rattle.ndc_model.specs.Fair.{IsShaped}
+use Rattle.ndc_model.specs.Laws.{is_refusal}
 use Rattle.ndc_model.specs.Lines.{act_step, answers_of, job_line, ran_from, seen_in, world_behind}
 use Rattle.ndc_model.specs.Moves.{jobs_done, notes_of}
 use Rattle.ndc_model.specs.Steps.{command_step, outcome_answer, seen_at, seen_of}
@@ -25,6 +26,7 @@ use Rattle.ndc_model.specs.World.{Cluster, World, cell_at, cluster_at, home_at, 
 use Rattle.ndc_model.proofs.WorldLemmas.{same-cells}
 use Rattle.ndc_world_network.proofs.ShardLemmas.{cells_there}
 use Rattle.ndc_world.specs.Bursts.{burst_text}
+use Rattle.ndc_world.specs.Counts.{one_if, refusals, refused_in}
 
 -- the replies of a cluster to jobs, done one after the other
 abbrev pub replies_of : Header → ClusterNo → List ShardJob → World → List JobReply
@@ -66,11 +68,16 @@ module _ (header : Header) (cluster : ClusterNo) (w : World) where
   unfolding cells_after
   no-jobs = same-cells cluster w
 
+  no-refusal : 0 ≡ refusals (replies_of header cluster [] w)
+  unfolding replies_to
+  no-refusal = refl
+
 -- the lines in a burst, run one after the other
 pub record IsBurst (header : Header) (lines : ℕ) (cluster : ClusterNo) (jobs : List BurstJob) (w : World) : Type 0 where
   pub world : world_behind w (ran_from header w (map (job_line cluster) jobs)) ≡ world_after header cluster (burst_jobs header jobs) w
   pub answers : answers_of (ran_from header w (map (job_line cluster) jobs)) ≡ burst_text jobs (replies_of header cluster (burst_jobs header jobs) w)
   pub seen : seen_in (ran_from header w (map (job_line cluster) jobs)) ≡ seen_of (notes_of cluster (burst_jobs header jobs) (replies_of header cluster (burst_jobs header jobs) w))
+  pub refused : refused_in (ran_from header w (map (job_line cluster) jobs)) ≡ refusals (replies_of header cluster (burst_jobs header jobs) w)
   pub reached : IsReached header (lines + length jobs) (world_after header cluster (burst_jobs header jobs) w)
 
 -- a first line in a burst, and the others in the world that it leaves
@@ -99,6 +106,13 @@ module _ (header : Header) (lines : ℕ) (cluster : ClusterNo) (one : BurstJob) 
       ∙ ap (λ (l : List Seen). l ++ seen_of (notes_of cluster (burst_jobs header jobs) (replies_of header cluster (burst_jobs header jobs) left))) (one-seen header cluster w one)
       ∙ ap (λ (l : List JobReply). seen_of (notes_of cluster (burst_jobs header (one ∷ jobs)) l)) (sym replies-are)
 
+  joined-refused : refused_in (ran_from header w (map (job_line cluster) (one ∷ jobs))) ≡ refusals (replies_of header cluster (burst_jobs header (one ∷ jobs)) w)
+  joined-refused =
+      ap (λ (v : World). one_if (is_refusal (act_step header (job_line cluster one).act w).answer) + refused_in (ran_from header v (map (job_line cluster) jobs))) (one-world header cluster w one)
+      ∙ ap (λ (n : ℕ). one_if (is_refusal (act_step header (job_line cluster one).act w).answer) + n) rest.refused
+      ∙ ap (λ (l : List ℕ). one_if (is_refusal l) + refusals (replies_of header cluster (burst_jobs header jobs) left)) (one-answer header cluster w one)
+      ∙ ap refusals (sym replies-are)
+
   same-lines : lines + 1 + length jobs ≡ lines + length (one ∷ jobs)
   same-lines = omega arith
 
@@ -109,6 +123,7 @@ module _ (header : Header) (lines : ℕ) (cluster : ClusterNo) (one : BurstJob) 
         ∙ rest.world ∙ after-more header cluster w shaped known (one_job header one) (burst_jobs header jobs);
     answers = joined-answers;
     seen = joined-seen;
+    refused = joined-refused;
     reached = subst (λ (n : ℕ). IsReached header n (world_after header cluster (burst_jobs header (one ∷ jobs)) w)) same-lines
         (subst (IsReached header (lines + 1 + length jobs)) (after-more header cluster w shaped known (one_job header one) (burst_jobs header jobs)) rest.reached);
   }
@@ -119,6 +134,7 @@ module _ (header : Header) (well : IsWellFormedHeader header) (cluster : Cluster
     world = sym (no-jobs header cluster w);
     answers = refl;
     seen = no-seen;
+    refused = no-refusal header cluster w;
     reached = subst (λ (n : ℕ). IsReached header n (world_after header cluster [] w)) same (subst (IsReached header lines) (sym (no-jobs header cluster w)) is);
   }
     where

@@ -1,73 +1,77 @@
 -- What a script that runs may ask, and what runs behind it.
-use Rattle.std.proofs.Common.{◌≡◌, ℕ, ◌+◌, ◌≤◌, ◌<◌, List, length, ap, sym, subst, ◌∙◌, arith}
-use Rattle.std.proofs.lemmas.List.{length-map}
+use Rattle.std.proofs.Common.{◌≡◌, ℕ, ◌+◌, ◌≤◌, ◌<◌, List, [], ◌∷◌, ◌++◌, append-nil, length, map, ap, sym, subst, ◌∙◌, arith}
+use Rattle.std.specs.Prelude.{codes, decimal}
 use Rattle.std.specs.List.{All}
-use Rattle.ndc_script_types.specs.WellFormed.{IsCluster, IsWellFormedAct, IsWellFormedJob}
+use Rattle.ndc_script_types.specs.WellFormed.{IsCluster, IsWellFormedAct, IsWellFormedHeader, IsWellFormedJob}
 use Rattle.ndc_script_types.specs.declared.script.Act.{Act}
 use Rattle.ndc_script_types.specs.declared.script.Act.TheVariants as act
 use Rattle.ndc_script_types.specs.declared.script.BurstJob.{BurstJob}
+use Rattle.ndc_script_types.specs.declared.script.Header.{Header}
+use Rattle.ndc_script_types.specs.declared.script.Line.{Line}
 use Rattle.ndc_model_cells.specs.declared.job.Job.{Job}
 use Rattle.ndc_model_cells.specs.Cells.{Cell}
 use Rattle.ndc_model_cells.specs.Writing.{Home}
 use Rattle.ndc_domain.specs.declared.clusters.ClusterNo.{ClusterNo}
+use Rattle.ndc_index.specs.declared.seen.Seen.{Seen}
 use Rattle.ndc_laws_reached.proofs.BringLemmas.{world_after}
 use Rattle.ndc_laws_jobs.specs.Lines.{LineIsAllowed, burst_jobs}
 use Rattle.ndc_laws_jobs.proofs.BurstLemmas.{burst_allowed}
 use Rattle.ndc_laws_jobs.proofs.LineLemmas.{line_allowed}
-use Rattle.ndc_laws_reached.proofs.ReachedLemmas.{line_reached}
 use Rattle.ndc_model.specs.Facts.{IsReached}
-use Rattle.ndc_model.specs.Lines.{act_step, job_line}
+use Rattle.ndc_model.specs.Laws.{is_refusal}
+use Rattle.ndc_model.specs.Lines.{act_step, job_line, lines_of_act, ran_from}
+use Rattle.ndc_model.specs.Moves.{notes_of}
+use Rattle.ndc_model.specs.Steps.{Stepped, seen_of}
 use Rattle.ndc_model.specs.World.{World}
-use Rattle.ndc_model.specs.Conditions.{MayDoAll}
+use Rattle.ndc_model.specs.Conditions.{MayDoAll, MaySettle}
 use Rattle.ndc_model_cells.specs.Conditions.{Condition}
 use Rattle.ndc_model_cells.specs.Allowed.{IsAllowed}
-use Rattle.ndc_world.specs.Running.{IsRunning, Running, behind_line}
+use Rattle.ndc_world_steps.specs.Told.{Told, leaving}
+use Rattle.ndc_world.specs.Bursts.{burst_text}
+use Rattle.ndc_world.specs.Counts.{one_if, refusals}
+use Rattle.ndc_world.specs.Running.{HaveRun}
 use Rattle.ndc_world.proofs.AllowLemmas.{all_may, line_may}
-use Rattle.ndc_world.proofs.BurstLemmas.{IsBurst, burst_runs}
+use Rattle.ndc_world.proofs.BurstLemmas.{IsBurst, burst_runs, replies_of}
 
-module _ (running : Running) (is : IsRunning running) where
+module _ (header : Header) (lines : ℕ) (w : World) (well : IsWellFormedHeader header) (is : IsReached header lines w) where
   -- a line may be asked of cells that do all that may be asked
-  pub may_line : (allows : Condition) → ((home : Home) (asked : Job) (at : Cell) → IsAllowed home asked at → allows home asked at) → (line : Act) → IsWellFormedAct running.header line → running.lines < 100000
-      → LineIsAllowed allows running.header line running.world
-  may_line allows may line fit below =
-      line_may allows may running.header line running.world (line_allowed running.header running.lines line running.world is.header fit below is.reached)
+  pub may_line : (allows : Condition) → ((home : Home) (asked : Job) (at : Cell) → IsAllowed home asked at → allows home asked at) → (line : Act) → IsWellFormedAct header line → lines < 100000
+      → LineIsAllowed allows header line w
+  may_line allows may line fit below = line_may allows may header line w (line_allowed header lines line w well fit below is)
 
-  -- a line that runs leaves a script that runs
-  pub line_running : (line : Act) (v : World) → IsWellFormedAct running.header line → running.lines < 100000 → (act_step running.header line running.world).world ≡ v
-      → IsRunning (record { header = running.header; lines = running.lines + 1; world = v })
-  line_running line v fit below left = record {
-    header = is.header;
-    reached = subst (IsReached running.header (running.lines + 1)) left (line_reached running.header running.lines line running.world is.header fit below is.reached);
-    most = omega (arith, below);
-  }
+  pub may_settle : (allows : Condition) → ((home : Home) (asked : Job) (at : Cell) → IsAllowed home asked at → allows home asked at) → lines < 100000 → MaySettle allows header w
+  may_settle allows may below = may_line allows may act.Settle tt below
 
-  module _ (cluster : ClusterNo) (jobs : List BurstJob) (known : IsCluster running.header cluster) (fit : All IsWellFormedJob jobs) (few : running.lines + length jobs ≤ 100000) where
+  module _ (cluster : ClusterNo) (jobs : List BurstJob) (known : IsCluster header cluster) (fit : All IsWellFormedJob jobs) (few : lines + length jobs ≤ 100000) where
     -- the jobs of a burst may be asked
-    pub may_burst : (allows : Condition) → ((home : Home) (asked : Job) (at : Cell) → IsAllowed home asked at → allows home asked at)
-        → MayDoAll allows running.header cluster (burst_jobs running.header jobs) running.world
-    may_burst allows may =
-        all_may allows may running.header cluster (burst_jobs running.header jobs) running.world
-        (burst_allowed running.header running.lines cluster jobs running.world is.header known fit few is.reached)
+    pub may_burst : (allows : Condition) → ((home : Home) (asked : Job) (at : Cell) → IsAllowed home asked at → allows home asked at) → MayDoAll allows header cluster (burst_jobs header jobs) w
+    may_burst allows may = all_may allows may header cluster (burst_jobs header jobs) w (burst_allowed header lines cluster jobs w well known fit few is)
 
-    pub burst_ran : IsBurst running.header running.lines cluster jobs running.world
-    burst_ran = burst_runs running.header running.lines cluster jobs running.world is.header known fit few is.reached
+    burst-ran : IsBurst header lines cluster jobs w
+    burst-ran = burst_runs header lines cluster jobs w well known fit few is
 
-    -- a burst leaves a script that runs
-    pub burst_running : (v : World) → v ≡ world_after running.header cluster (burst_jobs running.header jobs) running.world
-        → IsRunning (record { header = running.header; lines = running.lines + length jobs; world = v })
-    burst_running v left = record {
-      header = is.header;
-      reached = subst (IsReached running.header (running.lines + length jobs)) (sym left) burst_ran.reached;
-      most = few;
+    -- its jobs done are its lines run
+    pub burst_run : (v : World) (told : List ℕ) (shown : List Seen) (count : ℕ) → v ≡ world_after header cluster (burst_jobs header jobs) w → told ≡ burst_text jobs (replies_of header cluster (burst_jobs header jobs) w)
+        → shown ≡ seen_of (notes_of cluster (burst_jobs header jobs) (replies_of header cluster (burst_jobs header jobs) w)) → count ≡ refusals (replies_of header cluster (burst_jobs header jobs) w)
+        → HaveRun (ran_from header w (map (job_line cluster) jobs)) w v told shown count
+    burst_run v told shown count left text same counted = record {
+      world = left ∙ sym burst-ran.world;
+      answers = text ∙ sym burst-ran.answers;
+      seen = same ∙ sym burst-ran.seen;
+      refused = counted ∙ sym burst-ran.refused;
     }
 
-    -- and that is what runs behind its lines
-    pub burst_behind : (number : ℕ) (v : World) → v ≡ world_after running.header cluster (burst_jobs running.header jobs) running.world
-        → record { header = running.header; lines = running.lines + length jobs; world = v } ≡ behind_line running (record { number = number; act = act.Burst cluster jobs })
-    burst_behind number v left =
-        ap (λ (u : World). record { header = running.header; lines = running.lines + length jobs; world = u }) (left ∙ sym burst_ran.world)
-        ∙ sym same
-      where
-        same : behind_line running (record { number = number; act = act.Burst cluster jobs })
-            ≡ record { header = running.header; lines = running.lines + length jobs; world = (behind_line running (record { number = number; act = act.Burst cluster jobs })).world }
-        same = ap (λ (n : ℕ). record { header = running.header; lines = running.lines + n; world = (behind_line running (record { number = number; act = act.Burst cluster jobs })).world }) (length-map jobs (job_line cluster))
+-- a line that stands for itself is run
+pub one_run : (header : Header) (w : World) (number : ℕ) (asked : Act) (v : World) (step : Told) (told : List ℕ) (shown : List Seen) (count : ℕ) → lines_of_act number asked ≡ record { number = number; act = asked } ∷ []
+    → leaving v step ≡ act_step header asked w → told ≡ decimal number ++ codes " " ++ step.answer → shown ≡ step.seen → count ≡ one_if (is_refusal step.answer)
+    → HaveRun (ran_from header w (lines_of_act number asked)) w v told shown count
+one_run header w number asked v step told shown count one left text same counted =
+    subst (λ (ls : List Line). HaveRun (ran_from header w ls) w v told shown count) (sym one) (record {
+      world = ap (λ (s : Stepped). s.world) left;
+      answers = text ∙ ap (λ (s : Stepped). decimal number ++ codes " " ++ s.answer) left ∙ sym (append-nil (decimal number ++ codes " " ++ (act_step header asked w).answer));
+      seen = same ∙ ap (λ (s : Stepped). s.seen) left ∙ sym (append-nil (act_step header asked w).seen);
+      refused = counted ∙ ap (λ (s : Stepped). one_if (is_refusal s.answer)) left ∙ none;
+    })
+  where
+    none : one_if (is_refusal (act_step header asked w).answer) ≡ one_if (is_refusal (act_step header asked w).answer) + 0
+    none = omega arith

@@ -1,6 +1,6 @@
 -- Clusters and reports that stand for a world, and stand for what a line of the text leaves.
-use Rattle.std.proofs.Common.{◌≡◌, ℕ, ◌+◌, ◌≤◌, ◌<◌, ◌^◌, true, false, List, [], ◌∷◌, ◌++◌, append-nil, length, map, slice_index_or, refl, ap, sym, subst, ◌∙◌, arith}
-use Rattle.std.specs.Prelude.{codes, decimal}
+use Rattle.std.proofs.Common.{◌≡◌, ℕ, suc, ◌+◌, ◌≤◌, ◌<◌, ◌^◌, Bool, true, false, List, [], ◌∷◌, ◌++◌, length, map, slice_index_or, refl, ap, sym, subst, ◌∙◌, arith}
+use Rattle.std.specs.Prelude.{codes, decimal, sum}
 use Rattle.std.specs.List.{AllByRecursion}
 use Rattle.std.proofs.lemmas.List.{length-map}
 use Rattle.ndc_script_types.specs.WellFormed.{IsCluster, IsWellFormedAct, IsWellFormedHeader}
@@ -9,24 +9,31 @@ use Rattle.ndc_script_types.specs.declared.script.Act.TheVariants as act
 use Rattle.ndc_script_types.specs.declared.script.BurstJob.{BurstJob}
 use Rattle.ndc_script_types.specs.declared.script.Header.{Header}
 use Rattle.ndc_script_types.specs.declared.script.Line.{Line}
-use Rattle.ndc_laws_jobs.specs.Bare.{bare_cluster, is_on_reports}
+use Rattle.ndc_laws_jobs.specs.Bare.{bare_cluster, bare_trace, is_on_reports}
 use Rattle.ndc_laws_jobs.specs.Standing.{IsLeftBy, StandFor}
 use Rattle.ndc_laws_jobs.proofs.ReachedLemmas.{bare-reached}
-use Rattle.ndc_laws_jobs.proofs.StandLemmas.{all-held, as-many, lines-left}
+use Rattle.ndc_laws_jobs.proofs.KeepLemmas.{line-keeps}
+use Rattle.ndc_laws_jobs.proofs.MoveLemmas.{settle-bare}
+use Rattle.ndc_laws_jobs.proofs.StandLemmas.{all-held, as-many, line-left, lines-left}
 use Rattle.ndc_domain.specs.Clusters.{count_of}
 use Rattle.ndc_domain.specs.declared.clusters.ClusterNo.{ClusterNo}
 use Rattle.ndc_index.specs.declared.seen.Seen.{Seen}
 use Rattle.ndc_laws_reached.proofs.ReachedLemmas.{line_reached}
 use Rattle.ndc_model.specs.Facts.{IsReached}
-use Rattle.ndc_model.specs.Lines.{act_step, answers_of, job_line, lines_of_act, ran_from, seen_in, world_behind}
+use Rattle.ndc_model.specs.Laws.{is_refusal}
+use Rattle.ndc_model.specs.Lines.{act_step, job_line, lines_of_act, ran_from, world_behind}
+use Rattle.ndc_model.specs.Moves.{Trace, after_settlement}
+use Rattle.ndc_model.specs.Steps.{applied_by, learned_by, seen_of}
 use Rattle.ndc_model.specs.World.{Cluster, World, all_clusters, cluster_at, new_cluster, opening_world}
 use Rattle.ndc_model.proofs.FairLemmas.{opening_reached}
 use Rattle.ndc_model.proofs.ListLemmas.{all-weaker}
 use Rattle.ndc_progress.specs.Reports.{greatest_of}
 use Rattle.ndc_progress.specs.declared.report.Report.{Report}
-use Rattle.ndc_world.specs.Running.{IsRunning, Running, behind_line}
-use Rattle.ndc_world.specs.Standing.{IsBehind, IsStanding, Standing}
+use Rattle.ndc_world.specs.Counts.{one_if, refused_in}
+use Rattle.ndc_world.specs.Running.{HaveRun}
+use Rattle.ndc_world.specs.Standing.{IsBehind, IsBehindSettlement, IsStanding, IsUnspent, WorldValue}
 use Rattle.ndc_world.proofs.BurstLemmas.{burst_runs}
+use Rattle.ndc_world.proofs.RunLemmas.{one_run}
 
 -- a line on reports is one line
 one-line : (number : ℕ) (line : Act) → is_on_reports line ≡ true → lines_of_act number line ≡ record { number = number; act = line } ∷ []
@@ -54,80 +61,110 @@ reached_behind header lines number (act.Burst cluster jobs) w fit asked few is =
 reached_behind header lines number line w fit asked few is = line_reached header lines line w fit asked (omega (arith, few)) is
 
 -- a line on reports
-pub behind_report : (header : Header) (number : ℕ) (line : Act) (w : World) (after : Standing) (answer told : List ℕ) (seen shown : List Seen) → is_on_reports line ≡ true
-    → IsLeftBy (act_step header line w) after.world after.reports answer seen → told ≡ decimal number ++ codes " " ++ answer → shown ≡ seen → IsBehind header (record { number = number; act = line }) w after told shown
-behind_report header number line w after answer told seen shown on left text same = record {
-  stands = subst (λ (ls : List Line). StandFor after.world after.reports (world_behind w (ran_from header w ls))) (sym one) left.stands;
-  answers = text ∙ ap (λ (a : List ℕ). decimal number ++ codes " " ++ a) left.answer ∙ sym (append-nil (decimal number ++ codes " " ++ (act_step header line w).answer)) ∙ ap (λ (ls : List Line). answers_of (ran_from header w ls)) (sym one);
-  seen = same ∙ left.seen ∙ sym (append-nil (act_step header line w).seen) ∙ ap (λ (ls : List Line). seen_in (ran_from header w ls)) (sym one);
-}
-  where
-    one : lines_of_act number line ≡ record { number = number; act = line } ∷ []
-    one = one-line number line on
-
--- there is room for one line, and it is one more
-pub room_for_one : (number lines : ℕ) (line : Act) → is_on_reports line ≡ true → lines + length (lines_of_act number line) ≤ 100000 → lines < 100000
-room_for_one number lines line on few = let one : length (lines_of_act number line) ≡ 1 = ap (λ (ls : List Line). length ls) (one-line number line on) in omega (arith, few, one)
-
-pub one_more_line : (number lines : ℕ) (line : Act) → is_on_reports line ≡ true → lines + 1 ≡ lines + length (lines_of_act number line)
-one_more_line number lines line on = ap (λ (ls : List Line). lines + length ls) (sym (one-line number line on))
-
--- clusters to which a line did nothing
-pub passed_running : (running : Running) → IsRunning running → running.lines < 100000 → IsReached running.header (running.lines + 1) running.world
-    → IsRunning (record { header = running.header; lines = running.lines + 1; world = running.world })
-passed_running running is below reached = record { header = is.header; reached = reached; most = omega (arith, below) }
-
--- any other line
-pub behind_other : (s : Standing) (line : Line) (w : World) (left : Running) (told : List ℕ) (shown : List Seen) → is_on_reports line.act ≡ false → StandFor s.world s.reports w
-    → left ≡ behind_line (record { header = s.header; lines = s.lines; world = s.world }) line
-    → told ≡ answers_of (ran_from s.header s.world (lines_of_act line.number line.act)) → shown ≡ seen_in (ran_from s.header s.world (lines_of_act line.number line.act))
-    → IsBehind s.header line w (record { header = left.header; lines = left.lines; world = left.world; reports = s.reports }) told shown
-behind_other s line w left told shown other stand is text seen =
-    let same = lines-left s.header (lines_of_act line.number line.act) s.world s.reports w (are-plain line.number line.act other) stand in
+pub behind_report : (header : Header) (number : ℕ) (line : Act) (w v : World) (reports : List (List Report)) (answer told : List ℕ) (seen shown : List Seen) (count : ℕ) → is_on_reports line ≡ true
+    → IsLeftBy (act_step header line w) v reports answer seen → told ≡ decimal number ++ codes " " ++ answer → shown ≡ seen → count ≡ one_if (is_refusal answer)
+    → IsBehind header (record { number = number; act = line }) w v reports told shown count
+behind_report header number line w v reports answer told seen shown count on left text same counted =
+    let one : lines_of_act number line ≡ record { number = number; act = line } ∷ [] = one-line number line on in
+    let run = one_run header w number line (act_step header line w).world (record { answer = (act_step header line w).answer; seen = (act_step header line w).seen }) told shown count one refl
+        (text ∙ ap (λ (a : List ℕ). decimal number ++ codes " " ++ a) left.answer) (same ∙ left.seen) (counted ∙ ap (λ (a : List ℕ). one_if (is_refusal a)) left.answer) in
     record {
-      stands = subst (λ (v : World). StandFor v s.reports (world_behind w (ran_from s.header w (lines_of_act line.number line.act)))) (sym (ap (λ (r : Running). r.world) is)) same.stands;
-      answers = text ∙ same.answers;
-      seen = seen ∙ same.seen;
+      stands = subst (StandFor v reports) run.world left.stands;
+      answers = run.answers;
+      seen = run.seen;
+      refused = run.refused;
     }
 
-module _ (s : Standing) (is : IsStanding s) where
+-- as many lines are refused where no cluster keeps reports
+refused-left : (header : Header) (lines : List Line) (v : World) (reports : List (List Report)) (w : World) → AllByRecursion (λ (l : Line). is_on_reports l.act ≡ false) lines → StandFor v reports w
+    → refused_in (ran_from header v lines) ≡ refused_in (ran_from header w lines)
+refused-left header [] v reports w others stand = refl
+refused-left header (line ∷ lines) v reports w others stand =
+    let first = line-left v reports w stand header line.act others.0 in
+    let rest = refused-left header lines (act_step header line.act v).world reports (act_step header line.act w).world others.1 first.stands in
+    λ i. one_if (is_refusal (first.answer i)) + rest i
+
+-- any other line
+pub behind_other : (header : Header) (line : Line) (v u : World) (reports : List (List Report)) (w : World) (told : List ℕ) (shown : List Seen) (count : ℕ) → is_on_reports line.act ≡ false → StandFor v reports w
+    → HaveRun (ran_from header v (lines_of_act line.number line.act)) v u told shown count → IsBehind header line w u reports told shown count
+behind_other header line v u reports w told shown count other stand run =
+    let plain = are-plain line.number line.act other in
+    let same = lines-left header (lines_of_act line.number line.act) v reports w plain stand in
+    record {
+      stands = subst (λ (x : World). StandFor x reports (world_behind w (ran_from header w (lines_of_act line.number line.act)))) (sym run.world) same.stands;
+      answers = run.answers ∙ same.answers;
+      seen = run.seen ∙ same.seen;
+      refused = run.refused ∙ refused-left header (lines_of_act line.number line.act) v reports w plain stand;
+    }
+
+-- a settlement
+pub behind_settlement : (header : Header) (v u : World) (reports : List (List Report)) (w : World) (learned applied : ℕ) (shown : List Seen) → StandFor v reports w → u ≡ (after_settlement header v).world
+    → learned ≡ sum (map learned_by (after_settlement header v).notes) → applied ≡ sum (map applied_by (after_settlement header v).notes) → shown ≡ seen_of (after_settlement header v).notes
+    → IsBehindSettlement header w u reports learned applied shown
+unfolding act_step
+behind_settlement header v u reports w learned applied shown stand left many again told =
+    let same : after_settlement header v ≡ bare_trace (after_settlement header w) = ap (after_settlement header) stand.clusters ∙ settle-bare header w in
+    record {
+      stands = record {
+        clusters = left ∙ ap (λ (t : Trace). t.world) same;
+        reports = stand.reports ∙ ap (λ (l : List (List Report)). map greatest_of l) (sym (line-keeps header act.Settle w refl));
+      };
+      learned_count = many ∙ ap (λ (t : Trace). sum (map learned_by t.notes)) same;
+      applied_count = again ∙ ap (λ (t : Trace). sum (map applied_by t.notes)) same;
+      seen = told ∙ ap (λ (t : Trace). seen_of t.notes) same;
+    }
+
+settled-reached : (header : Header) (lines : ℕ) (w : World) → IsWellFormedHeader header → lines < 100000 → IsReached header lines w → IsReached header (lines + 1) (after_settlement header w).world
+unfolding act_step
+settled-reached header lines w fit below is = line_reached header lines act.Settle w fit tt below is
+
+-- no more lines are refused than were run
+refused-most : (header : Header) (w : World) (lines : List Line) → refused_in (ran_from header w lines) ≤ length lines
+refused-most header w [] = omega arith
+refused-most header w (line ∷ lines) = let rest = refused-most header (act_step header line.act w).world lines in by (is_refusal (act_step header line.act w).answer) rest
+  where
+    by : (b : Bool) → refused_in (ran_from header (act_step header line.act w).world lines) ≤ length lines → one_if b + refused_in (ran_from header (act_step header line.act w).world lines) ≤ suc (length lines)
+    by true rest = omega (arith, rest)
+    by false rest = omega (arith, rest)
+
+module _ (header : Header) (lines : ℕ) (v : World) (reports : List (List Report)) (is : IsStanding header lines v reports) where
+  -- the clusters themselves are as so many lines leave them
+  pub clusters_reached : IsReached header lines v
+  clusters_reached = subst (IsReached header lines) (sym is.stands.clusters) (bare-reached header lines is.whole is.reached)
+
   -- what stands for a world goes on to stand for one
-  pub standing_other : (line : Line) (left : Running) → is_on_reports line.act ≡ false → IsWellFormedAct s.header line.act → s.lines + length (lines_of_act line.number line.act) ≤ 100000
-      → left ≡ behind_line (record { header = s.header; lines = s.lines; world = s.world }) line → IsStanding (record { header = left.header; lines = left.lines; world = left.world; reports = s.reports })
-  standing_other line left other asked few behind =
-      subst (λ (r : Running). IsStanding (record { header = r.header; lines = r.lines; world = r.world; reports = s.reports })) (sym behind) (record {
-        fit = is.fit;
-        whole = world_behind is.whole (ran_from s.header is.whole (lines_of_act line.number line.act));
-        reached = reached_behind s.header s.lines line.number line.act is.whole is.fit asked few is.reached;
-        stands = (lines-left s.header (lines_of_act line.number line.act) s.world s.reports is.whole (are-plain line.number line.act other) is.stands).stands;
-      })
+  pub standing_behind : (line : Line) (u : World) (held : List (List Report)) (told : List ℕ) (shown : List Seen) (count : ℕ) → IsWellFormedAct header line.act → lines + length (lines_of_act line.number line.act) ≤ 100000
+      → ((w : World) → StandFor v reports w → IsBehind header line w u held told shown count) → IsStanding header (lines + length (lines_of_act line.number line.act)) u held
+  standing_behind line u held told shown count asked few does = record {
+    fit = is.fit;
+    whole = world_behind is.whole (ran_from header is.whole (lines_of_act line.number line.act));
+    reached = reached_behind header lines line.number line.act is.whole is.fit asked few is.reached;
+    stands = (does is.whole is.stands).stands;
+  }
 
-  pub standing_report : (line : Act) (left : Running) (reports : List (List Report)) (answer : List ℕ) (seen : List Seen) → IsWellFormedAct s.header line → s.lines < 100000
-      → ((w : World) → StandFor s.world s.reports w → IsLeftBy (act_step s.header line w) s.world reports answer seen)
-      → left ≡ record { header = s.header; lines = s.lines + 1; world = s.world } → IsStanding (record { header = left.header; lines = left.lines; world = left.world; reports = reports })
-  standing_report line left reports answer seen asked below does same =
-      subst (λ (r : Running). IsStanding (record { header = r.header; lines = r.lines; world = r.world; reports = reports })) (sym same) (record {
-        fit = is.fit;
-        whole = (act_step s.header line is.whole).world;
-        reached = line_reached s.header s.lines line is.whole is.fit asked below is.reached;
-        stands = (does is.whole is.stands).stands;
-      })
+  -- a line refuses no more than it runs
+  pub refusals_most : (line : Line) (u : World) (held : List (List Report)) (told : List ℕ) (shown : List Seen) (count : ℕ)
+      → ((w : World) → StandFor v reports w → IsBehind header line w u held told shown count) → count ≤ length (lines_of_act line.number line.act)
+  refusals_most line u held told shown count does =
+      subst (λ (n : ℕ). n ≤ length (lines_of_act line.number line.act)) (sym (does is.whole is.stands).refused) (refused-most header is.whole (lines_of_act line.number line.act))
 
-  -- its clusters are as one line more leaves them
-  pub passed_reached : (line : Act) (reports : List (List Report)) (answer : List ℕ) (seen : List Seen) → IsWellFormedAct s.header line → s.lines < 100000
-      → ((w : World) → StandFor s.world s.reports w → IsLeftBy (act_step s.header line w) s.world reports answer seen) → IsReached s.header (s.lines + 1) s.world
-  passed_reached line reports answer seen asked below does =
-      subst (IsReached s.header (s.lines + 1)) (sym (does is.whole is.stands).stands.clusters)
-      (bare-reached s.header (s.lines + 1) (act_step s.header line is.whole).world (line_reached s.header s.lines line is.whole is.fit asked below is.reached))
+  pub standing_settled : (u : World) (learned applied : ℕ) (shown : List Seen) → lines < 100000
+      → ((w : World) → StandFor v reports w → IsBehindSettlement header w u reports learned applied shown) → IsStanding header (lines + 1) u reports
+  standing_settled u learned applied shown below does = record {
+    fit = is.fit;
+    whole = (after_settlement header is.whole).world;
+    reached = settled-reached header lines is.whole is.fit below is.reached;
+    stands = (does is.whole is.stands).stands;
+  }
 
   -- there are reports of each cluster, with small beats
-  pub seats_there : length s.reports ≡ count_of s.header.clusters
-  seats_there = as-many s.world s.reports is.whole is.stands ∙ is.reached.shaped.clusters
+  pub seats_there : length reports ≡ count_of header.clusters
+  seats_there = as-many v reports is.whole is.stands ∙ is.reached.shaped.clusters
 
-  pub beats_small : (cluster : ClusterNo) → IsCluster s.header cluster → AllByRecursion (λ (report : Report). report.beat < 10 ^ 12) (slice_index_or s.reports cluster.number [])
+  pub beats_small : (cluster : ClusterNo) → IsCluster header cluster → AllByRecursion (λ (report : Report). report.beat < 10 ^ 12) (slice_index_or reports cluster.number [])
   beats_small cluster known =
-      all-held s.world s.reports is.whole is.stands (λ (report : Report). report.beat < 10 ^ 12) cluster
-      (all-weaker (λ (report : Report). report.beat ≤ s.lines) (λ (report : Report). report.beat < 10 ^ 12) (λ report most. omega (arith, most, is.reached.fair.numbers.lines_most))
+      all-held v reports is.whole is.stands (λ (report : Report). report.beat < 10 ^ 12) cluster
+      (all-weaker (λ (report : Report). report.beat ≤ lines) (λ (report : Report). report.beat < 10 ^ 12) (λ report most. omega (arith, most, is.reached.fair.numbers.lines_most))
       (cluster_at cluster is.whole).reports (is.reached.beats cluster known))
 
 -- in the beginning
@@ -145,12 +182,46 @@ opening_stands header v reports e f = record {
   reports = f ∙ new-reports header.shards (all_clusters header);
 }
 
-pub standing_begun : (header : Header) (clusters : Running) (reports : List (List Report)) → IsWellFormedHeader header → clusters ≡ record { header = header; lines = 0; world = opening_world header } → reports ≡ map (λ _. []) (all_clusters header)
-    → IsStanding (record { header = clusters.header; lines = clusters.lines; world = clusters.world; reports = reports })
-standing_begun header clusters reports fit is none =
-    subst (λ (r : Running). IsStanding (record { header = r.header; lines = r.lines; world = r.world; reports = reports })) (sym is) (record {
-      fit = fit;
-      whole = opening_world header;
-      reached = opening_reached header;
-      stands = opening_stands header (opening_world header) reports refl none;
-    })
+pub standing_begun : (header : Header) (v : World) (reports : List (List Report)) → IsWellFormedHeader header → v ≡ opening_world header → reports ≡ map (λ _. []) (all_clusters header)
+    → IsUnspent (record { spent = false; header = header; lines = 0; answers = 0; refused = 0; world = v; reports = reports })
+standing_begun header v reports fit is none = record {
+  standing = record {
+    fit = fit;
+    whole = opening_world header;
+    reached = opening_reached header;
+    stands = opening_stands header v reports is none;
+  };
+  answers_most = omega arith;
+  refused_most = omega arith;
+}
+
+-- a line more is counted, with its answers and its refusals
+module _ (before : WorldValue) (is : IsUnspent before) (line : Line) where
+  -- its refusals fit
+  pub refused_fit : before.lines + length (lines_of_act line.number line.act) ≤ 100000 → (u : World) (held : List (List Report)) (told : List ℕ) (shown : List Seen) (count : ℕ)
+      → ((w : World) → StandFor before.world before.reports w → IsBehind before.header line w u held told shown count) → before.refused + count ≤ 100000
+  refused_fit few u held told shown count does =
+      let most = refusals_most before.header before.lines before.world before.reports is.standing line u held told shown count does in
+      omega (arith, few, most, is.answers_most, is.refused_most)
+
+  pub unspent_behind : IsWellFormedAct before.header line.act → before.lines + length (lines_of_act line.number line.act) ≤ 100000 → (u : World) (held : List (List Report)) (told : List ℕ) (shown : List Seen) (count n : ℕ)
+      → ((w : World) → StandFor before.world before.reports w → IsBehind before.header line w u held told shown count) → n ≡ length (lines_of_act line.number line.act)
+      → IsUnspent (record { spent = false; header = before.header; lines = before.lines + n; answers = before.answers + n; refused = before.refused + count; world = u; reports = held })
+  unspent_behind asked few u held told shown count n does lines_are =
+      let most = refusals_most before.header before.lines before.world before.reports is.standing line u held told shown count does in
+      record {
+        standing = subst (λ (k : ℕ). IsStanding before.header (before.lines + k) u held) (sym lines_are)
+            (standing_behind before.header before.lines before.world before.reports is.standing line u held told shown count asked few does);
+        answers_most = omega (arith, is.answers_most);
+        refused_most = omega (arith, is.refused_most, most, lines_are);
+      }
+
+-- a settlement is one line more, without an answer
+pub unspent_settled : (before : WorldValue) (is : IsUnspent before) (u : World) (learned applied : ℕ) (shown : List Seen) → before.lines < 100000
+    → ((w : World) → StandFor before.world before.reports w → IsBehindSettlement before.header w u before.reports learned applied shown)
+    → IsUnspent (record { spent = false; header = before.header; lines = before.lines + 1; answers = before.answers; refused = before.refused; world = u; reports = before.reports })
+unspent_settled before is u learned applied shown below does = record {
+  standing = standing_settled before.header before.lines before.world before.reports is.standing u learned applied shown below does;
+  answers_most = omega (arith, is.answers_most);
+  refused_most = is.refused_most;
+}

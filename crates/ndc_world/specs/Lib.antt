@@ -1,4 +1,6 @@
+pub mod Bursts
+pub mod Counts
 pub mod Reading
 pub mod Running
 pub mod Standing
-pub mod Bursts
+pub mod Summary

@@ -1,23 +1,25 @@
-ghost use Rattle.std.specs.Prelude.{◌≡◌, ◌<◌, ◌++◌, IfOk, OnOk};
+ghost use Rattle.std.specs.Prelude.{◌≡◌, ◌<◌, ◌≤◌, ◌++◌, length, IfOk, OnOk};
 ghost use Rattle.ndc_script_types.specs.WellFormed.{IsCluster};
 ghost use Rattle.ndc_model_cells.specs.Jobs.{cells_after, replies_to};
 ghost use Rattle.ndc_model_cells.specs.declared.job.Job.TheVariants as job;
 ghost use Rattle.ndc_laws_jobs.specs.Lines.{burst_jobs, job_for};
 ghost use Rattle.ndc_model.specs.Fair.{IsShaped};
 ghost use Rattle.ndc_model.specs.Moves.{notes_of};
-ghost use Rattle.ndc_model.specs.Steps.{seen_of};
+ghost use Rattle.ndc_model.specs.Laws.{is_refusal};
+ghost use Rattle.ndc_model.specs.Steps.{outcome_answer, seen_of};
 ghost use Rattle.ndc_model.specs.World.{cluster_at, home_at, with_cells};
 ghost use Rattle.ndc_model.specs.Conditions.{MayDoAll};
 ghost use Rattle.ndc_world.specs.Bursts.{burst_text};
+ghost use Rattle.ndc_world.specs.Counts.{refusals};
 
+use crate::answer::Answer;
 use ndc_cluster_reads::Reads;
 use ndc_domain::ClusterNo;
 use ndc_port::Gate;
 use ndc_script_types::{BurstJob, Header};
-use ndc_shard::{Job, JobReply, ShardJob, shard_of};
+use ndc_shard::{Job, JobReply, Outcome, ShardJob, shard_of};
 use ndc_world_answers::{add_seen, behind_number, outcome};
 use ndc_world_network::Network;
-use ndc_world_steps::Step;
 use std::alloc::{AllocError, Global};
 use std::thread::Threads;
 
@@ -68,7 +70,32 @@ fn answers_of(
     Ok(text)
 }
 
-/// The commands of a burst are done side by side, and their answers are given together, each behind its number.
+/// Whether the answer to a job is a refusal.
+fn refuses(outcome: &Outcome) -> bool
+    ensures { result ≡ is_refusal (outcome_answer outcome.now) }
+{
+    match outcome {
+        Outcome::Refused(_) => true,
+        Outcome::Written(_) => false,
+        Outcome::Arrived(_) => false,
+        Outcome::Reapplied { .. } => false,
+    }
+}
+
+/// How many of the answers to jobs are refusals.
+fn refusals(replies: &[JobReply]) -> u64
+    ensures count { result ≡ refusals replies.now }
+    ensures most { result ≤ length replies.now }
+{
+    let mut count = 0;
+    for place in 0..replies.len() {
+        count += u64::from(refuses(&replies[place].outcome));
+    }
+    count
+}
+
+/// The commands of a burst are done side by side, and their answers are given together, each behind its number;
+/// and how many of these are refusals.
 pub(crate) fn burst<R: Threads + Sync, G: Gate, C: Reads + Drop + Send>(
     network: &mut Network<C>,
     rt: &R,
@@ -78,21 +105,23 @@ pub(crate) fn burst<R: Threads + Sync, G: Gate, C: Reads + Drop + Send>(
     header: &Header,
     cluster: ClusterNo,
     burst: &[BurstJob],
-) -> Result<Step, AllocError>
+) -> Result<(Answer, u64), AllocError>
     requires workers { 0 < workers }
     requires cluster { IsCluster header.now cluster }
     requires shards { 0 < header.now.shards }
     requires shaped { IsShaped header.now network.old }
     requires allowed { MayDoAll C.allows header.now cluster (burst_jobs header.now burst.now) network.old }
     ensures world { OnOk result (network.new ≡ with_cells cluster (cells_after (home_at header.now cluster network.old) (burst_jobs header.now burst.now) (cluster_at cluster network.old).cells) network.old) }
-    ensures answer { IfOk result (λ step. step.answer ≡ burst_text burst.now (replies_to (home_at header.now cluster network.old) (burst_jobs header.now burst.now) (cluster_at cluster network.old).cells)) }
-    ensures seen { IfOk result (λ step. step.seen ≡ seen_of (notes_of cluster (burst_jobs header.now burst.now)
+    ensures answer { IfOk result (λ told. told.0.text.items ≡ burst_text burst.now (replies_to (home_at header.now cluster network.old) (burst_jobs header.now burst.now) (cluster_at cluster network.old).cells)) }
+    ensures seen { IfOk result (λ told. told.0.seen.items ≡ seen_of (notes_of cluster (burst_jobs header.now burst.now)
         (replies_to (home_at header.now cluster network.old) (burst_jobs header.now burst.now) (cluster_at cluster network.old).cells))) }
+    ensures refused { IfOk result (λ told. told.1 ≡ refusals (replies_to (home_at header.now cluster network.old) (burst_jobs header.now burst.now) (cluster_at cluster network.old).cells)) }
 {
     let jobs = jobs_of(alloc, header, burst)?;
     let replies = network.do_jobs(rt, alloc, gate, workers, header, cluster, jobs.as_slice())?;
-    let answer = answers_of(alloc, burst, replies.as_slice())?;
+    let text = answers_of(alloc, burst, replies.as_slice())?;
+    let refused = refusals(replies.as_slice());
     let mut seen = Vec::new(alloc);
     add_seen(&mut seen, cluster, jobs.as_slice(), replies)?;
-    Ok(Step::new(answer, seen))
+    Ok((Answer { text, seen }, refused))
 }

@@ -1,13 +1,17 @@
-//! All clusters of a script: what each line leaves, answers and makes learned.
+//! The world of a script: what each line leaves, answers and makes learned.
 #![tactic(auto)]
 
 mod acting;
+mod answer;
 mod begins;
 mod bursts;
-mod clusters;
 mod opening;
 mod reporting;
+mod running;
+mod summary;
 mod world;
 
+pub use answer::{Answer, Settled};
 pub use begins::Begins;
-pub use world::{Ran, World};
+pub use summary::Summary;
+pub use world::World;

@@ -1,173 +1,180 @@
+use crate::answer::{Answer, Settled};
 use crate::begins::Begins;
-use crate::clusters::{Clusters, Left};
-use crate::reporting::{is_on_reports, no_reports};
-use ndc_index::Seen;
+use crate::opening::opening_sites;
+use crate::reporting::no_reports;
+use crate::running::{line_count, run_line};
+use crate::summary::Summary;
 use ndc_port::Gate;
 use ndc_progress::Progress;
-use ndc_script_types::{Act, Header, Line};
-use ndc_world_answers::behind_number;
+use ndc_script_types::{Header, Line};
 use ndc_world_network::Network;
+use ndc_world_steps::moving::{Telling, settlement};
+use ndc_world_summary::totals;
 use std::alloc::{AllocError, Global};
 use std::marker::Model;
 use std::thread::Threads;
 
-/// All clusters of a script that runs, behind so many lines, with the greatest progress report of each activity that each
-/// cluster was told or took over. They stand for the world that the lines lead to.
+/// The world of a script that runs: all clusters with the links between them, and the greatest progress report of each
+/// activity that each cluster was told or took over. They stand for the world that the lines lead to. It counts the lines
+/// that were run, their answers and how many of these are refusals. After want of memory in a line or a settlement it is
+/// spent, and may only be dropped.
 pub struct World<'a, C: Begins + Drop> {
-    clusters: Clusters<'a, C>,
+    header: &'a Header,
+    network: Network<C>,
     reports: Vec<Progress>,
+    lines: u64,
+    answers: u64,
+    refused: u64,
+    spent: bool,
 }
 
 impl<'a, C: Begins + Drop> Model for World<'a, C> {
-    ghost use Rattle.ndc_world.specs.Standing.{IsStanding, Standing};
+    ghost use Rattle.std.specs.Prelude.{◌≡◌, false};
+    ghost use Rattle.ndc_world.specs.Standing.{IsUnspent, WorldValue};
 
-    ghost Value = { Standing };
+    ghost Value = { WorldValue };
 
-    ghost view = { λ world. record { header = world.clusters.header; lines = world.clusters.lines; world = world.clusters.world; reports = world.reports.items } };
+    ghost view = { λ world. record { spent = world.spent; header = world.header.now; lines = world.lines; answers = world.answers; refused = world.refused; world = world.network; reports = world.reports.items } };
 
-    ghost invariant = { λ world. IsStanding (record { header = world.clusters.header; lines = world.clusters.lines; world = world.clusters.world; reports = world.reports.items }) };
+    ghost invariant = { λ world. world.spent ≡ false
+        → IsUnspent (record { spent = world.spent; header = world.header.now; lines = world.lines; answers = world.answers; refused = world.refused; world = world.network; reports = world.reports.items }) };
 }
 
 impl<'a, C: Begins + Drop> Drop for World<'a, C> {
     fn drop(self) {
         let World {
-            clusters: _clusters,
+            header: _header,
+            network: _network,
             reports: _reports,
+            lines: _lines,
+            answers: _answers,
+            refused: _refused,
+            spent: _spent,
         } = self;
     }
 }
 
-/// What a line of a script's text left: the world, its answers, each behind the number of its line, and what became
-/// learned, in the order of being told.
-#[derive(Drop)]
-pub struct Ran<'a, C: Begins + Drop> {
-    pub world: World<'a, C>,
-    pub answers: Vec<u8>,
-    pub seen: Vec<Seen>,
-}
-
 impl<'a, C: Begins + Drop> World<'a, C> {
-    ghost use Rattle.std.specs.Prelude.{◌≡◌, ◌<◌, ◌+◌, ◌≤◌, false, length, true, IfOk};
+    ghost use Rattle.std.specs.Prelude.{◌≡◌, ◌<◌, ◌+◌, ◌≤◌, false, length, true, IfOk, OnErr};
     ghost use Rattle.ndc_script_types.specs.WellFormed.{IsWellFormedAct, IsWellFormedHeader};
-    ghost use Rattle.ndc_laws_jobs.specs.Bare.{is_on_reports};
     ghost use Rattle.ndc_laws_jobs.specs.Standing.{StandFor};
-    ghost use Rattle.ndc_model.specs.Fair.{IsShaped};
     ghost use Rattle.ndc_model.specs.Lines.{lines_of_act};
-    ghost use Rattle.ndc_model.specs.World.{World as Whole, opening_world};
-    ghost use Rattle.ndc_world.specs.Standing.{IsBehind};
+    ghost use Rattle.ndc_model.specs.World.{opening_world};
+    ghost use Rattle.ndc_world.specs.Standing.{IsSettledBy, IsStepped};
+    ghost use Rattle.ndc_world.specs.Summary.{summary_of};
 
     /// The world of a header in the beginning: nothing is registered, written or sent.
     pub fn build(alloc: Global, header: &'a Header) -> Result<World<'a, C>, AllocError>
         requires { IsWellFormedHeader header.now }
+        ensures unspent { IfOk result (λ world. world.spent ≡ false) }
         ensures header { IfOk result (λ world. world.header ≡ header.now) }
         ensures lines { IfOk result (λ world. world.lines ≡ 0) }
+        ensures answers { IfOk result (λ world. world.answers ≡ 0) }
+        ensures refused { IfOk result (λ world. world.refused ≡ 0) }
         ensures stands { IfOk result (λ world. StandFor world.world world.reports (opening_world header.now)) }
     {
         let reports = no_reports(alloc, header)?;
-        let clusters = Clusters::build(alloc, header)?;
-        Ok(World { clusters, reports })
+        let sites = opening_sites(alloc, header)?;
+        let network = Network::new(alloc, header, sites)?;
+        Ok(World {
+            header,
+            network,
+            reports,
+            lines: 0,
+            answers: 0,
+            refused: 0,
+            spent: false,
+        })
     }
 
-    /// How many lines were run. Takes no memory.
+    /// How many lines were run: each line in a burst counts as one, and so does a settlement. Takes no memory.
     pub fn lines(&self) -> u64
         ensures { result ≡ self.now.lines }
     {
-        self.clusters.lines()
+        self.lines
     }
 
-    /// The clusters with the links between them, without progress reports. Takes no memory.
-    pub fn network(&self) -> &Network<C>
-        ensures network { result.now ≡ self.now.world }
-        ensures shaped { IsShaped self.now.header self.now.world }
-    {
-        self.clusters.network()
-    }
-
-    /// Runs a line of the text, on so many workers at most, behind the gate. In each world for which the clusters stand,
-    /// the line answers this and makes this learned, and behind it they stand for the world that it leaves. The lines in a
-    /// burst run side by side, and are counted each. No more than 100,000 lines are run. After want of memory there is no
-    /// world.
-    pub fn run<R: Threads + Sync, G: Gate>(
-        self,
+    /// Runs a line of the text, on so many workers at most, behind the gate. The lines in a burst run side by side. No more
+    /// than 100,000 lines are run. After want of memory the world is spent.
+    pub fn step<R: Threads + Sync, G: Gate>(
+        &mut self,
         rt: &R,
         alloc: Global,
         gate: &G,
         workers: u32,
         line: &Line,
-    ) -> Result<Ran<'a, C>, AllocError>
+    ) -> Result<Answer, AllocError>
     where
         C: Send,
+        requires unspent { self.old.spent ≡ false }
         requires workers { 0 < workers }
-        requires act { IsWellFormedAct self.header line.now.act }
-        requires lines { self.lines + length (lines_of_act line.now.number line.now.act) ≤ 100000 }
-        ensures header { IfOk result (λ ran. ran.world.header ≡ self.entry.header) }
-        ensures lines { IfOk result (λ ran. ran.world.lines ≡ self.entry.lines + length (lines_of_act line.now.number line.now.act)) }
-        ensures behind { IfOk result (λ ran. (w : Whole) → StandFor self.entry.world self.entry.reports w → IsBehind self.entry.header line.now w ran.world ran.answers.items ran.seen.items) }
+        requires act { IsWellFormedAct self.old.header line.now.act }
+        requires lines { self.old.lines + length (lines_of_act line.now.number line.now.act) ≤ 100000 }
+        ensures steps { IfOk result (λ answer. IsStepped self.old line.now self.new answer.text.items answer.seen.items) }
+        ensures spent { OnErr result (self.new.spent ≡ true) }
     {
-        if is_on_reports(&line.act) {
-            let ran = self.run_report(alloc, line.number, &line.act)?;
-            return Ok(ran);
-        }
-        let ran = self.run_other(rt, alloc, gate, workers, line)?;
-        Ok(ran)
+        self.spent = true;
+        let (answer, refused) = run_line(
+            &mut self.network,
+            &mut self.reports,
+            rt,
+            alloc,
+            gate,
+            workers,
+            self.header,
+            self.lines,
+            line,
+        )?;
+        let count = line_count(&line.act);
+        self.lines += count;
+        self.answers += count;
+        self.refused += refused;
+        self.spent = false;
+        Ok(answer)
     }
 
-    /// Runs a line that is not on progress reports.
-    fn run_other<R: Threads + Sync, G: Gate>(
-        self,
+    /// Settles all clusters, on so many workers at most, behind the gate: all that was written arrives everywhere where it
+    /// is due. It counts as one line. No more than 100,000 lines are run. After want of memory the world is spent.
+    pub fn settle<R: Threads + Sync, G: Gate>(
+        &mut self,
         rt: &R,
         alloc: Global,
         gate: &G,
         workers: u32,
-        line: &Line,
-    ) -> Result<Ran<'a, C>, AllocError>
+    ) -> Result<Settled, AllocError>
     where
         C: Send,
+        requires unspent { self.old.spent ≡ false }
         requires workers { 0 < workers }
-        requires act { IsWellFormedAct self.header line.now.act }
-        requires other { is_on_reports line.now.act ≡ false }
-        requires lines { self.lines + length (lines_of_act line.now.number line.now.act) ≤ 100000 }
-        ensures header { IfOk result (λ ran. ran.world.header ≡ self.entry.header) }
-        ensures lines { IfOk result (λ ran. ran.world.lines ≡ self.entry.lines + length (lines_of_act line.now.number line.now.act)) }
-        ensures behind { IfOk result (λ ran. (w : Whole) → StandFor self.entry.world self.entry.reports w → IsBehind self.entry.header line.now w ran.world ran.answers.items ran.seen.items) }
+        requires lines { self.old.lines < 100000 }
+        ensures settled { IfOk result (λ settled. IsSettledBy self.old self.new settled.learned settled.reapplied settled.seen.items) }
+        ensures spent { OnErr result (self.new.spent ≡ true) }
     {
-        let World { clusters, reports } = self;
-        let Left {
-            clusters,
-            answers,
-            seen,
-        } = clusters.run(rt, alloc, gate, workers, line)?;
-        let world = World { clusters, reports };
-        Ok(Ran {
-            world,
-            answers,
+        self.spent = true;
+        let Telling { tally, seen } =
+            settlement(&mut self.network, rt, alloc, gate, workers, self.header)?;
+        self.lines += 1;
+        self.spent = false;
+        Ok(Settled {
+            learned: tally.learned,
+            reapplied: tally.applied,
             seen,
         })
     }
 
-    /// Runs a line on progress reports.
-    fn run_report(self, alloc: Global, number: u64, asked: &Act) -> Result<Ran<'a, C>, AllocError>
-        requires act { IsWellFormedAct self.header asked.now }
-        requires on { is_on_reports asked.now ≡ true }
-        requires lines { self.lines < 100000 }
-        ensures header { IfOk result (λ ran. ran.world.header ≡ self.entry.header) }
-        ensures lines { IfOk result (λ ran. ran.world.lines ≡ self.entry.lines + 1) }
-        ensures behind { IfOk result (λ ran. (w : Whole) → StandFor self.entry.world self.entry.reports w
-            → IsBehind self.entry.header (record { number = number; act = asked.now }) w ran.world ran.answers.items ran.seen.items) }
+    /// What it comes to, in numbers. In time of all that was written and learned.
+    pub fn summary(&self, alloc: Global) -> Result<Summary, AllocError>
+        requires { self.now.spent ≡ false }
+        ensures { IfOk result (λ summary. summary ≡ summary_of self.now) }
     {
-        let World {
-            clusters,
-            mut reports,
-        } = self;
-        let step = clusters.report(&mut reports, alloc, asked)?;
-        let (answer, seen) = step.into_parts();
-        let answers = behind_number(alloc, number, answer.as_slice())?;
-        let clusters = clusters.passed();
-        let world = World { clusters, reports };
-        Ok(Ran {
-            world,
-            answers,
-            seen,
+        let clusters = totals(alloc, self.header, &self.network)?;
+        Ok(Summary {
+            answers: self.answers,
+            refused: self.refused,
+            batches: clusters.batches,
+            workflows: clusters.workflows,
+            branches: clusters.branches,
+            same: clusters.same,
         })
     }
 }

@@ -22,7 +22,7 @@ use Rattle.ndc_port.specs.Bytes.{Appends, AppendsFront, Sent}
 use Rattle.ndc_port.proofs.Steps.{Sent_end, Sent_part, Sent_piece, Sent_start}
 use Rattle.ndc_world_report.specs.Left.{MayRun, at_world, kept_where, left_of, opening_of}
 use Rattle.ndc_world.specs.Running.{Running, behind_line, ran_at}
-use Rattle.ndc_world.specs.Standing.{Standing}
+use Rattle.ndc_world.specs.Standing.{WorldValue}
 
 -- a well-formed script may run
 pub opening_may_run : (script : Script) → IsWellFormed script → MayRun script.header 0 script.lines
@@ -195,12 +195,12 @@ none_kept value (x ∷ late) n is_empty count tests none =
     absurd (omega (arith, count, same))
 
 -- clusters that stand for the opening world, before the first line
-pub opened_at : (script : Script) (standing : Standing) → standing.header ≡ script.header → standing.lines ≡ 0 → at_world standing (opening_world script.header) ≡ opening_of script
+pub opened_at : (script : Script) (standing : WorldValue) → standing.header ≡ script.header → standing.lines ≡ 0 → at_world standing (opening_world script.header) ≡ opening_of script
 opened_at script standing headed none =
     ap (λ (h : Header). record { header = h; lines = standing.lines; world = opening_world script.header }) headed ∙ ap (λ (n : ℕ). record { header = script.header; lines = n; world = opening_world script.header }) none
 
 -- and behind a line
-pub moved_at : (standing behind : Standing) (w v : World) (line : Line) → behind.header ≡ standing.header → behind.lines ≡ standing.lines + length (lines_of_act line.number line.act) → v ≡ world_behind w (ran_at (at_world standing w) line)
+pub moved_at : (standing behind : WorldValue) (w v : World) (line : Line) → behind.header ≡ standing.header → behind.lines ≡ standing.lines + length (lines_of_act line.number line.act) → v ≡ world_behind w (ran_at (at_world standing w) line)
     → at_world behind v ≡ behind_line (at_world standing w) line
 moved_at standing behind w v line headed count left =
     ap (λ (h : Header). record { header = h; lines = behind.lines; world = v }) headed
@@ -208,7 +208,7 @@ moved_at standing behind w v line headed count left =
     ∙ ap (λ (u : World). record { header = standing.header; lines = standing.lines + length (lines_of_act line.number line.act); world = u }) left
 
 -- how far a script is run: the world for which its clusters stand, what is left to send, to keep and to tell
-pub record IsUnderWay (script : Script) (standing : Standing) (lines : List Line) (keeps : Bool) (told : List Seen) (before now : Option (List ℕ)) (asked all : List SeatValue) : Type 0 where
+pub record IsUnderWay (script : Script) (standing : WorldValue) (lines : List Line) (keeps : Bool) (told : List Seen) (before now : Option (List ℕ)) (asked all : List SeatValue) : Type 0 where
   pub whole : World
   pub stands : StandFor standing.world standing.reports whole
   pub sent : Sent before now (answers_of (ran_of script)) (answers_of (left_of (at_world standing whole) lines))

@@ -6,14 +6,14 @@ use Rattle.ndc_script_types.specs.declared.script.Header.{Header}
 use Rattle.ndc_script_types.specs.declared.script.Line.{Line}
 use Rattle.ndc_script_types.specs.declared.script.Script.{Script}
 use Rattle.ndc_index.specs.declared.seen.Seen.{Seen}
-use Rattle.ndc_model.specs.Lines.{Ran, plain_lines, ran_from}
+use Rattle.ndc_model.specs.Lines.{Ran, plain_lines, ran_from, ran_of, world_behind}
 use Rattle.ndc_model.specs.World.{World, opening_world}
 use Rattle.ndc_world.specs.Running.{Running}
-use Rattle.ndc_world.specs.Standing.{Standing}
+use Rattle.ndc_world.specs.Standing.{WorldValue}
 
 -- a script that runs, in a world for which its clusters stand
-abbrev pub at_world : Standing → World → Running
-at_world standing w = record { header = standing.header; lines = standing.lines; world = w }
+abbrev pub at_world : WorldValue → World → Running
+at_world value w = record { header = value.header; lines = value.lines; world = w }
 
 -- what runs where these lines do, in the world that was left
 abbrev pub left_of : Running → List Line → List Ran
@@ -31,3 +31,7 @@ kept_where keeps seen = if keeps then seen else []
 -- a script before its first line
 abbrev pub opening_of : Script → Running
 opening_of script = record { header = script.header; lines = 0; world = opening_world script.header }
+
+-- the world behind the last line of a script
+abbrev pub last_world : Script → World
+last_world script = world_behind (opening_world script.header) (ran_of script)

@@ -1,4 +1,4 @@
-ghost use Rattle.std.specs.Prelude.{◌≡◌, ◌<◌, ◌≤◌, ◌+◌, ◌++◌, Err, length, map, IfOk, OnOk, OnErr};
+ghost use Rattle.std.specs.Prelude.{◌≡◌, ◌<◌, ◌≤◌, ◌+◌, ◌++◌, Err, false, length, map, IfOk, OnOk, OnErr};
 ghost use Rattle.std.specs.Option.{option_map};
 ghost use Rattle.ndc_script_types.specs.WellFormed.{IsWellFormed, IsWellFormedAct};
 ghost use Rattle.ndc_index.specs.Seats.{seat_of, shown};
@@ -16,39 +16,37 @@ use crate::error::RunError;
 use ndc_index::{Indexers, Seen};
 use ndc_port::{Gate, Sink, write_all};
 use ndc_script_types::{Line, Script};
-use ndc_world::{Begins, Ran, World};
+use ndc_world::{Answer, Begins, World};
 use std::alloc::{AllocError, Global};
 use std::thread::Threads;
 
 /// Runs a line and writes its answers in one piece; gives what it made learned.
-fn run_line<'a, R: Threads + Sync, G: Gate, K: Sink, C: Begins + Drop + Send>(
+fn run_line<R: Threads + Sync, G: Gate, K: Sink, C: Begins + Drop + Send>(
     rt: &R,
     alloc: Global,
     gate: &G,
     workers: u32,
-    world: World<'a, C>,
+    world: &mut World<C>,
     line: &Line,
     out: &mut K,
-) -> Result<(World<'a, C>, Vec<Seen>), RunError>
+) -> Result<Vec<Seen>, RunError>
+    requires unspent { world.old.spent ≡ false }
     requires workers { 0 < workers }
-    requires act { IsWellFormedAct world.header line.now.act }
-    requires lines { world.lines + length (lines_of_act line.now.number line.now.act) ≤ 100000 }
-    ensures header { IfOk result (λ ran. ran.0.header ≡ world.entry.header) }
-    ensures lines { IfOk result (λ ran. ran.0.lines ≡ world.entry.lines + length (lines_of_act line.now.number line.now.act)) }
-    ensures stands { IfOk result (λ ran. (w : Whole) → StandFor world.entry.world world.entry.reports w → StandFor ran.0.world ran.0.reports (world_behind w (ran_at (at_world world.entry w) line.now))) }
-    ensures seen { IfOk result (λ ran. (w : Whole) → StandFor world.entry.world world.entry.reports w → ran.1.items ≡ seen_in (ran_at (at_world world.entry w) line.now)) }
-    ensures whole { OnOk result ((w : Whole) → StandFor world.entry.world world.entry.reports w → Appends (K.written out.old) (K.written out.new) (answers_of (ran_at (at_world world.entry w) line.now))) }
-    ensures front { OnErr result ((w : Whole) → StandFor world.entry.world world.entry.reports w → AppendsFront (K.written out.old) (K.written out.new) (answers_of (ran_at (at_world world.entry w) line.now))) }
+    requires act { IsWellFormedAct world.old.header line.now.act }
+    requires lines { world.old.lines + length (lines_of_act line.now.number line.now.act) ≤ 100000 }
+    ensures unspent { OnOk result (world.new.spent ≡ false) }
+    ensures header { OnOk result (world.new.header ≡ world.old.header) }
+    ensures lines { OnOk result (world.new.lines ≡ world.old.lines + length (lines_of_act line.now.number line.now.act)) }
+    ensures stands { OnOk result ((w : Whole) → StandFor world.old.world world.old.reports w → StandFor world.new.world world.new.reports (world_behind w (ran_at (at_world world.old w) line.now))) }
+    ensures seen { IfOk result (λ seen. (w : Whole) → StandFor world.old.world world.old.reports w → seen.items ≡ seen_in (ran_at (at_world world.old w) line.now)) }
+    ensures whole { OnOk result ((w : Whole) → StandFor world.old.world world.old.reports w → Appends (K.written out.old) (K.written out.new) (answers_of (ran_at (at_world world.old w) line.now))) }
+    ensures front { OnErr result ((w : Whole) → StandFor world.old.world world.old.reports w → AppendsFront (K.written out.old) (K.written out.new) (answers_of (ran_at (at_world world.old w) line.now))) }
     ensures cause { result ≡ Err run_error.Write → Rose (K.faults out.old) (K.faults out.new) }
     ensures count { K.faults out.old ≤ K.faults out.new }
 {
-    let Ran {
-        world,
-        answers,
-        seen,
-    } = world.run(rt, alloc, gate, workers, line)?;
-    write_all(out, answers.as_slice())?;
-    Ok((world, seen))
+    let Answer { text, seen } = world.step(rt, alloc, gate, workers, line)?;
+    write_all(out, text.as_slice())?;
+    Ok(seen)
 }
 
 /// Puts these behind what was kept.
@@ -97,8 +95,7 @@ pub fn run_script<R: Threads + Sync, G: Gate, K: Sink, C: Begins + Drop + Send>(
     let keeps = !indexers.late.is_empty();
     let mut told = Vec::new(alloc);
     for line in script.lines.as_slice() {
-        let (behind, seen) = run_line(rt, alloc, gate, workers, world, line, out)?;
-        world = behind;
+        let seen = run_line(rt, alloc, gate, workers, &mut world, line, out)?;
         for one in seen.as_slice() {
             indexers.told(one)?;
         }

@@ -33,22 +33,23 @@ loop-line-init g c =
         kept = kept_opening script running items opened c.as_slice-line-items.ensures _ _ c.new-told.ensures.items;
         asked_left = asked_opening script running items opened c.as_slice-line-items.ensures _;
       };
+      unspent = c.in_ok-world.ensures.unspent;
       may = may_opening script running items opened c.as_slice-line-items.ensures c.requires.script;
       late = refl;
       faults = omega arith;
     }
 
 -- of the answers of a line a front was written
-pub returns-in_err-behind-clause-front : goal.returns-in_err-behind-clause-front
-returns-in_err-behind-clause-front g c =
+pub returns-in_err-seen-clause-front : goal.returns-in_err-seen-clause-front
+returns-in_err-seen-clause-front g c =
     let written = g.K.Sink.written in
     let way = c.loop-line.invariant.way in
     let running = at_world c.loop-line.world way.whole in
     let items = c.as_slice-line-items.result.now in
     let within : c.loop-line.line-index < length items = omega arith in
-    on_err _ c.from_residual-in_err-behind.result (front_answers c.args.script.now _ _ (written c.args.out.now) (written c.run_line.new.out)
+    on_err _ c.from_residual-in_err-seen.result (front_answers c.args.script.now _ _ (written c.args.out.now) (written c.run_line.new.out)
     (sent_part running (behind_line running c.line-item.result) items c.loop-line.line-index c.line-item.result within c.line-item.is refl
-    (written c.args.out.now) (written c.loop-line.out) (written c.run_line.new.out) (answers_of (ran_of c.args.script.now)) way.sent (c.in_err-behind.ensures.front way.whole way.stands)))
+    (written c.args.out.now) (written c.loop-line.out) (written c.run_line.new.out) (answers_of (ran_of c.args.script.now)) way.sent (c.in_err-seen.ensures.front way.whole way.stands)))
 
 -- the answers of a line were written, and nothing more
 pub returns-in_err-told-clause-front : goal.returns-in_err-told-clause-front
@@ -57,14 +58,14 @@ returns-in_err-told-clause-front g c =
     let way = c.loop-line.invariant.way in
     let running = at_world c.loop-line.world way.whole in
     let left = world_behind way.whole (ran_at running c.line-item.result) in
-    let behind = at_world c.in_ok-behind.behind left in
-    let moved = moved_at c.loop-line.world c.in_ok-behind.behind way.whole left c.line-item.result c.in_ok-behind.ensures.header c.in_ok-behind.ensures.lines refl in
+    let behind = at_world c.run_line.new.world left in
+    let moved = moved_at c.loop-line.world c.run_line.new.world way.whole left c.line-item.result c.in_ok-seen.ensures.header c.in_ok-seen.ensures.lines refl in
     let items = c.as_slice-line-items.result.now in
     let within : c.loop-line.line-index < length items = omega arith in
     on_err _ c.from_residual-in_err-told.result (front_answers c.args.script.now _ _ (written c.args.out.now) (written c.run_line.new.out)
     (Sent_stop _ _ _ _
     (sent_line running behind items c.loop-line.line-index c.line-item.result within c.line-item.is moved
-    (written c.args.out.now) (written c.loop-line.out) (written c.run_line.new.out) (answers_of (ran_of c.args.script.now)) way.sent (c.in_ok-behind.ensures.whole way.whole way.stands))))
+    (written c.args.out.now) (written c.loop-line.out) (written c.run_line.new.out) (answers_of (ran_of c.args.script.now)) way.sent (c.in_ok-seen.ensures.whole way.whole way.stands))))
 
 pub loop-one-preserved : goal.loop-one-preserved
 loop-one-preserved g c =
@@ -80,14 +81,14 @@ returns-in_err-keep_where-clause-front g c =
     let way = c.loop-line.invariant.way in
     let running = at_world c.loop-line.world way.whole in
     let left = world_behind way.whole (ran_at running c.line-item.result) in
-    let behind = at_world c.in_ok-behind.behind left in
-    let moved = moved_at c.loop-line.world c.in_ok-behind.behind way.whole left c.line-item.result c.in_ok-behind.ensures.header c.in_ok-behind.ensures.lines refl in
+    let behind = at_world c.run_line.new.world left in
+    let moved = moved_at c.loop-line.world c.run_line.new.world way.whole left c.line-item.result c.in_ok-seen.ensures.header c.in_ok-seen.ensures.lines refl in
     let items = c.as_slice-line-items.result.now in
     let within : c.loop-line.line-index < length items = omega arith in
     on_err _ c.from_residual-in_err-keep_where.result (front_answers c.args.script.now _ _ (written c.args.out.now) (written c.run_line.new.out)
     (Sent_stop _ _ _ _
     (sent_line running behind items c.loop-line.line-index c.line-item.result within c.line-item.is moved
-    (written c.args.out.now) (written c.loop-line.out) (written c.run_line.new.out) (answers_of (ran_of c.args.script.now)) way.sent (c.in_ok-behind.ensures.whole way.whole way.stands))))
+    (written c.args.out.now) (written c.loop-line.out) (written c.run_line.new.out) (answers_of (ran_of c.args.script.now)) way.sent (c.in_ok-seen.ensures.whole way.whole way.stands))))
 
 pub loop-line-preserved : goal.loop-line-preserved
 loop-line-preserved g c =
@@ -95,27 +96,28 @@ loop-line-preserved g c =
     let way = c.loop-line.invariant.way in
     let running = at_world c.loop-line.world way.whole in
     let left = world_behind way.whole (ran_at running c.line-item.result) in
-    let behind = at_world c.in_ok-behind.behind left in
-    let moved = moved_at c.loop-line.world c.in_ok-behind.behind way.whole left c.line-item.result c.in_ok-behind.ensures.header c.in_ok-behind.ensures.lines refl in
+    let behind = at_world c.run_line.new.world left in
+    let moved = moved_at c.loop-line.world c.run_line.new.world way.whole left c.line-item.result c.in_ok-seen.ensures.header c.in_ok-seen.ensures.lines refl in
     let items = c.as_slice-line-items.result.now in
     let seen = c.as_slice-one-items.result.now in
     let within : c.loop-line.line-index < length items = omega arith in
     let most : length seen ≤ c.loop-one.one-index = omega arith in
-    let learned = c.in_ok-behind.ensures.seen way.whole way.stands in
+    let learned = c.in_ok-seen.ensures.seen way.whole way.stands in
     record {
       way = record {
         whole = left;
-        stands = c.in_ok-behind.ensures.stands way.whole way.stands;
+        stands = c.in_ok-seen.ensures.stands way.whole way.stands;
         sent = sent_line running behind items c.loop-line.line-index c.line-item.result within c.line-item.is moved
-            (written c.args.out.now) (written c.loop-line.out) (written c.run_line.new.out) (answers_of (ran_of c.args.script.now)) way.sent (c.in_ok-behind.ensures.whole way.whole way.stands);
+            (written c.args.out.now) (written c.loop-line.out) (written c.run_line.new.out) (answers_of (ran_of c.args.script.now)) way.sent (c.in_ok-seen.ensures.whole way.whole way.stands);
         kept = kept_line running behind items c.loop-line.line-index c.line-item.result within c.line-item.is moved
-            _ _ c.loop-line.told.items _ c.in_ok-behind.seen.items learned c.in_ok-keep_where.ensures way.kept;
+            _ _ c.loop-line.told.items _ c.in_ok-seen.seen.items learned c.in_ok-keep_where.ensures way.kept;
         asked_left = told_line running behind items c.loop-line.line-index c.line-item.result within c.line-item.is moved
             _ _ _ seen (c.as_slice-one-items.ensures.value ∙ learned) (told_all seen c.loop-one.one-index _ _ most c.loop-one.invariant.told) way.asked_left;
       };
+      unspent = c.in_ok-seen.ensures.unspent;
       may = may_run_more running behind items c.loop-line.line-index c.line-item.result within c.line-item.is moved c.loop-line.invariant.may;
       late = c.loop-one.invariant.late ∙ c.loop-line.invariant.late;
-      faults = omega (arith, c.loop-line.invariant.faults, c.in_ok-behind.ensures.count);
+      faults = omega (arith, c.loop-line.invariant.faults, c.in_ok-seen.ensures.count);
     }
 
 -- the answers of all lines were written, and nothing more

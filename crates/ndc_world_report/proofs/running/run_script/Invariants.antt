@@ -1,4 +1,4 @@
-use Rattle.std.proofs.Common.{◌≡◌, ◌≤◌, drop, map}
+use Rattle.std.proofs.Common.{◌≡◌, ◌≤◌, drop, false, map}
 use Rattle.std.specs.Option.{option_map}
 use Rattle.ndc_index.specs.Seats.{after_all, seat_of, shown}
 use Rattle.ndc_world_report.specs.Left.{MayRun}
@@ -9,6 +9,7 @@ use Rattle.ndc_world_report.proofs.running.run_script.Given as goal
 abbrev pub invariant-loop-line : goal.invariant-loop-line
 invariant-loop-line g l = let sink = g.K.Sink in record {
   way : IsUnderWay l.script l.world (drop l.line-index l.line-items) l.keeps l.told.items (sink.written l.fn.out) (sink.written l.out) (map (λ seat. seat_of seat.name seat.calls (option_map (λ b. shown ((goal.Indexer-dyn g (b.vtable, b.value)).title b.value) ((goal.Indexer-dyn g (b.vtable, b.value)).failing b.value) ((goal.Indexer-dyn g (b.vtable, b.value)).list b.value)) seat.indexer)) l.indexers.asked.items) (map (λ seat. seat_of seat.name seat.calls (option_map (λ b. shown ((goal.Indexer-dyn g (b.vtable, b.value)).title b.value) ((goal.Indexer-dyn g (b.vtable, b.value)).failing b.value) ((goal.Indexer-dyn g (b.vtable, b.value)).list b.value)) seat.indexer)) l.fn.indexers.asked.items);
+  unspent : l.world.spent ≡ false;
   may : MayRun l.world.header l.world.lines (drop l.line-index l.line-items);
   late : l.indexers.late ≡ l.fn.indexers.late;
   faults : sink.faults l.fn.out ≤ sink.faults l.out;

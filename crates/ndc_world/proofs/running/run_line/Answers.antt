@@ -1,0 +1,17 @@
+use Rattle.std.proofs.Common.{sym, ◌∙◌}
+use Rattle.ndc_world.proofs.StandingLemmas.{beats_small, behind_other, clusters_reached}
+use Rattle.ndc_world.proofs.running.run_line.Goals as goal
+
+pub run_report-requires-clause-shaped : goal.run_report-requires-clause-shaped
+run_report-requires-clause-shaped g c = (clusters_reached c.args.header.now c.args.lines c.args.network.now c.args.reports.now.items c.requires.standing).shaped
+
+pub run_report-requires-clause-beats : goal.run_report-requires-clause-beats
+run_report-requires-clause-beats g c = beats_small c.args.header.now c.args.lines c.args.network.now c.args.reports.now.items c.requires.standing
+
+pub run_other-requires-clause-reached : goal.run_other-requires-clause-reached
+run_other-requires-clause-reached g c κs within = clusters_reached c.args.header.now c.args.lines c.args.network.now c.args.reports.now.items c.requires.standing
+
+pub returns : goal.returns
+returns g c = λ w stand.
+    behind_other c.args.header.now c.args.line.now c.args.network.now c.run_other.new.network c.args.reports.now.items w c.in_ok-told-2.told.0.text.items c.in_ok-told-2.told.0.seen.items c.in_ok-told-2.told.1
+    (sym c.is_on_reports.ensures ∙ c.if-is_on_reports.false) stand c.in_ok-told-2.ensures
