@@ -6,8 +6,8 @@ ghost use Rattle.ndc_tool_top.specs.Demo.{answer_of, demo_text, summary_line};
 use ndc_port::Gate;
 use ndc_script::generate;
 use ndc_shard::Shard;
-use ndc_world_report::count_script;
-use ndc_world_summary::{Summary, summary};
+use ndc_world::Summary;
+use ndc_world_report::last_world;
 use std::alloc::{AllocError, Global};
 use std::thread::Threads;
 
@@ -27,18 +27,13 @@ fn answer_of(same: bool) -> &'static str
     if same { "yes" } else { "no" }
 }
 
-/// The line on so many answers, of which so many are refusals, and on the world that was left.
-fn summary_line(
-    alloc: Global,
-    answers: u64,
-    refused: u64,
-    summary: &Summary,
-) -> Result<Vec<u8>, AllocError>
-    ensures { IfOk result (λ text. text.items ≡ summary_line answers refused summary.now) }
+/// The line on what a world comes to.
+fn summary_line(alloc: Global, summary: &Summary) -> Result<Vec<u8>, AllocError>
+    ensures { IfOk result (λ text. text.items ≡ summary_line summary.now) }
 {
     let mut text = Vec::new(alloc);
-    push_count(&mut text, b"answers ", answers)?;
-    push_count(&mut text, b" refused ", refused)?;
+    push_count(&mut text, b"answers ", summary.answers)?;
+    push_count(&mut text, b" refused ", summary.refused)?;
     push_count(&mut text, b" batches ", summary.batches)?;
     push_count(&mut text, b" workflows ", summary.workflows)?;
     push_count(&mut text, b" branches ", summary.branches)?;
@@ -60,7 +55,7 @@ pub fn demo_text<R: Threads + Sync, G: Gate>(
     ensures { IfOk result (λ text. text.items ≡ demo_text (generated_script count 0)) }
 {
     let script = generate(alloc, count, 0)?;
-    let counted = count_script::<R, G, Shard>(rt, alloc, gate, 1, &script)?;
-    let left = summary(alloc, &script.header, counted.world.network())?;
-    summary_line(alloc, counted.world.lines(), counted.refused, &left)
+    let world = last_world::<R, G, Shard>(rt, alloc, gate, 1, &script)?;
+    let summary = world.summary(alloc)?;
+    summary_line(alloc, &summary)
 }

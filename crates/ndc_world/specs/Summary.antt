@@ -1,15 +1,21 @@
 -- What a world comes to, in numbers.
+use Rattle.std.specs.Prelude.{ℕ}
 use Rattle.ndc_world_summary.specs.Summaries.{totals_of}
+use Rattle.ndc_world_summary.specs.declared.parts.Totals.{Totals}
 use Rattle.ndc_world.specs.Standing.{WorldValue}
 use Rattle.ndc_world.specs.declared.summary.Summary.{Summary}
 
--- its answers and refusals, and what its clusters come to
-abbrev pub summary_of : WorldValue → Summary
-summary_of value = record {
-  answers = value.answers;
-  refused = value.refused;
-  batches = (totals_of value.header value.world).batches;
-  workflows = (totals_of value.header value.world).workflows;
-  branches = (totals_of value.header value.world).branches;
-  same = (totals_of value.header value.world).same;
+-- so many answers, so many refusals among them, and what clusters come to
+abbrev pub summary_with : ℕ → ℕ → Totals → Summary
+summary_with answers refused clusters = record {
+  answers = answers;
+  refused = refused;
+  batches = clusters.batches;
+  workflows = clusters.workflows;
+  branches = clusters.branches;
+  same = clusters.same;
 }
+
+-- what a world comes to
+abbrev pub summary_of : WorldValue → Summary
+summary_of value = summary_with value.answers value.refused (totals_of value.header value.world)
