@@ -47,3 +47,11 @@ loop-line-preserved g c =
       };
       may = may_run_more running behind items c.loop-line.line-index line within c.line-item.is moved c.loop-line.invariant.may;
     }
+
+-- as many answers were given as lines ran
+pub returns-clause-answers : goal.returns-clause-answers
+returns-clause-answers g c =
+    let items = c.as_slice-line-items.result.now in
+    let most : length items ≤ c.loop-line.line-index = omega arith in
+    let way = c.loop-line.invariant.counting in
+    (counted_all c.args.script.now (at_world c.loop-line.world way.whole) c.loop-line.world.answers c.loop-line.world.refused items c.loop-line.line-index most way.counted).answered

@@ -6,7 +6,7 @@ use Rattle.ndc_world_report.proofs.running.run_line.Goals as goal
 use Rattle.ndc_world.specs.Running.{ran_at}
 
 -- nothing was written yet
-pub returns-in_err-answer-clause-front : goal.returns-in_err-answer-clause-front
-returns-in_err-answer-clause-front g c =
+pub returns-in_err-text-clause-front : goal.returns-in_err-text-clause-front
+returns-in_err-text-clause-front g c =
     let written = g.K.Sink.written c.args.out.now in
     on_err _ c.from_residual.result (λ w _. Sent_stop written written (answers_of (ran_at (at_world c.args.world.now w) c.args.line.now)) (answers_of (ran_at (at_world c.args.world.now w) c.args.line.now)) (Sent_start written (answers_of (ran_at (at_world c.args.world.now w) c.args.line.now))))
