@@ -6,7 +6,7 @@ ghost use Rattle.ndc_world_network.specs.Networks.{opening_site};
 ghost use Rattle.ndc_world_network.specs.Orderly.{IsOrderly};
 
 use crate::given::{ListCell, name, table_naming};
-use ndc_cluster::Site;
+use ndc_world_network::Site;
 use ndc_cluster_links::{Learns, Serves, Writes};
 use ndc_cluster_reads::{Lacking, Reads};
 use ndc_cluster_rounds::Works;

@@ -1,5 +1,5 @@
 use crate::given::ListCell;
-use ndc_cluster::Site;
+use ndc_world_network::Site;
 use ndc_cluster_links::{Learns, Writes};
 use ndc_cluster_rounds::Works;
 use ndc_domain::{ClusterNo, Clusters, DomainTable};

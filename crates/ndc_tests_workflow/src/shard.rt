@@ -65,7 +65,7 @@ fn arrival(alloc: Global) -> Result<Job, AllocError>
 }
 
 // Anything that does jobs does one.
-fn done<C: Works>(cell: &mut C, desk: &Desk, job: &Job) -> Result<JobReply, AllocError>
+fn done<C: Cell>(cell: &mut C, desk: &Desk, job: &Job) -> Result<JobReply, AllocError>
     requires { C.allows desk.now job.now (C.cell cell.old) }
     ensures { IfOk result (λ reply. reply ≡ reply_to desk.now job.now (C.cell cell.old)) }
 {
@@ -104,7 +104,7 @@ fn arrived(shard: &mut Shard, desk: &Desk, alloc: Global) -> Result<JobReply, Al
 }
 
 // The key of the first message that something has written, where there is one.
-fn first_key<C: Writes>(cell: &C) -> Result<Option<BatchKey>, AllocError> {
+fn first_key<C: Cell>(cell: &C) -> Result<Option<BatchKey>, AllocError> {
     if cell.written_len() == 0 {
         return Ok(None);
     }

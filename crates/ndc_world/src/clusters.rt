@@ -2,10 +2,9 @@ ghost use Rattle.std.specs.Prelude.{◌≡◌, IfOk};
 ghost use Rattle.ndc_model.specs.World.{opening_world};
 
 use crate::acting::act;
-use crate::begins::Begins;
 use crate::bursts::burst;
-use crate::opening::opening_sites;
 use crate::reporting::report;
+use ndc_cluster_reads::Reads;
 use ndc_domain::ClusterNo;
 use ndc_index::Seen;
 use ndc_port::Gate;
@@ -19,13 +18,13 @@ use std::marker::Model;
 use std::thread::Threads;
 
 /// All clusters of a script that runs, behind so many lines. They keep no progress reports.
-pub(crate) struct Clusters<'a, C: Begins + Drop> {
+pub(crate) struct Clusters<'a, C: Reads + Drop> {
     header: &'a Header,
     network: Network<C>,
     lines: u64,
 }
 
-impl<'a, C: Begins + Drop> Model for Clusters<'a, C> {
+impl<'a, C: Reads + Drop> Model for Clusters<'a, C> {
     ghost use Rattle.ndc_world.specs.Running.{IsRunning, Running};
 
     ghost Value = { Running };
@@ -35,7 +34,7 @@ impl<'a, C: Begins + Drop> Model for Clusters<'a, C> {
     ghost invariant = { λ clusters. IsRunning (record { header = clusters.header.now; lines = clusters.lines; world = clusters.network }) };
 }
 
-impl<'a, C: Begins + Drop> Drop for Clusters<'a, C> {
+impl<'a, C: Reads + Drop> Drop for Clusters<'a, C> {
     fn drop(self) {
         let Clusters {
             header: _header,
@@ -48,13 +47,13 @@ impl<'a, C: Begins + Drop> Drop for Clusters<'a, C> {
 /// What a line of a script's text left: the clusters, its answers, each behind the number of its line, and what became
 /// learned, in the order of being told.
 #[derive(Drop)]
-pub(crate) struct Left<'a, C: Begins + Drop> {
+pub(crate) struct Left<'a, C: Reads + Drop> {
     pub(crate) clusters: Clusters<'a, C>,
     pub(crate) answers: Vec<u8>,
     pub(crate) seen: Vec<Seen>,
 }
 
-impl<'a, C: Begins + Drop> Clusters<'a, C> {
+impl<'a, C: Reads + Drop> Clusters<'a, C> {
     ghost use Rattle.std.specs.Prelude.{◌≡◌, ◌<◌, ◌+◌, ◌≤◌, ◌^◌, [], ◌∷◌, All, false, true, length, slice_index_or, IfOk};
     ghost use Rattle.ndc_script_types.specs.WellFormed.{IsCluster, IsWellFormedAct, IsWellFormedHeader, IsWellFormedJob};
     ghost use Rattle.ndc_script_types.specs.declared.script.Act.TheVariants as act;
@@ -74,8 +73,7 @@ impl<'a, C: Begins + Drop> Clusters<'a, C> {
         requires { IsWellFormedHeader header.now }
         ensures { IfOk result (λ clusters. clusters ≡ record { header = header.now; lines = 0; world = opening_world header.now }) }
     {
-        let sites = opening_sites(alloc, header)?;
-        let network = Network::new(alloc, header, sites)?;
+        let network = Network::new(alloc, header)?;
         Ok(Clusters {
             header,
             network,

@@ -2,12 +2,9 @@
 #![tactic(auto)]
 
 mod acting;
-mod begins;
 mod bursts;
 mod clusters;
-mod opening;
 mod reporting;
 mod world;
 
-pub use begins::Begins;
 pub use world::{Ran, World};

@@ -1,6 +1,6 @@
-use crate::begins::Begins;
 use crate::clusters::{Clusters, Left};
 use crate::reporting::{is_on_reports, no_reports};
+use ndc_cluster_reads::Reads;
 use ndc_index::Seen;
 use ndc_port::Gate;
 use ndc_progress::Progress;
@@ -13,12 +13,12 @@ use std::thread::Threads;
 
 /// All clusters of a script that runs, behind so many lines, with the greatest progress report of each activity that each
 /// cluster was told or took over. They stand for the world that the lines lead to.
-pub struct World<'a, C: Begins + Drop> {
+pub struct World<'a, C: Reads + Drop> {
     clusters: Clusters<'a, C>,
     reports: Vec<Progress>,
 }
 
-impl<'a, C: Begins + Drop> Model for World<'a, C> {
+impl<'a, C: Reads + Drop> Model for World<'a, C> {
     ghost use Rattle.ndc_world.specs.Standing.{IsStanding, Standing};
 
     ghost Value = { Standing };
@@ -28,7 +28,7 @@ impl<'a, C: Begins + Drop> Model for World<'a, C> {
     ghost invariant = { λ world. IsStanding (record { header = world.clusters.header; lines = world.clusters.lines; world = world.clusters.world; reports = world.reports.items }) };
 }
 
-impl<'a, C: Begins + Drop> Drop for World<'a, C> {
+impl<'a, C: Reads + Drop> Drop for World<'a, C> {
     fn drop(self) {
         let World {
             clusters: _clusters,
@@ -40,13 +40,13 @@ impl<'a, C: Begins + Drop> Drop for World<'a, C> {
 /// What a line of a script's text left: the world, its answers, each behind the number of its line, and what became
 /// learned, in the order of being told.
 #[derive(Drop)]
-pub struct Ran<'a, C: Begins + Drop> {
+pub struct Ran<'a, C: Reads + Drop> {
     pub world: World<'a, C>,
     pub answers: Vec<u8>,
     pub seen: Vec<Seen>,
 }
 
-impl<'a, C: Begins + Drop> World<'a, C> {
+impl<'a, C: Reads + Drop> World<'a, C> {
     ghost use Rattle.std.specs.Prelude.{◌≡◌, ◌<◌, ◌+◌, ◌≤◌, false, length, true, IfOk};
     ghost use Rattle.ndc_script_types.specs.WellFormed.{IsWellFormedAct, IsWellFormedHeader};
     ghost use Rattle.ndc_laws_jobs.specs.Bare.{is_on_reports};

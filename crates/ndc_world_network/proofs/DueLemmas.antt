@@ -7,7 +7,7 @@ use Rattle.ndc_model_cells.specs.Jobs.{cell_for}
 use Rattle.ndc_model_cells.specs.Writing.{same_cluster}
 use Rattle.ndc_model_cells.specs.declared.message.Message.{Message}
 use Rattle.ndc_domain.specs.declared.clusters.ClusterNo.{ClusterNo}
-use Rattle.ndc_cluster.specs.Sites.{SiteValue}
+use Rattle.ndc_world_network.specs.Sites.{SiteValue}
 use Rattle.ndc_cluster_links.proofs.RestLemmas.{len_kept}
 use Rattle.ndc_cluster_links.specs.Rest.{AreRests, queue_at}
 use Rattle.ndc_graceful.specs.declared.handover.Handover.{Handover}

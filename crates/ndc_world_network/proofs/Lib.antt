@@ -15,3 +15,6 @@ pub mod WorkLemmas
 pub mod QuietLemmas
 pub mod DueLemmas
 pub mod TableLemmas
+pub mod GrowLemmas
+pub mod AlikeLemmas
+pub mod LateLemmas

@@ -20,7 +20,7 @@ use Rattle.ndc_model.specs.Moves.{Trace, all_reapply, bootstrapped, due_arrived,
 use Rattle.ndc_model.specs.Queues.{Lane, new_lane}
 use Rattle.ndc_model.specs.World.{Cluster, Link, World, cell_at, changed_first, cluster_at, home_at, is_link, lane_in, new_cluster, newly_naming, queue_at, trimmed_at, with_cells, with_late, with_link, with_table}
 use Rattle.ndc_cluster_rounds.proofs.ShardLemmas.{cells-many}
-use Rattle.ndc_cluster.proofs.GrowLemmas.{written_more}
+use Rattle.ndc_world_network.proofs.GrowLemmas.{written_more}
 use Rattle.ndc_world_network.proofs.ShardLemmas.{cells_there, cluster_there}
 use Rattle.ndc_model.specs.Conditions.{due_jobs, flight_jobs, late_jobs}
 use Rattle.ndc_world_network.specs.Orderly.{AreLevelsKept, IsOrderly}

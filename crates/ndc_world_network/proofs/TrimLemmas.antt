@@ -24,7 +24,7 @@ use Rattle.ndc_model.specs.World as world
 use Rattle.ndc_queue.specs.Levels.{trim_level}
 use Rattle.ndc_queue.specs.Queues.{QueueValue, queue_len}
 use Rattle.ndc_cluster_rounds.proofs.EachLemmas.{all_there}
-use Rattle.ndc_cluster.specs.Sites.{SiteValue}
+use Rattle.ndc_world_network.specs.Sites.{SiteValue}
 use Rattle.ndc_world_network.proofs.LinkLemmas.{stands_by}
 use Rattle.ndc_world_network.proofs.ShardLemmas.{cells_there, cluster_there}
 use Rattle.ndc_world_network.specs.Networks.{StandsAt, world_of}

@@ -15,7 +15,7 @@ use Rattle.ndc_model.specs.Letters.{with_letters}
 use Rattle.ndc_model.specs.World.{Cluster, Link, World, cluster_at, new_cluster, newly_naming, with_cells, with_cluster, with_late, with_table}
 use Rattle.ndc_world_network.proofs.LinkLemmas.{stands}
 use Rattle.ndc_world_network.specs.Networks.{StandsAt, world_of}
-use Rattle.ndc_cluster.specs.Sites.{SiteValue, with_site_cells}
+use Rattle.ndc_world_network.specs.Sites.{SiteValue, with_site_cells}
 
 -- where there is no job, a cluster's cells stay, and none is replied to
 pub no_job_done : (home : Home) (jobs : List ShardJob) (cluster : ClusterNo) (w : World) → jobs ≡ [] → w ≡ with_cells cluster (cells_after home jobs (cluster_at cluster w).cells) w

@@ -8,7 +8,7 @@ ghost use Rattle.ndc_world_network.specs.Orderly.{IsOrderly};
 use crate::network::Network;
 use crate::taking::add_jobs;
 use crate::working::Done;
-use ndc_cluster_links::Writes;
+use ndc_cluster_rounds::Cell;
 use ndc_domain::ClusterNo;
 use ndc_model_cells::ShardJob;
 use ndc_port::Gate;
@@ -16,7 +16,7 @@ use ndc_script_types::Header;
 use std::alloc::{AllocError, Global};
 use std::thread::Threads;
 
-impl<C: Writes + Drop> Network<C> {
+impl<C: Cell + Drop> Network<C> {
     /// Adds jobs in which all arrives that is due to a reader for a shard, link by link. Of each queue the entries are
     /// looked at that are not done.
     fn add_due(

@@ -11,13 +11,14 @@ ghost use Rattle.ndc_world.specs.Running.{ran_at};
 
 use ndc_port::Gate;
 use ndc_script_types::{Line, Script};
-use ndc_world::{Begins, Ran, World};
+use ndc_cluster_reads::Reads;
+use ndc_world::{Ran, World};
 use std::alloc::{AllocError, Global};
 use std::thread::Threads;
 
 /// A script that was run whole: what it left, and how many of its lines were refused.
 #[derive(Drop)]
-pub struct Counted<'a, C: Begins + Drop> {
+pub struct Counted<'a, C: Reads + Drop> {
     pub world: World<'a, C>,
     pub refused: u64,
 }
@@ -32,7 +33,7 @@ fn is_refused(number: u64, text: &[u8]) -> bool
 }
 
 /// Runs a line that is no burst; gives whether it was refused.
-fn count_line<'a, R: Threads + Sync, G: Gate, C: Begins + Drop + Send>(
+fn count_line<'a, R: Threads + Sync, G: Gate, C: Reads + Drop + Send>(
     rt: &R,
     alloc: Global,
     gate: &G,
@@ -54,7 +55,7 @@ fn count_line<'a, R: Threads + Sync, G: Gate, C: Begins + Drop + Send>(
 }
 
 /// Runs a script without a burst on so many workers at most, behind the gate, and writes nothing.
-pub fn count_script<'a, R: Threads + Sync, G: Gate, C: Begins + Drop + Send>(
+pub fn count_script<'a, R: Threads + Sync, G: Gate, C: Reads + Drop + Send>(
     rt: &R,
     alloc: Global,
     gate: &G,

@@ -16,12 +16,13 @@ use crate::error::RunError;
 use ndc_index::{Indexers, Seen};
 use ndc_port::{Gate, Sink, write_all};
 use ndc_script_types::{Line, Script};
-use ndc_world::{Begins, Ran, World};
+use ndc_cluster_reads::Reads;
+use ndc_world::{Ran, World};
 use std::alloc::{AllocError, Global};
 use std::thread::Threads;
 
 /// Runs a line and writes its answers in one piece; gives what it made learned.
-fn run_line<'a, R: Threads + Sync, G: Gate, K: Sink, C: Begins + Drop + Send>(
+fn run_line<'a, R: Threads + Sync, G: Gate, K: Sink, C: Reads + Drop + Send>(
     rt: &R,
     alloc: Global,
     gate: &G,
@@ -76,7 +77,7 @@ fn keep_where(keeps: bool, told: &mut Vec<Seen>, seen: Vec<Seen>) -> Result<(), 
 /// last line the late ones are told of all of it, and the lines of all indexers are written in one piece.
 /// [`RunError::Write`] where a write failed, and only there, [`RunError::Memory`] where memory ran out: then a front of
 /// this was written.
-pub fn run_script<R: Threads + Sync, G: Gate, K: Sink, C: Begins + Drop + Send>(
+pub fn run_script<R: Threads + Sync, G: Gate, K: Sink, C: Reads + Drop + Send>(
     rt: &R,
     alloc: Global,
     gate: &G,

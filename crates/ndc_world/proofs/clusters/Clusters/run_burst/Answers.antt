@@ -9,7 +9,7 @@ use Rattle.ndc_world.proofs.clusters.Clusters.run_burst.Goals as goal
 pub burst-requires-clause-allowed : goal.burst-requires-clause-allowed
 burst-requires-clause-allowed g c κs within =
     may_burst _ c.self.invariant c.args.cluster c.args.jobs.now (subst (λ (s : Running). IsCluster s.header c.args.cluster) (sym c.self.view_is) c.requires.cluster) c.requires.jobs
-    (subst (λ (s : Running). s.lines + length c.args.jobs.now ≤ 100000) (sym c.self.view_is) c.requires.lines) g.C.Works.allows (g.met.C.Begins g.world.𝓛 g.world.𝓜 g.world.𝓡 ((λ s x. x), (λ x. x), (λ x. x), λ x. x)).may
+    (subst (λ (s : Running). s.lines + length c.args.jobs.now ≤ 100000) (sym c.self.view_is) c.requires.lines) g.C.Cell.allows (g.met.C.Cell g.world.𝓛 g.world.𝓜 g.world.𝓡 ((λ s x. x), (λ x. x), (λ x. x), λ x. x)).may
 
 pub invariant_of-clusters : goal.invariant_of-clusters
 invariant_of-clusters g c =

@@ -11,5 +11,5 @@ abbrev pub invariant-loop-reader : goal.invariant-loop-reader
 invariant-loop-reader g l = record {
   orderly : IsOrderly l.header l.self;
   trace : fold (due_arrived l.header) (trace_of l.self l.dones.items) (drop l.reader-index l.clusters) ≡ fold (due_arrived l.header) (trace_of l.fn.self l.initial.dones.items) l.clusters;
-  allowed : EachStep (λ v reader. MayDoAll g.C.Works.allows l.header reader (due_jobs l.header reader v.world) v.world) (due_arrived l.header) (trace_of l.self l.dones.items) (drop l.reader-index l.clusters);
+  allowed : EachStep (λ v reader. MayDoAll g.C.Cell.allows l.header reader (due_jobs l.header reader v.world) v.world) (due_arrived l.header) (trace_of l.self l.dones.items) (drop l.reader-index l.clusters);
 }

@@ -9,7 +9,7 @@ use Rattle.ndc_world_network.proofs.LinkLemmas.{stands}
 use Rattle.ndc_world_network.proofs.QuietLemmas.{no_item}
 use Rattle.ndc_world_network.proofs.WorkLemmas.{cells_change, no_job_done, no_job_replied}
 use Rattle.ndc_world_network.specs.Networks.{StandsAt, world_of}
-use Rattle.ndc_cluster.specs.Sites.{SiteValue, with_site_cells}
+use Rattle.ndc_world_network.specs.Sites.{SiteValue, with_site_cells}
 use Rattle.ndc_world_network.proofs.network.Network.do_jobs.Goals as goal
 
 pub returns-clause-done : goal.returns-clause-done

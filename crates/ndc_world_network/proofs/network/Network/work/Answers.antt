@@ -15,7 +15,7 @@ reapply-requires-clause-shaped g c κs within =
 
 pub reapply-requires-clause-allowed : goal.reapply-requires-clause-allowed
 reapply-requires-clause-allowed g c κs within =
-    subst (MayDoAll g.C.Works.allows c.args.header.now c.args.reader (all_reapply c.args.header.now)) (sym c.in_ok-arrived.ensures.arrived) c.requires.allowed.reapply
+    subst (MayDoAll g.C.Cell.allows c.args.header.now c.args.reader (all_reapply c.args.header.now)) (sym c.in_ok-arrived.ensures.arrived) c.requires.allowed.reapply
 
 pub renew-requires-clause-orderly : goal.renew-requires-clause-orderly
 renew-requires-clause-orderly g c =

@@ -1,70 +1,83 @@
-use ndc_cluster_links::{Queues, Writes};
-use ndc_cluster_rounds::{Desk, round};
-use ndc_domain::{ClusterNo, Clusters, DomainTable};
+ghost use Rattle.std.specs.Prelude.{◌≡◌};
+
+use ndc_cluster::Cluster;
+use ndc_cluster_links::Queues;
+use ndc_cluster_rounds::{Cell, Home};
+use ndc_domain::{ClusterNo, DomainTable};
 use ndc_letters::Letters;
 use ndc_model_cells::{JobReply, ShardJob};
 use ndc_port::Gate;
+use ndc_script_types::Header;
 use std::alloc::{AllocError, Global};
 use std::marker::Model;
 use std::mem;
 use std::thread::Threads;
 
-/// A cluster: its domain records, its cells by shard with the queues of what they have written, and what it set aside. It
-/// holds no progress reports.
-pub struct Site<C: Writes + Drop> {
-    table: DomainTable,
-    cells: Vec<C>,
+/// A cluster in the world: with the queues of what its cells have written, by shard, and what it set aside.
+pub struct Site<C: Cell + Drop> {
+    cluster: Cluster<C>,
     queues: Queues,
     letters: Letters,
 }
 
-impl<C: Writes + Drop> Model for Site<C> {
+impl<C: Cell + Drop> Model for Site<C> {
     ghost use Rattle.std.specs.Prelude.{[], map};
     ghost use Rattle.ndc_queue.specs.Queues.{QueueValue};
-    ghost use Rattle.ndc_cluster.specs.Sites.{AreTied, SiteValue};
+    ghost use Rattle.ndc_world_network.specs.Sites.{AreTied, SiteValue};
 
     ghost Value = { SiteValue };
 
     ghost view = { λ site. record {
-      cluster = record { table = site.table; cells = map C.cell site.cells.items; letters = site.letters; reports = [] };
+      cluster = record { table = site.cluster.table; cells = site.cluster.cells; letters = site.letters; reports = [] };
       trimmed = map (λ (queue : QueueValue). queue.first) site.queues;
     } };
 
-    ghost invariant = { λ site. AreTied (map C.cell site.cells.items) site.queues };
+    ghost invariant = { λ site. AreTied site.cluster.cells site.queues };
 }
 
-impl<C: Writes + Drop> Drop for Site<C> {
+impl<C: Cell + Drop> Drop for Site<C> {
     fn drop(self) {
         let Site {
-            table: _table,
-            cells: _cells,
+            cluster: _cluster,
             queues: _queues,
             letters: _letters,
         } = self;
     }
 }
 
-impl<C: Writes + Drop> Site<C> {
-    ghost use Rattle.std.specs.Prelude.{◌≡◌, ◌<◌, ◌≤◌, ◌-◌, [], length, map, max, replicate, slice_index_or, slice_set, IfOk, OnOk};
+/// Where the cells of a cluster of a header stand.
+pub(crate) fn home_in(header: &Header, cluster: ClusterNo) -> Home<'_>
+    ensures { result ≡ record { clusters = header.now.clusters; me = cluster; limit = header.now.limit } }
+{
+    Home {
+        clusters: &header.clusters,
+        me: cluster,
+        limit: header.limit,
+    }
+}
+
+impl<C: Cell + Drop> Site<C> {
+    ghost use Rattle.std.specs.Prelude.{◌≡◌, ◌<◌, ◌≤◌, ◌-◌, length, map, max, slice_index_or, slice_set, IfOk, OnOk};
+    ghost use Rattle.std.specs.Borrow.{sem};
     ghost use Rattle.std.specs.List.{AllByRecursion};
-    ghost use Rattle.ndc_model_cells.specs.Cells.{empty_cell};
+    ghost use Rattle.ndc_cluster_rounds.specs.Homes.{desk_of};
     ghost use Rattle.ndc_model_cells.specs.Jobs.{cell_for, cells_after, replies_to};
     ghost use Rattle.ndc_cluster_links.specs.Rest.{AreRests};
-    ghost use Rattle.ndc_model.specs.World.{new_cluster};
     ghost use Rattle.ndc_queue.specs.Queues.{QueueValue};
     ghost use Rattle.ndc_model_cells.specs.Conditions.{AreAllowed};
-    ghost use Rattle.ndc_cluster.specs.Sites.{home_of, with_site_cells};
+    ghost use Rattle.ndc_world_network.specs.Lending.{LendsTable};
+    ghost use Rattle.ndc_world_network.specs.Networks.{opening_site};
+    ghost use Rattle.ndc_world_network.specs.Sites.{with_site_cells};
 
-    /// A cluster in the beginning, with these cells, so many, at most 64, in which nothing has happened.
-    pub fn new(alloc: Global, cells: Vec<C>, shards: u32) -> Result<Site<C>, AllocError>
-        requires few { shards ≤ 64 }
-        requires cells { map C.cell cells.items ≡ replicate shards empty_cell }
-        ensures { IfOk result (λ site. site ≡ record { cluster = new_cluster shards; trimmed = replicate shards 0 }) }
+    /// A cluster in the beginning, of so many cells, at most 64, in which nothing has happened.
+    pub fn new(alloc: Global, home: &Home, shards: u32) -> Result<Site<C>, AllocError>
+        requires { shards ≤ 64 }
+        ensures { IfOk result (λ site. site ≡ opening_site shards) }
     {
+        let cluster = Cluster::new(alloc, home, shards)?;
         let queues = Queues::new(alloc, shards)?;
         Ok(Site {
-            table: DomainTable::new(alloc),
-            cells,
+            cluster,
             queues,
             letters: Letters::new(alloc),
         })
@@ -74,22 +87,22 @@ impl<C: Writes + Drop> Site<C> {
     pub fn table(&self) -> &DomainTable
         ensures { result.now ≡ self.now.cluster.table }
     {
-        &self.table
+        self.cluster.records()
     }
 
-    /// Puts other domain records in the place of its own, which are given back. Takes no memory.
-    pub fn replace_table(&mut self, table: DomainTable) -> DomainTable
-        ensures given { result ≡ self.old.cluster.table }
-        ensures replaced { self.new ≡ record self.old { cluster = record self.old.cluster { table = table } } }
+    /// Its domain records, to change them. When the loan ends, they stay as they were left. Takes no memory.
+    pub(crate) fn table_mut(&mut self) -> &mut DomainTable
+        ensures* writes_back { sem 𝓛 (LendsTable C.row C.Cell self.entry result) }
+        ensures table { result.now ≡ self.old.cluster.table }
     {
-        mem::replace(&mut self.table, table)
+        self.cluster.table()
     }
 
     /// Its cells, by shard. Takes no memory.
     pub fn cells(&self) -> &[C]
         ensures { map C.cell result.now ≡ self.now.cluster.cells }
     {
-        self.cells.as_slice()
+        self.cluster.cells()
     }
 
     /// The queues of what its cells have written, by shard, as far as they are kept. Takes no memory.
@@ -127,37 +140,33 @@ impl<C: Writes + Drop> Site<C> {
         self.queues.trim(shard, level)
     }
 
-    /// Its cells do jobs side by side, on so many workers at most, each worker on neighbouring cells, behind the gate. The
-    /// cells and the replies are those of the jobs done one after the other, and what was written stands in the queues.
-    /// The shard of each job is that of a cell, and each job may be done by the cell that the jobs before it leave. After
-    /// want of memory there are no cells.
+    /// Its cells do jobs in a round, as [`Cluster::round`] says, and what was written stands in the queues. After want of
+    /// memory it has neither records nor cells.
     pub fn round<R: Threads + Sync, G: Gate>(
         &mut self,
         rt: &R,
         alloc: Global,
         gate: &G,
         workers: u32,
-        clusters: &Clusters,
-        me: ClusterNo,
-        limit: u64,
+        home: &Home,
         jobs: &[ShardJob],
     ) -> Result<Vec<JobReply>, AllocError>
     where
         C: Send,
         requires workers { 0 < workers }
         requires shards { AllByRecursion (λ asked. asked.shard < length self.old.cluster.cells) jobs.now }
-        requires allowed { AreAllowed C.allows (home_of clusters.now me limit self.old) jobs.now self.old.cluster.cells }
-        ensures cells { OnOk result (self.new ≡ with_site_cells (cells_after (home_of clusters.now me limit self.old) jobs.now self.old.cluster.cells) self.old) }
-        ensures replies { IfOk result (λ replies. replies.items ≡ replies_to (home_of clusters.now me limit self.old) jobs.now self.old.cluster.cells) }
+        requires allowed { AreAllowed C.allows (desk_of home.now self.old.cluster.table) jobs.now self.old.cluster.cells }
+        ensures cells { OnOk result (self.new ≡ with_site_cells (cells_after (desk_of home.now self.old.cluster.table) jobs.now self.old.cluster.cells) self.old) }
+        ensures replies { IfOk result (λ replies. replies.items ≡ replies_to (desk_of home.now self.old.cluster.table) jobs.now self.old.cluster.cells) }
     {
-        let none = Queues::new(alloc, 0)?;
-        let cells = mem::replace(&mut self.cells, Vec::new(alloc));
-        let mut queues = mem::replace(&mut self.queues, none);
-        let desk = Desk::new(clusters, me, limit, &self.table);
-        let rounded = round(rt, alloc, gate, workers, &desk, cells, jobs)?;
-        queues.extend(rounded.cells.as_slice())?;
-        self.cells = rounded.cells;
+        let no_cluster = Cluster::new(alloc, home, 0)?;
+        let no_queues = Queues::new(alloc, 0)?;
+        let mut cluster = mem::replace(&mut self.cluster, no_cluster);
+        let mut queues = mem::replace(&mut self.queues, no_queues);
+        let replies = cluster.round(rt, alloc, gate, workers, home, jobs)?;
+        queues.extend(cluster.cells())?;
+        self.cluster = cluster;
         self.queues = queues;
-        Ok(rounded.replies)
+        Ok(replies)
     }
 }

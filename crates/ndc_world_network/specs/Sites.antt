@@ -1,10 +1,8 @@
--- Clusters with the queues of what their cells have written.
+-- Clusters in the world, with the queues of what their cells have written.
 use Rattle.std.specs.Prelude.{◌≡◌, ℕ, List, length}
+use Rattle.ndc_domain.specs.declared.record.DomainRecord.{DomainRecord}
 use Rattle.ndc_model_cells.specs.Cells.{Cell}
 use Rattle.ndc_model_cells.specs.Jobs.{cell_for}
-use Rattle.ndc_model_cells.specs.Writing.{Home}
-use Rattle.ndc_domain.specs.Clusters.{ClusterList}
-use Rattle.ndc_domain.specs.declared.clusters.ClusterNo.{ClusterNo}
 use Rattle.ndc_cluster_links.specs.Rest.{AreRests}
 use Rattle.ndc_model.specs.World.{Cluster}
 use Rattle.ndc_queue.specs.Queues.{QueueValue}
@@ -19,10 +17,10 @@ pub record AreTied (cells : List Cell) (queues : List QueueValue) : Type 0 where
   pub alike : length queues ≡ length cells
   pub rests : AreRests queues (λ shard. (cell_for shard cells).written)
 
--- where the cells of a site stand
-abbrev pub home_of : ClusterList → ClusterNo → ℕ → SiteValue → Home
-home_of clusters me limit site = record { clusters = clusters; me = me; limit = limit; table = site.cluster.table }
-
 -- a site whose cells are others
 abbrev pub with_site_cells : List Cell → SiteValue → SiteValue
 with_site_cells cells site = record site { cluster = record site.cluster { cells = cells } }
+
+-- a site whose domain records are others
+abbrev pub with_site_table : List DomainRecord → SiteValue → SiteValue
+with_site_table table site = record site { cluster = record site.cluster { table = table } }

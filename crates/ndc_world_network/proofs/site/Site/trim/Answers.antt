@@ -3,7 +3,7 @@ use Rattle.std.proofs.Math.ListN.{get_or-map}
 use Rattle.std.proofs.lemmas.List.{map-set}
 use Rattle.ndc_cluster_links.specs.Rest.{queue_at}
 use Rattle.ndc_queue.specs.Queues.{QueueValue, new_queue, trimmed}
-use Rattle.ndc_cluster.proofs.site.Site.trim.Goals as goal
+use Rattle.ndc_world_network.proofs.site.Site.trim.Goals as goal
 
 pub returns-clause-trimmed : goal.returns-clause-trimmed
 returns-clause-trimmed g c =

@@ -16,7 +16,7 @@ use Rattle.ndc_cluster_links.specs.Rest.{AreFronts, IsFrontOf, IsRestOf, queue_a
 use Rattle.ndc_queue.specs.Queues.{QueueValue, new_queue, queue_len}
 use Rattle.ndc_cluster_rounds.proofs.ShardLemmas.{cell_by_itself, cells-many}
 use Rattle.ndc_cluster_rounds.specs.Rounds.{cell_after, jobs_of}
-use Rattle.ndc_cluster.specs.Sites.{AreTied}
+use Rattle.ndc_world_network.specs.Sites.{AreTied}
 
 -- one list goes on from another
 
