@@ -145,7 +145,7 @@ fn are_quiet(lanes: &[Lane]) -> bool
 
 impl Link {
     ghost use Rattle.std.specs.List.{filter};
-    ghost use Rattle.std.specs.Prelude.{◌≡◌, ◌≢◌, ◌<◌, ◌≤◌, ◌++◌, ℕ, [], List, None, Some, Err, drop, length, map, replicate, slice_get, slice_set, sum, IsTrue, MatchResult, IfOk, IfErr, OnOk, OnErr};
+    ghost use Rattle.std.specs.Prelude.{◌≡◌, ◌≢◌, ◌<◌, ◌≤◌, ◌++◌, ◌∷◌, ℕ, [], List, None, Some, Err, drop, length, map, replicate, slice_get, slice_set, sum, IsTrue, MatchResult, IfOk, IfErr, OnOk, OnErr};
     ghost use Rattle.std.specs.Option.{option_copied};
     ghost use Rattle.ndc_model_cells.specs.Jobs.{cell_for};
     ghost use Rattle.ndc_model_cells.specs.declared.message.Message.{Message as Sent};

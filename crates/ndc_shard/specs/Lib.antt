@@ -1,3 +1,4 @@
 pub mod Shards
 pub mod Worked
 pub mod Lacking
+pub mod Answers

@@ -1,6 +1,6 @@
 use crate::asking::{as_command_error, command_entries, push_batches};
 use crate::writing::write_in;
-use ndc_cluster_rounds::Desk;
+use ndc_cluster_rounds::{Desk, Home};
 use ndc_command::{Command, CommandError, Refusal};
 use ndc_event::{Batch, Name};
 use ndc_model_cells::Message;
@@ -58,14 +58,14 @@ impl Shard {
     ghost use Rattle.ndc_shard_workflows.specs.Writing.{MayBeWritten};
 
     /// Nothing has happened.
-    pub fn new(alloc: Global) -> Shard
-        ensures { result ≡ empty_cell }
+    pub fn new(alloc: Global, _home: &Home) -> Result<Shard, AllocError>
+        ensures { IfOk result (λ shard. shard ≡ empty_cell) }
     {
-        Shard {
+        Ok(Shard {
             alloc,
             workflows: Workflows::new(alloc),
             written: Vec::new(alloc),
-        }
+        })
     }
 
     /// Where its memory comes from.
@@ -101,7 +101,7 @@ impl Shard {
     /// with the first of these that holds: [`Refusal::UnknownDomain`] where there is no record, [`Refusal::NotActive`] with
     /// the version where another cluster writes with it, or none does, and [`Refusal::Behind`] with the greatest learned
     /// version where that is above it. The workflow is looked up only where the record lets it write.
-    pub fn may_write(&self, desk: &Desk, domain: &Name, workflow: &Name) -> Result<u64, Refusal>
+    pub(crate) fn version_for(&self, desk: &Desk, domain: &Name, workflow: &Name) -> Result<u64, Refusal>
         ensures { result ≡ may_write desk.now domain.now workflow.now self.now }
     {
         let clusters = desk.clusters();
@@ -118,7 +118,7 @@ impl Shard {
     }
 
     /// A message arrives. After want of memory nothing is said of what has arrived.
-    pub fn arrive<L>(
+    pub(crate) fn take_in<L>(
         &mut self,
         message: Message,
         steps: &mut Steps<L>,
@@ -134,7 +134,7 @@ impl Shard {
 
     /// Writes an entry: its batches are learned in their workflow, and its message goes last among those written. After
     /// want of memory nothing is said of the cell.
-    pub fn write<L>(&mut self, entry: Entry, steps: &mut Steps<L>) -> Result<(), AllocError>
+    fn write<L>(&mut self, entry: Entry, steps: &mut Steps<L>) -> Result<(), AllocError>
         requires { MayBeWritten (carrying entry.batch entry.second) (workflow_of entry.batch.domain entry.batch.workflow self.old) }
         ensures { OnOk result (self.new ≡ with_written entry self.old) }
     {
@@ -179,7 +179,7 @@ impl Shard {
         ensures entries { Gives Memory (λ entries. entries.items) result (command_of desk.now domain.now workflow.now command.now self.now) }
         ensures fit { IfOk result (λ _. IsFit domain.now workflow.now self.now) }
     {
-        let version = as_command_error(self.may_write(desk, domain, workflow))?;
+        let version = as_command_error(self.version_for(desk, domain, workflow))?;
         let alloc = self.alloc;
         let limit = desk.limit();
         match self.runs(domain, workflow) {
@@ -204,7 +204,7 @@ impl Shard {
         ensures entries { Gives Memory (λ entries. entries.items) result (reset_at desk.now domain.now workflow.now event self.now) }
         ensures fit { IfOk result (λ _. IsFit domain.now workflow.now self.now) }
     {
-        let version = as_command_error(self.may_write(desk, domain, workflow))?;
+        let version = as_command_error(self.version_for(desk, domain, workflow))?;
         let alloc = self.alloc;
         let limit = desk.limit();
         match self.runs(domain, workflow) {
@@ -218,7 +218,7 @@ impl Shard {
 
     /// A command to a workflow: what it writes, in order, or its refusal, which leaves the cell as it was. After want of
     /// memory nothing is said of the cell.
-    pub fn command<L>(
+    pub(crate) fn write_command<L>(
         &mut self,
         desk: &Desk,
         domain: &Name,
@@ -238,7 +238,7 @@ impl Shard {
 
     /// A new run repeats the current one of a workflow up to an event, counted from 1: what is written, in order, or the
     /// refusal, which leaves the cell as it was. After want of memory nothing is said of the cell.
-    pub fn reset<L>(
+    pub(crate) fn write_reset<L>(
         &mut self,
         desk: &Desk,
         domain: &Name,
@@ -301,7 +301,7 @@ impl Shard {
         ensures same { self.new ≡ self.old }
         ensures fit { IfOk result (λ entry. IfSome entry (λ _. IsFit domain.now workflow.now self.new)) }
     {
-        let Ok(version) = self.may_write(desk, domain, workflow) else {
+        let Ok(version) = self.version_for(desk, domain, workflow) else {
             return Ok(None);
         };
         if !self.is_due(domain, workflow)? {
@@ -352,7 +352,7 @@ impl Shard {
     /// Strays are applied again in each workflow, in order, where the cell may write to it and its current run is open:
     /// the batches that are written, in order. After want of memory nothing is said of the cell. It looks only at workflows
     /// in which reapplication may be due.
-    pub fn reapply<L>(&mut self, desk: &Desk, steps: &mut Steps<L>) -> Result<Batches, AllocError>
+    pub(crate) fn apply_again<L>(&mut self, desk: &Desk, steps: &mut Steps<L>) -> Result<Batches, AllocError>
         requires { MayReapply desk.now (workflows_of self.old.arrived) self.old }
         ensures cell { OnOk result (self.new ≡ reapplied_in desk.now (workflows_of self.old.arrived) self.old) }
         ensures batches { IfOk result (λ batches. batches ≡ reapplied_now desk.now (workflows_of self.old.arrived) self.old) }

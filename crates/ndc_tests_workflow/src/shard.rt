@@ -5,9 +5,8 @@ ghost use Rattle.ndc_model_cells.specs.declared.job.Job.TheVariants.{Arrive};
 ghost use Rattle.ndc_shard.specs.Worked.{alpha, begun, home_with, one_cluster, start};
 
 use crate::worked::{begun, message, name};
-use ndc_cluster_links::{Learns, Writes};
 use ndc_cluster_reads::Reads;
-use ndc_cluster_rounds::{Desk, Works};
+use ndc_cluster_rounds::{Cell, Desk, Home};
 use ndc_command::Command;
 use ndc_domain::{ClusterNo, Clusters, DomainTable, Members};
 use ndc_event::{Batch, BatchKey, Name};
@@ -117,7 +116,12 @@ fn a_start_is_written(rt: HostRuntime) -> Result<(), Fail> {
     let clusters = clusters(alloc)?;
     let table = records(alloc, &clusters)?;
     let desk = Desk::new(&clusters, A, 100, &table);
-    let mut shard = Shard::new(alloc);
+    let home = Home {
+        clusters: &clusters,
+        me: A,
+        limit: 100,
+    };
+    let mut shard = Shard::new(alloc, &home)?;
     let reply = started(&mut shard, &desk, alloc)?;
     assert!(rt; matches!(reply.outcome, Outcome::Written(_)));
     assert_eq!(rt; first_key(&shard)?, Some(KEY));
@@ -130,7 +134,12 @@ fn what_has_arrived_is_read(rt: HostRuntime) -> Result<(), Fail> {
     let clusters = clusters(alloc)?;
     let table = DomainTable::new(alloc);
     let desk = Desk::new(&clusters, A, 100, &table);
-    let mut shard = Shard::new(alloc);
+    let home = Home {
+        clusters: &clusters,
+        me: A,
+        limit: 100,
+    };
+    let mut shard = Shard::new(alloc, &home)?;
     let reply = arrived(&mut shard, &desk, alloc)?;
     assert!(rt; matches!(reply.outcome, Outcome::Arrived(_)));
     assert!(rt; is_read(&shard, alloc)?);

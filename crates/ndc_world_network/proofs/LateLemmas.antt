@@ -1,5 +1,6 @@
 -- Who comes to be a member late where one record is put into a table, and where a table is merged.
-use Rattle.std.proofs.Common.{◌≡◌, ℕ, ◌<◌, Bool, true, false, [], ◌∷◌, List, ◌++◌, Option, Some, None, not, ◌&&◌, ◌||◌, ◌==◌, map, refl, ap, sym, subst, ◌∙◌, if◌then◌else◌, eq-eqb, ne_eqb, ◌≢◌, ◌≤◌, inl, inr, arith}
+use Rattle.std.proofs.Common.{◌≡◌, ℕ, ◌<◌, Bool, true, false, [], ◌∷◌, List, ◌++◌, Option, Some, None, not, ◌&&◌, ◌||◌, ◌==◌, map, refl, ap, sym, subst, ◌∙◌, if◌then◌else◌, eq-eqb, ne_eqb, inl, inr, arith}
+use Rattle.std.specs.Prelude.{Result, Ok, Err, OnOk}
 use Rattle.std.specs.List.{AllByRecursion}
 use Rattle.std.specs.Str.{bytes_eq}
 use Rattle.std.proofs.lemmas.Bool.{cases_lt, eqb-true}
@@ -8,17 +9,17 @@ use Rattle.std.proofs.lemmas.Slice.Eq.{bytes_eq-Decides}
 use Rattle.ndc_domain.proofs.BothTables.{later_absent, record_of-merged}
 use Rattle.ndc_domain.proofs.CallLaws.{record_of-put}
 use Rattle.ndc_domain.proofs.Tables.{found_has}
-use Rattle.ndc_domain.proofs.Unions.{has-union, member_below}
+use Rattle.ndc_domain.proofs.Unions.{has-union}
 use Rattle.ndc_domain.specs.Flags.{has-where, has-where_past}
 use Rattle.ndc_domain.specs.Members.{AreMembers, has_member, union_of, with_member}
-use Rattle.ndc_domain.specs.Merge.{merged, merged_option, merged_record}
+use Rattle.ndc_domain.specs.Merge.{merged, merged_option}
 use Rattle.ndc_domain.specs.Records.{AllLater, IsRecord, IsTable, Rise, put_record, record_of}
 use Rattle.ndc_domain.specs.declared.clusters.ClusterNo.{ClusterNo}
 use Rattle.ndc_domain.specs.declared.record.DomainRecord.{DomainRecord}
 use Rattle.ndc_event.specs.declared.name.Name.{Name}
 use Rattle.ndc_model_cells.specs.Writing.{same_cluster}
 use Rattle.ndc_model.specs.Queues.{names_cluster}
-use Rattle.ndc_model.specs.World.{Link, is_link, newly_naming, with_late}
+use Rattle.ndc_model.specs.World.{Link, newly_naming, with_late}
 use Rattle.ndc_world_network.proofs.TableLemmas.{found_each}
 use Rattle.ndc_world_network.specs.Tables.{with_late_domain}
 
@@ -105,21 +106,21 @@ module _ (reader : ClusterNo) (before : List DomainRecord) (old : DomainRecord) 
   abbrev joined : DomainRecord
   joined = record old { members = with_member old.members reader.number }
 
-  abbrev then : List DomainRecord
-  then = put_record joined before
+  abbrev after : List DomainRecord
+  after = put_record joined before
 
   -- the record of another name does not come to name the reader
-  other-one : (one : DomainRecord) → record_of before one.name ≡ Some one → bytes_eq old.name one.name ≡ false → comes reader then one ≡ false
+  other-one : (one : DomainRecord) → record_of before one.name ≡ Some one → bytes_eq old.name one.name ≡ false → comes reader after one ≡ false
   other-one one found apart =
-      let there : record_of then one.name ≡ Some one =
+      let there : record_of after one.name ≡ Some one =
       record_of-put joined before one.name ∙ ap (λ (t : Bool). if t then Some joined else record_of before one.name) apart ∙ found in
       ap (λ (o : Option DomainRecord). not (names_cluster reader (Some one)) && names_cluster reader o) there
       ∙ not-new (has_member one.members reader.number) (has_member one.members reader.number) (λ e. e)
 
   -- the record itself does
-  this-one : comes reader then old ≡ true
+  this-one : comes reader after old ≡ true
   this-one =
-      let there : record_of then old.name ≡ Some joined =
+      let there : record_of after old.name ≡ Some joined =
       record_of-put joined before old.name ∙ ap (λ (t : Bool). if t then Some joined else record_of before old.name) ((bytes_eq-Decides old.name old.name).1 refl) in
       let has : has_member (with_member old.members reader.number) reader.number ≡ true =
       has-with old.members reader.number reader.number are below ∙ ap (λ (t : Bool). t || (reader.number == reader.number)) own ∙ eq-eqb reader.number reader.number refl in
@@ -127,44 +128,44 @@ module _ (reader : ClusterNo) (before : List DomainRecord) (old : DomainRecord) 
       ∙ ap (λ (t : Bool). not t && has_member (with_member old.members reader.number) reader.number) own ∙ has
 
   -- records of other names, all of them
-  none-there : (part : List DomainRecord) → AllByRecursion (λ (one : DomainRecord). record_of before one.name ≡ Some one) part → record_of part old.name ≡ None → newly_naming reader part then ≡ []
+  none-there : (part : List DomainRecord) → AllByRecursion (λ (one : DomainRecord). record_of before one.name ≡ Some one) part → record_of part old.name ≡ None → newly_naming reader part after ≡ []
   none-there [] all none = refl
-  none-there (one ∷ part) all none = by (bytes_eq one.name old.name) refl
+  none-there (one ∷ part) all none = by (bytes_eq one.name old.name) refl (none-there part all.1)
     where
-      by : (t : Bool) → bytes_eq one.name old.name ≡ t → newly_naming reader (one ∷ part) then ≡ []
-      by true same = let clash : Some one ≡ None = sym (ap (λ (t : Bool). if t then Some one else record_of part old.name) same) ∙ none in absurd (cc)
-      by false apart =
-          ap (λ (t : Bool). if t then one.name ∷ newly_naming reader part then else newly_naming reader part then)
+      by : (t : Bool) → bytes_eq one.name old.name ≡ t → (record_of part old.name ≡ None → newly_naming reader part after ≡ []) → newly_naming reader (one ∷ part) after ≡ []
+      by true same rest = let clash : Some one ≡ None = sym (ap (λ (t : Bool). if t then Some one else record_of part old.name) same) ∙ none in absurd (cc)
+      by false apart rest =
+          ap (λ (t : Bool). if t then one.name ∷ newly_naming reader part after else newly_naming reader part after)
           (other-one one all.0 (flip (bytes_eq old.name one.name) refl))
-          ∙ none-there part all.1 (sym (ap (λ (t : Bool). if t then Some one else record_of part old.name) apart) ∙ none)
+          ∙ rest (sym (ap (λ (t : Bool). if t then Some one else record_of part old.name) apart) ∙ none)
         where
           flip : (t : Bool) → bytes_eq old.name one.name ≡ t → bytes_eq old.name one.name ≡ false
           flip true same = let clash : false ≡ true = sym apart ∙ (bytes_eq-Decides one.name old.name).1 (sym ((bytes_eq-Decides old.name one.name).0 same)) in absurd (cc)
           flip false e = e
 
   -- the record among others
-  one-there : (part : List DomainRecord) → Rise part → AllByRecursion (λ (one : DomainRecord). record_of before one.name ≡ Some one) part → record_of part old.name ≡ Some old → newly_naming reader part then ≡ old.name ∷ []
+  one-there : (part : List DomainRecord) → Rise part → AllByRecursion (λ (one : DomainRecord). record_of before one.name ≡ Some one) part → record_of part old.name ≡ Some old → newly_naming reader part after ≡ old.name ∷ []
   one-there [] rise all found = absurd (cc)
-  one-there (one ∷ part) rise all found = by (bytes_eq one.name old.name) refl
+  one-there (one ∷ part) rise all found = by (bytes_eq one.name old.name) refl (one-there part rise.1 all.1)
     where
-      by : (t : Bool) → bytes_eq one.name old.name ≡ t → newly_naming reader (one ∷ part) then ≡ old.name ∷ []
-      by true same =
+      by : (t : Bool) → bytes_eq one.name old.name ≡ t → (record_of part old.name ≡ Some old → newly_naming reader part after ≡ old.name ∷ []) → newly_naming reader (one ∷ part) after ≡ old.name ∷ []
+      by true same more =
           let head : Some one ≡ Some old = sym (ap (λ (t : Bool). if t then Some one else record_of part old.name) same) ∙ found in
           let is : one ≡ old = cc in
           let rest : record_of part old.name ≡ None = later_absent part old.name (subst (λ (r : DomainRecord). AllLater r.name part) is rise.0) in
-          ap (λ (r : DomainRecord). if comes reader then r then r.name ∷ newly_naming reader part then else newly_naming reader part then) is
-          ∙ ap (λ (t : Bool). if t then old.name ∷ newly_naming reader part then else newly_naming reader part then) this-one
+          ap (λ (r : DomainRecord). if comes reader after r then r.name ∷ newly_naming reader part after else newly_naming reader part after) is
+          ∙ ap (λ (t : Bool). if t then old.name ∷ newly_naming reader part after else newly_naming reader part after) this-one
           ∙ ap (λ (names : List Name). old.name ∷ names) (none-there part all.1 rest)
-      by false apart =
-          ap (λ (t : Bool). if t then one.name ∷ newly_naming reader part then else newly_naming reader part then)
+      by false apart more =
+          ap (λ (t : Bool). if t then one.name ∷ newly_naming reader part after else newly_naming reader part after)
           (other-one one all.0 (flip (bytes_eq old.name one.name) refl))
-          ∙ one-there part rise.1 all.1 (sym (ap (λ (t : Bool). if t then Some one else record_of part old.name) apart) ∙ found)
+          ∙ more (sym (ap (λ (t : Bool). if t then Some one else record_of part old.name) apart) ∙ found)
         where
           flip : (t : Bool) → bytes_eq old.name one.name ≡ t → bytes_eq old.name one.name ≡ false
           flip true same = let clash : false ≡ true = sym apart ∙ (bytes_eq-Decides one.name old.name).1 (sym ((bytes_eq-Decides old.name one.name).0 same)) in absurd (cc)
           flip false e = e
 
-  one-comes : Rise before → record_of before old.name ≡ Some old → newly_naming reader before then ≡ old.name ∷ []
+  one-comes : Rise before → record_of before old.name ≡ Some old → newly_naming reader before after ≡ old.name ∷ []
   one-comes rise found = one-there before rise (found_each before rise) found
 
 -- where a member joins, it alone comes late, over the links of the source
@@ -275,3 +276,8 @@ merged_links source ours theirs own other [] = refl
 merged_links source ours theirs own other (link ∷ links) =
     ap (λ (names : List Name). (if same_cluster link.source source then record link { late = link.late ++ names } else link) ∷ map (with_late source ours theirs) links) (merged-come link.reader ours theirs own other)
     ∙ ap (λ (ls : List Link). with_late source ours (merged ours theirs) link ∷ ls) (merged_links source ours theirs own other links)
+
+-- what holds anyway holds at success
+pub always-ok : {A E P : Type 0} (r : Result A E) → P → OnOk r P
+always-ok (Ok x) p = p
+always-ok (Err e) p = tt

@@ -18,3 +18,4 @@ pub mod TableLemmas
 pub mod GrowLemmas
 pub mod AlikeLemmas
 pub mod LateLemmas
+pub mod RecordLemmas

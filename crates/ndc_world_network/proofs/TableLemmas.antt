@@ -1,20 +1,18 @@
 -- Records that stay where they are: nobody comes to be named.
-use Rattle.std.proofs.Common.{◌≡◌, ℕ, Bool, true, false, [], ◌∷◌, List, ◌++◌, Option, Some, not, ◌&&◌, map, refl, ap, sym, subst, ◌∙◌, if◌then◌else◌}
+use Rattle.std.proofs.Common.{◌≡◌, Bool, true, false, [], ◌∷◌, List, ◌++◌, Option, Some, not, ◌&&◌, map, refl, ap, sym, ◌∙◌, if◌then◌else◌}
 use Rattle.std.specs.List.{AllByRecursion}
-use Rattle.std.specs.Str.{bytes_eq}
 use Rattle.std.specs.declared.cmp.Ordering.TheVariants.{Less}
-use Rattle.std.proofs.lemmas.List.{append-nil, map-id, set-get_or}
+use Rattle.std.proofs.lemmas.List.{append-nil}
 use Rattle.std.proofs.lemmas.Slice.Eq.{bytes_eq-Decides}
 use Rattle.ndc_domain.proofs.Order.{eq_by_cmp}
 use Rattle.ndc_domain.proofs.Tables.{find_cases}
-use Rattle.ndc_domain.specs.Merge.{merged}
-use Rattle.ndc_domain.specs.Records.{AllLater, IsTable, Rise, record_of}
+use Rattle.ndc_domain.specs.Records.{AllLater, Rise, record_of}
 use Rattle.ndc_domain.specs.declared.clusters.ClusterNo.{ClusterNo}
 use Rattle.ndc_domain.specs.declared.record.DomainRecord.{DomainRecord}
 use Rattle.ndc_event.specs.declared.name.Name.{Name}
 use Rattle.ndc_model_cells.specs.Writing.{same_cluster}
 use Rattle.ndc_model.specs.Queues.{names_cluster}
-use Rattle.ndc_model.specs.World.{Cluster, Link, World, cluster_at, new_cluster, newly_naming, with_late, with_table}
+use Rattle.ndc_model.specs.World.{Link, newly_naming, with_late}
 
 -- each record of a table is found by its name
 pub found_each : (records : List DomainRecord) → Rise records → AllByRecursion (λ (one : DomainRecord). record_of records one.name ≡ Some one) records

@@ -5,5 +5,4 @@ pub mod Networks
 pub mod Orderly
 pub mod Trims
 pub mod Sites
-pub mod Lending
 pub mod Tables

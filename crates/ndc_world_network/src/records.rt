@@ -22,7 +22,6 @@ use ndc_graceful::{BeginError, Handover};
 use ndc_letters::Letters;
 use ndc_script_types::Header;
 use std::alloc::{AllocError, Global};
-use std::mem;
 
 /// The readers of a source note the domains whose record does not name them and does in another table. After want of memory
 /// some have noted them.
@@ -75,7 +74,8 @@ fn merge_into(
     ensures links { OnOk result (links.new.items ≡ map (with_late cluster ours.old (merged ours.old theirs.now)) links.old.items) }
     ensures count { IfOk result (λ count. count ≡ merge_count ours.old theirs.now) }
 {
-    let _ordered = (ours.records(), theirs.records());
+    let _ours = ours.records();
+    let _theirs = theirs.records();
     if ours.lacks(theirs) {
         note_late(alloc, links, cluster, ours, theirs)?;
     }
@@ -110,9 +110,7 @@ impl<C: Cell + Drop> Network<C> {
         ensures unchanged { OnErr result (self.new ≡ self.old) }
     {
         let site = &mut self.sites[at.number as usize];
-        let _ordered = site.table().records();
-        let table = site.table_mut();
-        table.register(&header.clusters, at, domain, target, days, members)
+        site.register(&header.clusters, at, domain, target, days, members)
     }
 
     /// Replaces the days of a domain at a cluster, as [`DomainTable::retain`] does; where it is refused, all stays as it was.
@@ -124,9 +122,7 @@ impl<C: Cell + Drop> Network<C> {
         ensures unchanged { OnErr result (self.new ≡ self.old) }
     {
         let site = &mut self.sites[at.number as usize];
-        let _ordered = site.table().records();
-        let table = site.table_mut();
-        table.retain(at, domain, days)
+        site.retain(at, domain, days)
     }
 
     /// Fails a domain over to the target at a cluster, as [`DomainTable::failover`] does; where it is refused, all stays as it
@@ -143,9 +139,7 @@ impl<C: Cell + Drop> Network<C> {
         ensures unchanged { OnErr result (self.new ≡ self.old) }
     {
         let site = &mut self.sites[at.number as usize];
-        let _ordered = site.table().records();
-        let table = site.table_mut();
-        table.failover(&header.clusters, domain, target)
+        site.fail_over(&header.clusters, domain, target)
     }
 
     /// Begins a handover of a domain at a cluster, as [`Handover::begin`] does; where it is refused, all stays as it was.
@@ -163,9 +157,7 @@ impl<C: Cell + Drop> Network<C> {
         ensures unchanged { OnErr result (self.new ≡ self.old) }
     {
         let site = &mut self.sites[at.number as usize];
-        let _ordered = site.table().records();
-        let table = site.table_mut();
-        Handover::begin(table, &header.clusters, at, domain, target, places)
+        site.begin_handover(&header.clusters, at, domain, target, places)
     }
 
     /// Adds one member to a domain at a cluster, as [`DomainTable::join`] does; the member notes as a reader that it comes late.
@@ -181,9 +173,7 @@ impl<C: Cell + Drop> Network<C> {
         ensures { IfOk result (λ joined. Answers (λ _. self.new) joined (table_left at self.old (join_of at domain.now member (cluster_at at self.old).table))) }
     {
         let site = &mut self.sites[at.number as usize];
-        let _ordered = site.table().records();
-        let table = site.table_mut();
-        if let Err(refused) = table.join(at, domain, member) {
+        if let Err(refused) = site.join(at, domain, member) {
             return Ok(Err(refused));
         }
         add_late(&mut self.links, at, member, domain)?;
@@ -204,12 +194,13 @@ impl<C: Cell + Drop> Network<C> {
         ensures merged { OnOk result (self.new ≡ with_table to (merged (cluster_at to self.old).table (cluster_at from self.old).table) self.old) }
         ensures count { IfOk result (λ count. count ≡ merge_count (cluster_at to self.old).table (cluster_at from self.old).table) }
     {
+        let none = DomainTable::new(alloc);
         let site = &mut self.sites[to.number as usize];
-        let mut ours = mem::replace(site.table_mut(), DomainTable::new(alloc));
+        let mut ours = site.replace_table(none);
         let theirs = self.sites[from.number as usize].table();
         let count = merge_into(alloc, &mut self.links, to, &mut ours, theirs)?;
         let site = &mut self.sites[to.number as usize];
-        *site.table_mut() = ours;
+        site.replace_table(ours);
         Ok(count)
     }
 
@@ -227,8 +218,12 @@ impl<C: Cell + Drop> Network<C> {
         ensures { OnOk result (self.new ≡ with_table to (merged (cluster_at to self.old).table (only_of (cluster_at from self.old).table domain.now)) self.old) }
     {
         let only = self.sites[from.number as usize].table().only(domain)?;
+        let none = DomainTable::new(alloc);
         let site = &mut self.sites[to.number as usize];
-        merge_into(alloc, &mut self.links, to, site.table_mut(), &only)?;
+        let mut ours = site.replace_table(none);
+        merge_into(alloc, &mut self.links, to, &mut ours, &only)?;
+        let site = &mut self.sites[to.number as usize];
+        site.replace_table(ours);
         Ok(())
     }
 }

@@ -3,7 +3,11 @@ ghost use Rattle.std.specs.Prelude.{◌≡◌};
 use ndc_cluster::Cluster;
 use ndc_cluster_links::Queues;
 use ndc_cluster_rounds::{Cell, Home};
-use ndc_domain::{ClusterNo, DomainTable};
+use ndc_domain::{
+    ClusterNo, Clusters, DomainError, DomainTable, FailoverError, JoinError, Members, RetainError,
+};
+use ndc_event::Name;
+use ndc_graceful::{BeginError, Handover};
 use ndc_letters::Letters;
 use ndc_model_cells::{JobReply, ShardJob};
 use ndc_port::Gate;
@@ -57,17 +61,22 @@ pub(crate) fn home_in(header: &Header, cluster: ClusterNo) -> Home<'_>
 }
 
 impl<C: Cell + Drop> Site<C> {
-    ghost use Rattle.std.specs.Prelude.{◌≡◌, ◌<◌, ◌≤◌, ◌-◌, length, map, max, slice_index_or, slice_set, IfOk, OnOk};
-    ghost use Rattle.std.specs.Borrow.{sem};
+    ghost use Rattle.std.specs.Prelude.{◌≡◌, ◌<◌, ◌≤◌, ◌-◌, ◌^◌, All, length, map, max, slice_index_or, slice_set, IfOk, IfSome, OnOk, OnErr};
     ghost use Rattle.std.specs.List.{AllByRecursion};
     ghost use Rattle.ndc_cluster_rounds.specs.Homes.{desk_of};
     ghost use Rattle.ndc_model_cells.specs.Jobs.{cell_for, cells_after, replies_to};
     ghost use Rattle.ndc_cluster_links.specs.Rest.{AreRests};
     ghost use Rattle.ndc_queue.specs.Queues.{QueueValue};
     ghost use Rattle.ndc_model_cells.specs.Conditions.{AreAllowed};
-    ghost use Rattle.ndc_world_network.specs.Lending.{LendsTable};
     ghost use Rattle.ndc_world_network.specs.Networks.{opening_site};
-    ghost use Rattle.ndc_world_network.specs.Sites.{with_site_cells};
+    ghost use Rattle.ndc_world_network.specs.Sites.{with_site_cells, with_site_table};
+    ghost use Rattle.ndc_domain.specs.Clusters.{count_of};
+    ghost use Rattle.ndc_domain.specs.Outcome.{Answers};
+    ghost use Rattle.ndc_domain.specs.Records.{IsTable, failover_of, join_of, record_of, register_of, retain_of};
+    ghost use Rattle.ndc_domain.specs.declared.record.DomainError.TheVariants as register_error;
+    ghost use Rattle.ndc_event.specs.Outcome.{Gives};
+    ghost use Rattle.ndc_graceful.specs.Begin.{begin_of};
+    ghost use Rattle.ndc_graceful.specs.declared.handover.BeginError.TheVariants as begin_error;
 
     /// A cluster in the beginning, of so many cells, at most 64, in which nothing has happened.
     pub fn new(alloc: Global, home: &Home, shards: u32) -> Result<Site<C>, AllocError>
@@ -90,12 +99,105 @@ impl<C: Cell + Drop> Site<C> {
         self.cluster.records()
     }
 
-    /// Its domain records, to change them. When the loan ends, they stay as they were left. Takes no memory.
-    pub(crate) fn table_mut(&mut self) -> &mut DomainTable
-        ensures* writes_back { sem 𝓛 (LendsTable C.row C.Cell self.entry result) }
-        ensures table { result.now ≡ self.old.cluster.table }
+    /// Puts other domain records in the place of its own, which are given back. Takes no memory.
+    pub(crate) fn replace_table(&mut self, table: DomainTable) -> DomainTable
+        ensures given { result ≡ self.old.cluster.table }
+        ensures replaced { self.new ≡ with_site_table table self.old }
     {
-        self.cluster.table()
+        mem::replace(self.cluster.table(), table)
+    }
+
+    /// Registers a domain, as [`DomainTable::register`] does.
+    pub(crate) fn register(
+        &mut self,
+        clusters: &Clusters,
+        at: ClusterNo,
+        domain: &Name,
+        target: ClusterNo,
+        days: u32,
+        members: Members,
+    ) -> Result<u64, DomainError>
+        requires { All (λ member. member < count_of clusters.now) members }
+        ensures answer { Gives register_error.Memory (λ version. (version, self.new.cluster.table)) result (register_of clusters.now at domain.now target days members self.old.cluster.table) }
+        ensures rest { self.new ≡ with_site_table self.new.cluster.table self.old }
+        ensures unchanged { OnErr result (self.new ≡ self.old) }
+        ensures ordered { IsTable self.old.cluster.table }
+    {
+        let _ordered = self.table().records();
+        let table = self.cluster.table();
+        table.register(clusters, at, domain, target, days, members)
+    }
+
+    /// Replaces the days of a domain, as [`DomainTable::retain`] does. Takes no memory.
+    pub(crate) fn retain(
+        &mut self,
+        at: ClusterNo,
+        domain: &Name,
+        days: u32,
+    ) -> Result<u64, RetainError>
+        requires { IfSome (record_of self.old.cluster.table domain.now) (λ old. old.config < 10 ^ 12) }
+        ensures answer { Answers (λ config. (config, self.new.cluster.table)) result (retain_of at domain.now days self.old.cluster.table) }
+        ensures rest { self.new ≡ with_site_table self.new.cluster.table self.old }
+        ensures unchanged { OnErr result (self.new ≡ self.old) }
+        ensures ordered { IsTable self.old.cluster.table }
+    {
+        let _ordered = self.table().records();
+        let table = self.cluster.table();
+        table.retain(at, domain, days)
+    }
+
+    /// Fails a domain over to the target, as [`DomainTable::failover`] does. Takes no memory.
+    pub(crate) fn fail_over(
+        &mut self,
+        clusters: &Clusters,
+        domain: &Name,
+        target: ClusterNo,
+    ) -> Result<u64, FailoverError>
+        ensures answer { Answers (λ version. (version, self.new.cluster.table)) result (failover_of clusters.now domain.now target self.old.cluster.table) }
+        ensures rest { self.new ≡ with_site_table self.new.cluster.table self.old }
+        ensures unchanged { OnErr result (self.new ≡ self.old) }
+        ensures ordered { IsTable self.old.cluster.table }
+    {
+        let _ordered = self.table().records();
+        let table = self.cluster.table();
+        table.failover(clusters, domain, target)
+    }
+
+    /// Begins a handover of a domain, as [`Handover::begin`] does.
+    pub(crate) fn begin_handover(
+        &mut self,
+        clusters: &Clusters,
+        at: ClusterNo,
+        domain: &Name,
+        target: ClusterNo,
+        places: Vec<u64>,
+    ) -> Result<Handover, BeginError>
+        ensures answer { Gives begin_error.Memory (λ handover. (handover, self.new.cluster.table)) result (begin_of clusters.now at domain.now target places.items self.old.cluster.table) }
+        ensures rest { self.new ≡ with_site_table self.new.cluster.table self.old }
+        ensures unchanged { OnErr result (self.new ≡ self.old) }
+        ensures ordered { IsTable self.old.cluster.table }
+    {
+        let _ordered = self.table().records();
+        let table = self.cluster.table();
+        Handover::begin(table, clusters, at, domain, target, places)
+    }
+
+    /// Adds one member to a domain, as [`DomainTable::join`] does. Takes no memory.
+    pub(crate) fn join(
+        &mut self,
+        at: ClusterNo,
+        domain: &Name,
+        member: ClusterNo,
+    ) -> Result<(), JoinError>
+        requires { member.number < 8 }
+        ensures answer { Answers (λ _. self.new.cluster.table) result (join_of at domain.now member self.old.cluster.table) }
+        ensures rest { self.new ≡ with_site_table self.new.cluster.table self.old }
+        ensures unchanged { OnErr result (self.new ≡ self.old) }
+        ensures ordered { IsTable self.old.cluster.table }
+    {
+        let _ordered = self.table().records();
+        let table = self.cluster.table();
+        table.join(at, domain, member)
     }
 
     /// Its cells, by shard. Takes no memory.

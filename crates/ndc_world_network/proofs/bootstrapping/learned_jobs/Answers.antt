@@ -1,4 +1,4 @@
-use Rattle.std.proofs.Common.{◌<◌, ℕ, List, ◌++◌, length, map, ap, sym, ◌∙◌, arith}
+use Rattle.std.proofs.Common.{◌<◌, List, ◌++◌, length, map, ap, sym, ◌∙◌, arith}
 use Rattle.std.specs.List.{range_with_len}
 use Rattle.ndc_model_cells.specs.Jobs.{cell_for}
 use Rattle.ndc_model_cells.specs.declared.job.ShardJob.{ShardJob}

@@ -1,7 +1,7 @@
-use Rattle.std.proofs.Common.{◌≡◌, ◌<◌, List, length, ap, sym, subst, ◌∙◌}
+use Rattle.std.proofs.Common.{◌<◌, List, length, ap, sym, subst, ◌∙◌}
 use Rattle.std.specs.List.{AllByRecursion}
 use Rattle.ndc_model_cells.specs.declared.job.ShardJob.{ShardJob}
-use Rattle.ndc_model.specs.Moves.{Trace, by_link, flights_arrived, from_world, in_flight, jobs_done, without_flights_to}
+use Rattle.ndc_model.specs.Moves.{by_link, flights_arrived, from_world, in_flight, jobs_done, without_flights_to}
 use Rattle.ndc_model.specs.World.{World, cluster_at}
 use Rattle.ndc_world_network.proofs.ShardLemmas.{arriving_there}
 use Rattle.ndc_model.specs.Conditions.{MayDoAll}

@@ -1,6 +1,5 @@
-use Rattle.std.proofs.Common.{refl, sym, subst, ap, ◌≡◌, ◌∙◌, ◌<◌, length, drop, arith}
+use Rattle.std.proofs.Common.{refl, sym, subst, ap, ◌≡◌, ◌∙◌, arith}
 use Rattle.std.specs.List.{fold}
-use Rattle.ndc_script_types.specs.WellFormed.{IsCluster}
 use Rattle.ndc_model.specs.Moves.{due_arrived, from_world}
 use Rattle.ndc_world_network.proofs.OrderlyLemmas.{orderly_due}
 use Rattle.ndc_world_network.proofs.TraceLemmas.{cluster_in, each_here, each_more, due_more, step_all, step_more, nth_cluster}

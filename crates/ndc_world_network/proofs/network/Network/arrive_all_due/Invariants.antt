@@ -1,7 +1,6 @@
 use Rattle.std.proofs.Common.{◌≡◌, drop}
 use Rattle.std.specs.List.{fold}
 use Rattle.ndc_model.specs.Moves.{due_arrived}
-use Rattle.ndc_model.specs.World.{all_clusters}
 use Rattle.ndc_model.specs.Conditions.{EachStep, MayDoAll, due_jobs}
 use Rattle.ndc_world_network.specs.Dones.{trace_of}
 use Rattle.ndc_world_network.specs.Orderly.{IsOrderly}

@@ -1,4 +1,4 @@
-use Rattle.std.proofs.Common.{refl, sym, subst, ap, ◌≡◌, ◌∙◌, arith}
+use Rattle.std.proofs.Common.{refl, sym, subst, ap, ◌∙◌, arith}
 use Rattle.std.specs.List.{fold}
 use Rattle.ndc_world_network.proofs.TraceLemmas.{cluster_in, each_here, each_more, step_all, step_more}
 use Rattle.ndc_model.specs.Conditions.{EachStep, MayBootstrap, reader_bootstrapped}

@@ -1,7 +1,6 @@
 use Rattle.std.proofs.Common.{sym, subst, ◌∙◌}
 use Rattle.ndc_model.specs.Fair.{IsShaped}
-use Rattle.ndc_model.specs.Moves.{all_reapply, flights_arrived, from_world, reapplied_all}
-use Rattle.ndc_model.specs.World.{World}
+use Rattle.ndc_model.specs.Moves.{all_reapply, from_world}
 use Rattle.ndc_world_network.proofs.OrderlyLemmas.{orderly_arrived, orderly_reapplied}
 use Rattle.ndc_world_network.proofs.TraceLemmas.{worked_notes, worked_world}
 use Rattle.ndc_model.specs.Conditions.{MayDoAll}

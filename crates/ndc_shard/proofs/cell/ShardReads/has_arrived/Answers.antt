@@ -2,7 +2,7 @@ use Rattle.std.proofs.Common.{sym, ◌∙◌, ap}
 use Rattle.ndc_shard_workflows.specs.Workflow.{has_arrived}
 use Rattle.ndc_model_cells.specs.Workflow.{workflow_of}
 use Rattle.ndc_shard.proofs.ReadingLemmas.{arrived-there}
-use Rattle.ndc_shard.proofs.reading.ShardReads.has_arrived.Goals as goal
+use Rattle.ndc_shard.proofs.cell.ShardReads.has_arrived.Goals as goal
 
 pub returns-in-Some : goal.returns-in-Some
 returns-in-Some c =

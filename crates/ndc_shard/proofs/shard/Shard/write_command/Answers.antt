@@ -1,5 +1,5 @@
 use Rattle.ndc_shard.proofs.AskedLemmas.{command-writable}
-use Rattle.ndc_shard.proofs.shard.Shard.command.Goals as goal
+use Rattle.ndc_shard.proofs.shard.Shard.write_command.Goals as goal
 
 pub write_all-requires : goal.write_all-requires
 write_all-requires g c =

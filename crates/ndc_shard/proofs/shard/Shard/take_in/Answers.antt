@@ -3,7 +3,7 @@ use Rattle.ndc_model_cells.specs.Arrival.{arrival_of, arrived_at, learned_by}
 use Rattle.ndc_model_cells.specs.Allowed.{MayArrive}
 use Rattle.ndc_shard.specs.Shards.{having_written}
 use Rattle.ndc_shard.proofs.QueueLemmas.{arrival-same, learned-same, arrived-same, may-same}
-use Rattle.ndc_shard.proofs.shard.Shard.arrive.Goals as goal
+use Rattle.ndc_shard.proofs.shard.Shard.take_in.Goals as goal
 
 pub arrive-requires : goal.arrive-requires
 arrive-requires g c = may-same c.args.message c.self.inside.written.items c.self.inside.workflows (subst (MayArrive c.args.message) (sym c.self.view_is) c.requires)

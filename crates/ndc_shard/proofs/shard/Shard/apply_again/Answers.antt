@@ -4,7 +4,7 @@ use Rattle.ndc_model_cells.specs.Places.{AreInOrder}
 use Rattle.ndc_shard_workflows.specs.Due.{AreDue}
 use Rattle.ndc_shard_workflows.proofs.ListLemmas.{may-due, reapplied-due, written-due}
 use Rattle.ndc_shard.proofs.AgainLemmas.{due-same}
-use Rattle.ndc_shard.proofs.shard.Shard.reapply.Goals as goal
+use Rattle.ndc_shard.proofs.shard.Shard.apply_again.Goals as goal
 
 pub reapply_among-requires : goal.reapply_among-requires
 reapply_among-requires g c =

@@ -1,20 +1,35 @@
+use crate::jobs::do_job;
 use crate::lacking::lacking_in;
 use crate::shard::Shard;
-use ndc_cluster_links::{Learns, Serves, Writes};
 use ndc_cluster_reads::{Lacking, Reads};
+use ndc_cluster_rounds::{Cell, Desk, Home};
 use ndc_event::{BatchKey, Name};
-use ndc_model_cells::{Message, Place};
+use ndc_model_cells::{Job, JobReply, Message, Place};
 use ndc_shard_runs::Runs;
 use ndc_shard_workflows::messages_of;
 use std::alloc::{AllocError, Global};
 
-impl Learns for Shard {
+impl Cell for Shard {
+    ghost use Rattle.ndc_model_cells.specs.Allowed.{IsAllowed};
+
+    ghost cell = { λ shard. shard };
+
+    ghost allows = { IsAllowed };
+
+    ghost may = { λ desk asked at given. given };
+
+    fn new(alloc: Global, home: &Home) -> Result<Shard, AllocError> {
+        Shard::new(alloc, home)
+    }
+
+    fn do_job(&mut self, desk: &Desk, job: &Job) -> Result<JobReply, AllocError> {
+        do_job(self, desk, job)
+    }
+
     fn has_learned(&self, domain: &Name, workflow: &Name, key: BatchKey) -> bool {
         Shard::has_learned(self, domain, workflow, key)
     }
-}
 
-impl Writes for Shard {
     fn written_len(&self) -> u64 {
         self.written().len() as u64
     }
@@ -22,9 +37,7 @@ impl Writes for Shard {
     fn written_at(&self, place: u64) -> Result<Message, AllocError> {
         self.written()[place as usize].try_copy()
     }
-}
 
-impl Serves for Shard {
     fn learned_of(&self, alloc: Global, domains: &[Name]) -> Result<Vec<Message>, AllocError> {
         messages_of(alloc, self.held(), domains)
     }

@@ -4,7 +4,7 @@ use Rattle.ndc_cluster_reads.specs.declared.reads.Lacking.{Lacking}
 use Rattle.ndc_model_cells.specs.Workflow.{WorkflowValue, workflow_of}
 use Rattle.ndc_shard_workflows.specs.Workflow.{put_off_in}
 use Rattle.ndc_shard.proofs.ReadingLemmas.{lacking-none, lacking-own}
-use Rattle.ndc_shard.proofs.reading.ShardReads.put_off.Goals as goal
+use Rattle.ndc_shard.proofs.cell.ShardReads.put_off.Goals as goal
 
 pub returns-in-Some : goal.returns-in-Some
 returns-in-Some c =

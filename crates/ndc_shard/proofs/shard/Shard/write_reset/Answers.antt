@@ -1,5 +1,5 @@
 use Rattle.ndc_shard.proofs.AskedLemmas.{reset-writable}
-use Rattle.ndc_shard.proofs.shard.Shard.reset.Goals as goal
+use Rattle.ndc_shard.proofs.shard.Shard.write_reset.Goals as goal
 
 pub write_all-requires : goal.write_all-requires
 write_all-requires g c =
