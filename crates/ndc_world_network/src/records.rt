@@ -170,7 +170,8 @@ impl<C: Cell + Drop> Network<C> {
     ) -> Result<Result<(), JoinError>, AllocError>
         requires at { at.number < length self.old.clusters }
         requires member { member.number < 8 }
-        ensures { IfOk result (λ joined. Answers (λ _. self.new) joined (table_left at self.old (join_of at domain.now member (cluster_at at self.old).table))) }
+        ensures answer { IfOk result (λ joined. Answers (λ _. self.new) joined (table_left at self.old (join_of at domain.now member (cluster_at at self.old).table))) }
+        ensures unchanged { IfOk result (λ joined. OnErr joined (self.new ≡ self.old)) }
     {
         let site = &mut self.sites[at.number as usize];
         if let Err(refused) = site.join(at, domain, member) {

@@ -5,8 +5,8 @@ use Rattle.ndc_world_network.proofs.RecordLemmas.{joined_at}
 use Rattle.ndc_world_network.specs.Sites.{SiteValue}
 use Rattle.ndc_world_network.proofs.network.Network.join.Goals as goal
 
-pub returns : goal.returns
-returns g c =
+pub returns-clause-answer : goal.returns-clause-answer
+returns-clause-answer g c =
     let below : c.args.at.number < length c.self.inside.sites.items =
     omega (arith, c.requires.at, ap (λ (v : World). length v.clusters) c.self.view_is, length-map c.self.inside.sites.items (λ (s : SiteValue). s.cluster)) in
     joined_at c.self.inside.sites.items c.self.inside.links.items c.self.inside.handovers.items c.args.at c.index_mut-site.result.now below c.index_mut-site.ensures.value
