@@ -12,9 +12,9 @@ ghost use Rattle.ndc_world.specs.Bursts.{burst_text};
 
 use ndc_cluster_reads::Reads;
 use ndc_domain::ClusterNo;
+use ndc_model_cells::{Job, JobReply, ShardJob, shard_of};
 use ndc_port::Gate;
 use ndc_script_types::{BurstJob, Header};
-use ndc_shard::{Job, JobReply, ShardJob, shard_of};
 use ndc_world_answers::{add_seen, behind_number, outcome};
 use ndc_world_network::Network;
 use ndc_world_steps::Step;
