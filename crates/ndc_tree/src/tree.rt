@@ -1,7 +1,6 @@
 ghost use Rattle.std.specs.Prelude.{◌≡◌, ◌<◌, ◌↔◌, ◌++◌, [], ◌∷◌, map, IfSome, IfOk, OnOk, IsTrue, Some, Ok};
 ghost use Rattle.ndc_history.specs.History.{rises, added};
 ghost use Rattle.ndc_model_sets.specs.Sets.{Has};
-ghost use Rattle.ndc_model_sets.specs.Paths.{first_id, last_id};
 ghost use Rattle.std.specs.Option.{option_copied, option_map};
 ghost use Rattle.ndc_tree.specs.Fitting.{goes_on, key_behind};
 ghost use Rattle.ndc_model_sets.specs.Reading.{parent_of};
@@ -10,8 +9,9 @@ ghost use Rattle.ndc_tree.specs.Inserting.{end_of};
 use crate::answer::{Inserted, TreeError};
 use crate::batches::Batches;
 use crate::tips::Tips;
-use ndc_event::{Batch, BatchKey, Event, RunId};
+use ndc_event::{Batch, BatchKey, RunId};
 use ndc_history::{Item, VersionHistory};
+use ndc_model_sets::{first_id, last_id};
 use std::alloc::{AllocError, Global};
 use std::marker::Model;
 
@@ -365,26 +365,6 @@ fn is_known(batches: &Batches, batch: &Batch) -> bool
     match batches.get(batch.key) {
         None => false,
         Some(other) => other.is_same(batch),
-    }
-}
-
-/// The id of the last event, 0 where there is none.
-fn last_id(events: &[Event]) -> u64
-    ensures { result ≡ last_id events.now }
-{
-    match events.last() {
-        None => 0,
-        Some(event) => event.id,
-    }
-}
-
-/// The id of the first event, 0 where there is none.
-fn first_id(events: &[Event]) -> u64
-    ensures { result ≡ first_id events.now }
-{
-    match events.first() {
-        None => 0,
-        Some(event) => event.id,
     }
 }
 
