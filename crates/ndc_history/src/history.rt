@@ -48,6 +48,14 @@ impl VersionHistory {
         }
     }
 
+    /// The history of these items, whose ids and versions rise strictly.
+    pub fn of(items: Vec<Item>) -> VersionHistory
+        requires { IsTrue (rises items.items) }
+        ensures { result ≡ items.items }
+    {
+        VersionHistory { items }
+    }
+
     /// The items, in order.
     pub fn items(&self) -> &[Item]
         ensures items { result.now ≡ self.now }

@@ -1,5 +1,5 @@
 -- What is pending, started at a place and taken back.
-use Rattle.std.proofs.Common.{◌≡◌, ℕ, zero, suc, ◌<◌, Bool, true, false, cond, is_none, List, [], ◌∷◌, ◌++◌, length, take, get_or, Option, None, Some, slice_get, IsTrue, if◌then◌else◌, refl, ap, sym, subst, ◌∙◌, arith}
+use Rattle.std.proofs.Common.{◌≡◌, ℕ, zero, suc, ◌<◌, Bool, true, false, cond, is_none, List, [], ◌∷◌, ◌++◌, length, take, get_or, Option, None, Some, slice_get, IsTrue, if◌then◌else◌, refl, ap, sym, ◌∙◌, arith}
 use Rattle.std.specs.List.{position}
 use Rattle.std.specs.Map.{keys_of, values_of}
 use Rattle.std.proofs.lemmas.List.{take-append-le, length-append}

@@ -4,6 +4,7 @@ pub mod SegmentLemmas
 pub mod GrowLemmas
 pub mod FitLemmas
 pub mod TipLemmas
+pub mod NotedLemmas
 pub mod PathLemmas
 pub mod LastLemmas
 pub mod VersionLemmas

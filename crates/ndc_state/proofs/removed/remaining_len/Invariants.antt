@@ -1,4 +1,4 @@
-use Rattle.std.proofs.Common.{◌≡◌, ◌≤◌, ◌+◌, length, slice_get}
+use Rattle.std.proofs.Common.{◌≡◌, ◌≤◌, ◌+◌, length}
 use Rattle.std.specs.Map.{values_of}
 use Rattle.ndc_state.specs.Pendings.{remaining, values_from}
 use Rattle.ndc_state.proofs.removed.remaining_len.Given as goal

@@ -4,7 +4,7 @@ use Rattle.ndc_state.specs.declared.pendings.Pending.{Pending}
 use Rattle.ndc_state.specs.Marked.{Marked}
 use Rattle.indexmap.proofs.CallerLemmas.{insert_entry-new}
 use Rattle.ndc_state.specs.Pendings.{same_name, pending_of, remaining, scheduled_by}
-use Rattle.ndc_state.specs.Places.{marked_of, IsCountWithin}
+use Rattle.ndc_state.specs.Places.{marked_of}
 use Rattle.ndc_state.proofs.PlaceLemmas.{marked_of-scheduled, IsCountWithin-scheduled}
 use Rattle.ndc_state.proofs.RemovedLemmas.{found_remaining, remaining_scheduled}
 use Rattle.ndc_state.proofs.held.Held.schedule.Goals as goal

@@ -1,8 +1,8 @@
-use Rattle.std.proofs.Common.{◌≡◌, ◌∙◌, ap, sym, subst, IsTrue, Bool, false, Option, Some, List}
+use Rattle.std.proofs.Common.{◌∙◌, ap, sym, subst, IsTrue, Option, Some, List}
 use Rattle.ndc_event.specs.declared.name.Name.{Name}
 use Rattle.ndc_state.specs.Marked.{Marked}
 use Rattle.ndc_state.specs.declared.pendings.Pending.{Pending}
-use Rattle.ndc_state.specs.Pendings.{is_gone, is_waiting, pending_of, remaining}
+use Rattle.ndc_state.specs.Pendings.{is_waiting, pending_of, remaining}
 use Rattle.ndc_state.proofs.PlaceLemmas.{with_started-at, marked_of-started, IsCountWithin-started}
 use Rattle.ndc_state.proofs.RemovedLemmas.{found_remaining, remaining_started, waits-there, never-absent}
 use Rattle.ndc_state.proofs.held.Held.start.Goals as goal
