@@ -2,6 +2,7 @@ pub mod SortedLemmas
 pub mod KeyPlaces
 pub mod SegmentLemmas
 pub mod GrowLemmas
+pub mod EventLemmas
 pub mod FitLemmas
 pub mod TipLemmas
 pub mod NotedLemmas

@@ -279,7 +279,7 @@ impl Tree {
             None => Ok(None),
             Some(batch) => {
                 let items = self.items_to(alloc, batch, 1)?;
-                Ok(Some(VersionHistory::of(items)))
+                Ok(Some(VersionHistory::of(alloc, items)?))
             }
         }
     }
