@@ -1,7 +1,7 @@
 use Rattle.std.proofs.Common.{◌≡◌, ℕ, ◌-◌, length, slice_set, true, Some, ap, sym, ◌∙◌, subst, arith}
 use Rattle.ndc_history.specs.History.{last_item, rises}
 use Rattle.ndc_history.proofs.AddLemmas.{rises_push, rises_set}
-use Rattle.ndc_history.proofs.history.VersionHistory.add.Goals as goal
+use Rattle.ndc_history.proofs.rising.Rising.add.Goals as goal
 
 pub invariant_of-self-then-item-last-3 : goal.invariant_of-self-then-item-last-3
 invariant_of-self-then-item-last-3 c =

@@ -1,6 +1,6 @@
 use Rattle.std.proofs.Common.{◌≡◌, ◌+◌, ◌≤◌, length, take}
 use Rattle.ndc_history.specs.Common.{common_of}
-use Rattle.ndc_history.proofs.history.VersionHistory.common.Given as goal
+use Rattle.ndc_history.proofs.rising.Rising.common.Given as goal
 
 -- what the histories up to the two places have in common is what they have in all
 abbrev pub invariant-loop-own : goal.invariant-loop-own

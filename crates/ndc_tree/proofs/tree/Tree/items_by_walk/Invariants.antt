@@ -3,7 +3,7 @@ use Rattle.std.specs.Option.{option_copied}
 use Rattle.ndc_model_sets.specs.Reading.{items_of}
 use Rattle.ndc_tree.proofs.VersionLemmas.{rank}
 use Rattle.ndc_tree.proofs.ReadingLemmas.{Walks}
-use Rattle.ndc_tree.proofs.tree.Tree.items_to.Given as goal
+use Rattle.ndc_tree.proofs.tree.Tree.items_by_walk.Given as goal
 
 -- the items up to the next batch, and behind them those gone over, newest first
 abbrev pub invariant-loop-next : goal.invariant-loop-next
