@@ -3,7 +3,7 @@ use Rattle.std.specs.Prelude.{ℕ, List}
 use Rattle.ndc_domain.specs.Clusters.{ClusterList}
 use Rattle.ndc_domain.specs.declared.clusters.ClusterNo.{ClusterNo}
 use Rattle.ndc_domain.specs.declared.record.DomainRecord.{DomainRecord}
-use Rattle.ndc_model_cells.specs.Writing.{Home as Desk}
+use Rattle.ndc_model_cells.specs.Writing.{Desk}
 
 -- all clusters, which of them it is, and the limit of histories
 pub record HomeValue : Type 0 where

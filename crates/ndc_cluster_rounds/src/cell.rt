@@ -11,7 +11,7 @@ pub trait Cell {
     ghost use Rattle.ndc_model_cells.specs.Cells.{Cell as CellValue, empty_cell, learned_of};
     ghost use Rattle.ndc_model_cells.specs.Domains.{learned_of_domains};
     ghost use Rattle.ndc_model_cells.specs.Jobs.{after_job, reply_to};
-    ghost use Rattle.ndc_model_cells.specs.Writing.{Home as DeskValue};
+    ghost use Rattle.ndc_model_cells.specs.Writing.{Desk as DeskValue};
     ghost use Rattle.ndc_model_cells.specs.declared.job.Job.{Job as Asked};
     ghost use Rattle.ndc_model_sets.specs.Learned.{has_key};
 

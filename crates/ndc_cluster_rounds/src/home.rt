@@ -27,7 +27,7 @@ pub struct Desk<'a> {
 }
 
 impl<'a> Model for Desk<'a> {
-    ghost use Rattle.ndc_model_cells.specs.Writing.{Home as DeskValue};
+    ghost use Rattle.ndc_model_cells.specs.Writing.{Desk as DeskValue};
 
     ghost Value = { DeskValue };
 

@@ -11,7 +11,7 @@ use Rattle.ndc_event.specs.declared.name.Name.{Name}
 use Rattle.ndc_model_cells.specs.declared.job.Written.{Written}
 use Rattle.ndc_model_cells.specs.Cells.{Cell, learned_of}
 use Rattle.ndc_model_cells.specs.Jobs.{all_batches}
-use Rattle.ndc_model_cells.specs.Writing.{Entry, Home as Desk, may_write}
+use Rattle.ndc_model_cells.specs.Writing.{Entry, Desk, may_write}
 use Rattle.ndc_model_sets.specs.Branches.{workflow_tip}
 use Rattle.ndc_shard.specs.declared.error.ShardError.{ShardError}
 use Rattle.ndc_shard.specs.declared.error.ShardError.TheVariants.{Memory, Refused}

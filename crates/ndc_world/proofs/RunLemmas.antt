@@ -8,7 +8,7 @@ use Rattle.ndc_script_types.specs.declared.script.Act.TheVariants as act
 use Rattle.ndc_script_types.specs.declared.script.BurstJob.{BurstJob}
 use Rattle.ndc_model_cells.specs.declared.job.Job.{Job}
 use Rattle.ndc_model_cells.specs.Cells.{Cell}
-use Rattle.ndc_model_cells.specs.Writing.{Home}
+use Rattle.ndc_model_cells.specs.Writing.{Desk}
 use Rattle.ndc_domain.specs.declared.clusters.ClusterNo.{ClusterNo}
 use Rattle.ndc_laws_reached.proofs.BringLemmas.{world_after}
 use Rattle.ndc_laws_jobs.specs.Lines.{LineIsAllowed, burst_jobs}
@@ -27,7 +27,7 @@ use Rattle.ndc_world.proofs.BurstLemmas.{IsBurst, burst_runs}
 
 module _ (running : Running) (is : IsRunning running) where
   -- a line may be asked of cells that do all that may be asked
-  pub may_line : (allows : Condition) → ((home : Home) (asked : Job) (at : Cell) → IsAllowed home asked at → allows home asked at) → (line : Act) → IsWellFormedAct running.header line → running.lines < 100000
+  pub may_line : (allows : Condition) → ((home : Desk) (asked : Job) (at : Cell) → IsAllowed home asked at → allows home asked at) → (line : Act) → IsWellFormedAct running.header line → running.lines < 100000
       → LineIsAllowed allows running.header line running.world
   may_line allows may line fit below =
       line_may allows may running.header line running.world (line_allowed running.header running.lines line running.world is.header fit below is.reached)
@@ -43,7 +43,7 @@ module _ (running : Running) (is : IsRunning running) where
 
   module _ (cluster : ClusterNo) (jobs : List BurstJob) (known : IsCluster running.header cluster) (fit : All IsWellFormedJob jobs) (few : running.lines + length jobs ≤ 100000) where
     -- the jobs of a burst may be asked
-    pub may_burst : (allows : Condition) → ((home : Home) (asked : Job) (at : Cell) → IsAllowed home asked at → allows home asked at)
+    pub may_burst : (allows : Condition) → ((home : Desk) (asked : Job) (at : Cell) → IsAllowed home asked at → allows home asked at)
         → MayDoAll allows running.header cluster (burst_jobs running.header jobs) running.world
     may_burst allows may =
         all_may allows may running.header cluster (burst_jobs running.header jobs) running.world

@@ -8,7 +8,7 @@ use Rattle.ndc_model_cells.specs.declared.message.Message.{Message}
 use Rattle.ndc_model_cells.specs.Arrival.{arrived_at, has_arrived}
 use Rattle.ndc_model_cells.specs.Cells.{Cell}
 use Rattle.ndc_model_cells.specs.Jobs.{after_job, cell_for, cells_after, reapplied_in, workflows_of, written_at}
-use Rattle.ndc_model_cells.specs.Writing.{Entry, Home, command_of, entry_message, reapplication_of, reset_at, with_all_written, with_batches, with_written}
+use Rattle.ndc_model_cells.specs.Writing.{Entry, Desk, command_of, entry_message, reapplication_of, reset_at, with_all_written, with_batches, with_written}
 use Rattle.ndc_command.specs.declared.refusal.CommandError.{CommandError}
 use Rattle.ndc_event.specs.declared.batch.Batch.{Batch}
 use Rattle.ndc_cluster_links.proofs.RestLemmas.{len_kept}
@@ -44,7 +44,7 @@ written-now (Ok entries) cell = written-all entries cell
 written-now (Err error) cell = stays cell.written
 
 -- reapplication in workflows
-written-again : (home : Home) (workflows : List Batch) (cell : Cell) → GoesOn cell.written (reapplied_in home workflows cell).written
+written-again : (home : Desk) (workflows : List Batch) (cell : Cell) → GoesOn cell.written (reapplied_in home workflows cell).written
 written-again home [] cell = stays cell.written
 written-again home (b ∷ workflows) cell =
     let next : Cell = with_all_written (reapplication_of home b.domain b.workflow cell) cell in
@@ -60,7 +60,7 @@ written-arrived sent cell = by (has_arrived sent.batch cell) refl
     by false new = rw new (stays cell.written)
 
 -- a job
-written-job : (home : Home) (asked : Job) (cell : Cell) → GoesOn cell.written (after_job home asked cell).written
+written-job : (home : Desk) (asked : Job) (cell : Cell) → GoesOn cell.written (after_job home asked cell).written
 unfolding after_job
 written-job home (job.Command domain workflow command) cell = written-now (command_of home domain workflow command cell) cell
 written-job home (job.Arrive message) cell = written-arrived message cell
@@ -68,7 +68,7 @@ written-job home job.Reapply cell = written-again home (workflows_of cell.arrive
 written-job home (job.Reset domain workflow event) cell = written-now (reset_at home domain workflow event cell) cell
 
 -- jobs of one cell
-written-jobs : (home : Home) (jobs : List Job) (cell : Cell) → GoesOn cell.written (cell_after home jobs cell).written
+written-jobs : (home : Desk) (jobs : List Job) (cell : Cell) → GoesOn cell.written (cell_after home jobs cell).written
 written-jobs home [] cell = stays cell.written
 written-jobs home (asked ∷ jobs) cell =
     goes-on cell.written (after_job home asked cell).written (cell_after home jobs (after_job home asked cell)).written (written-job home asked cell) (written-jobs home jobs (after_job home asked cell))
@@ -82,7 +82,7 @@ front-grown kept whole after it grown =
     subst (IsRestOf kept) (sym same) it
 
 -- behind jobs a cell has written no less
-pub written_more : (home : Home) (jobs : List ShardJob) (cells : List Cell) (shard : ℕ) → shard < length cells
+pub written_more : (home : Desk) (jobs : List ShardJob) (cells : List Cell) (shard : ℕ) → shard < length cells
     → length (cell_for shard cells).written ≤ length (cell_for shard (cells_after home jobs cells)).written
 written_more home jobs cells shard below =
     let grown = written-jobs home (jobs_of shard jobs) (cell_for shard cells) in
@@ -91,7 +91,7 @@ written_more home jobs cells shard below =
     omega (arith, more, ap (λ (cell : Cell). length cell.written) (cell_by_itself home jobs cells shard below))
 
 -- behind jobs what is kept of each queue is the front of what its cell has written
-pub fronts_after : (home : Home) (jobs : List ShardJob) (cells : List Cell) (queues : List QueueValue) → AreTied cells queues
+pub fronts_after : (home : Desk) (jobs : List ShardJob) (cells : List Cell) (queues : List QueueValue) → AreTied cells queues
     → AreFronts queues (λ shard. (cell_for shard (cells_after home jobs cells)).written)
 fronts_after home jobs cells queues tied shard below =
     let inside : shard < length cells = omega (arith, below, tied.alike) in
@@ -100,7 +100,7 @@ fronts_after home jobs cells queues tied shard below =
     (subst (λ (cell : Cell). GoesOn (cell_for shard cells).written cell.written) (sym (cell_by_itself home jobs cells shard inside)) grown)
 
 -- and there is a queue for each cell
-pub alike_after : (home : Home) (jobs : List ShardJob) (cells : List Cell) (queues : List QueueValue) → AreTied cells queues → length (cells_after home jobs cells) ≡ length queues
+pub alike_after : (home : Desk) (jobs : List ShardJob) (cells : List Cell) (queues : List QueueValue) → AreTied cells queues → length (cells_after home jobs cells) ≡ length queues
 alike_after home jobs cells queues tied = cells-many home jobs cells ∙ sym tied.alike
 
 -- queues without an entry are trimmed nowhere
