@@ -33,7 +33,7 @@ use Rattle.ndc_model_cells.specs.Arrival.{placed_second}
 use Rattle.ndc_model_cells.specs.Cells.{Cell, learned_of}
 use Rattle.ndc_model_cells.specs.Places.{placed}
 
--- where a cell stands: the clusters, which of them it is of, the limit of histories, and its cluster's domain records
+-- the desk of a cell: the clusters, which of them it is of, the limit of histories, and its cluster's domain records
 pub record Desk : Type 0 where
   pub clusters : ClusterList
   pub me : ClusterNo
