@@ -8,7 +8,6 @@ mod branches;
 mod columns;
 mod error;
 mod fault;
-mod faulty;
 mod graph;
 pub mod laws;
 mod layout;
