@@ -1,5 +1,5 @@
 -- Behind a handover the target goes on where all that was written ends.
-use Rattle.std.proofs.Common.{◌≡◌, ◌≢◌, ◌≤◌, ℕ, Bool, true, false, List, [], ◌∷◌, ◌++◌, ◌⊎◌, inl, inr, Option, Some, None, Result, Ok, Err, slice_index_or, if◌then◌else◌, refl, sym, ◌∙◌, subst, ap, arith}
+use Rattle.std.proofs.Common.{◌≡◌, ◌≤◌, ℕ, Bool, true, false, List, [], ◌∷◌, ◌++◌, ◌⊎◌, inl, inr, Option, Some, None, Result, Ok, Err, slice_index_or, if◌then◌else◌, refl, sym, ◌∙◌, subst, ap, arith}
 use Rattle.std.specs.Prelude.{option_to_list}
 use Rattle.std.specs.List.{AllByRecursion, filter, flat_map}
 use Rattle.ndc_script_types.specs.WellFormed.{IsWellFormedHeader}
@@ -22,7 +22,6 @@ use Rattle.ndc_domain.specs.Records.{only_of}
 use Rattle.ndc_domain.specs.declared.clusters.ClusterNo.{ClusterNo}
 use Rattle.ndc_domain.specs.declared.record.DomainRecord.{DomainRecord}
 use Rattle.ndc_event.specs.Key.{key_lt, run_of}
-use Rattle.ndc_event.specs.Outcome.{◌>>=◌}
 use Rattle.ndc_event.specs.declared.batch.Batch.{Batch}
 use Rattle.ndc_event.specs.declared.key.BatchKey.{BatchKey}
 use Rattle.ndc_event.specs.declared.kind.EventKind.{EventKind}
@@ -38,7 +37,6 @@ use Rattle.ndc_model.specs.Facts.{IsHandoverFit, IsReached}
 use Rattle.ndc_model.specs.Fair.{written_of}
 use Rattle.ndc_model.specs.Handovers.{complete_by, complete_open, complete_step, handed_over, handover_to, ready_in}
 use Rattle.ndc_model.specs.Lines.{act_step}
-use Rattle.ndc_model.specs.Moves.{all_written}
 use Rattle.ndc_model.specs.Reading.{learned_at}
 use Rattle.ndc_model.specs.World.{Cluster, World, all_clusters, cell_at, cell_of, cluster_at, home_at, new_cluster, with_table}
 use Rattle.ndc_model.proofs.WorldLemmas.{set-cases}
@@ -114,8 +112,11 @@ module _ (home : Home) (domain workflow : Name) (cell : Cell) (tip : Batch) (cur
       next-holds (BeginsOrGoesBelow tip) (as_command_error (may_write home domain workflow cell)) (λ version. command_entries domain workflow command home.limit version batches)
       (λ version e. next-holds (BeginsOrGoesBelow tip) (plan_of _ command version home.limit (run_of (key_behind (next_key version batches))))
       (λ kinds. Ok (entry_of domain workflow (begins_run command) (next_key version batches) (workflow_tip batches) batches kinds ∷ []))
-      (λ kinds f. (subst (λ (o : Option Batch). AllByRecursion (BeginsOrGoesBelow tip) (batches_in (entry_of domain workflow (begins_run command) (next_key version batches) o batches kinds))) (sym current)
-      (entry-fits tip domain workflow (next_key version batches) (begins_run command) batches kinds), tt)))
+      (λ kinds f. (
+        subst (λ (o : Option Batch). AllByRecursion (BeginsOrGoesBelow tip) (batches_in (entry_of domain workflow (begins_run command) (next_key version batches) o batches kinds))) (sym current)
+            (entry-fits tip domain workflow (next_key version batches) (begins_run command) batches kinds),
+        tt,
+      )))
 
   reset-at-fits : (event : ℕ) → HoldsWhereOk (BeginsOrGoesBelow tip) (reset_at home domain workflow event cell)
   unfolding reset_at

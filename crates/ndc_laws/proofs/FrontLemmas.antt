@@ -1,5 +1,5 @@
 -- The first lines of a script are a script.
-use Rattle.std.proofs.Common.{◌≡◌, ◌≤◌, ◌<◌, ℕ, zero, suc, List, [], ◌∷◌, ◌++◌, length, arith}
+use Rattle.std.proofs.Common.{◌≤◌, zero, suc, List, [], ◌∷◌, ◌++◌, length, arith}
 use Rattle.std.specs.List.{All}
 use Rattle.std.proofs.lemmas.List.{length-append}
 use Rattle.ndc_script_types.specs.Print.{act_lines, body_lines, header_lines}
