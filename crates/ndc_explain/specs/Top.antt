@@ -3,7 +3,6 @@ use Rattle.std.specs.Prelude.{◌≡◌, ◌⊎◌, ℕ, ◌==◌, ◌<◌, ◌�
 use Rattle.ndc_port.specs.Bytes.{Appends, AppendsFront}
 use Rattle.ndc_port.specs.Fault.{Rose}
 use Rattle.ndc_dump.specs.Read.{dump_of}
-use Rattle.ndc_dump_causes.specs.declared.error.DumpError.{DumpError}
 use Rattle.ndc_dump_causes.specs.declared.error.DumpError.TheVariants as error
 use Rattle.ndc_dump_faults.specs.Faults.{dump_batch_line, dump_line}
 use Rattle.ndc_dump_faults.specs.Telling.{Streams, most_bytes}

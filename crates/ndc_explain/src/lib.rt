@@ -23,5 +23,4 @@ mod told;
 mod top;
 mod writer;
 
-pub use told::{Explanation, draw, draw_tree, explain};
 pub use top::explain_top;
