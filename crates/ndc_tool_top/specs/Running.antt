@@ -1,5 +1,5 @@
 -- The run of a script: what is written, and why it ends with a fault.
-use Rattle.std.specs.Prelude.{◌≡◌, ◌⊎◌, ℕ, ◌<◌, ◌≤◌, ⊤, true, false, IsOkAnd, IfSome, length, Some, List, [], ◌++◌, Option, Err}
+use Rattle.std.specs.Prelude.{◌≡◌, ◌⊎◌, ℕ, ◌<◌, ◌≤◌, ⊤, false, IsOkAnd, IfSome, length, Some, List, [], ◌++◌, Option, Err}
 use Rattle.ndc_script_types.specs.declared.script.ScriptError.{ScriptError}
 use Rattle.ndc_script_types.specs.declared.script.ScriptError.TheVariants.{Refused, Memory}
 use Rattle.ndc_event.specs.declared.name.Name.{Name}
