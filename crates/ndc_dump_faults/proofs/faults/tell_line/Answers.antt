@@ -1,4 +1,4 @@
-use Rattle.ndc_tool_top.proofs.faulty.tell_line.Goals as goal
+use Rattle.ndc_dump_faults.proofs.faults.tell_line.Goals as goal
 
 pub returns-clause-whole : goal.returns-clause-whole
 returns-clause-whole g c =

@@ -1,7 +1,7 @@
 use Rattle.std.proofs.Common.{◌<◌, length, arith}
 use Rattle.ndc_port.specs.Bytes.{AppendsFront}
-use Rattle.ndc_explain.proofs.Pieces.{Sent_last, Sent_next, bytes_of, on_err}
-use Rattle.ndc_explain.proofs.fault.write_pieces.Goals as goal
+use Rattle.ndc_dump_faults.proofs.PieceLemmas.{Sent_last, Sent_next, bytes_of, on_err}
+use Rattle.ndc_dump_faults.proofs.pieces.write_pieces.Goals as goal
 
 pub returns-in_err-write_all-clause-front : goal.returns-in_err-write_all-clause-front
 returns-in_err-write_all-clause-front g c =

@@ -2,10 +2,10 @@
 ghost use Rattle.std.specs.Prelude.{◌≡◌, ◌≤◌, OnOk, OnErr};
 ghost use Rattle.ndc_port.specs.Bytes.{Appends, AppendsFront};
 ghost use Rattle.ndc_port.specs.Fault.{Rose};
-ghost use Rattle.ndc_explain.specs.Faulty.{batch_fault_name, line_cause_name, key_cause_name, dump_line, dump_batch_line};
+ghost use Rattle.ndc_dump_faults.specs.Faults.{batch_fault_name, line_cause_name, key_cause_name, dump_line, dump_batch_line};
 
-use crate::fault::write_pieces;
-use ndc_dump::{KeyCause, LineCause};
+use crate::pieces::write_pieces;
+use ndc_dump_causes::{KeyCause, LineCause};
 use ndc_event::{BatchFault, BatchKey};
 use ndc_port::{Failed, Sink};
 
@@ -59,7 +59,7 @@ fn key_cause_name(cause: KeyCause) -> &'static str
 }
 
 /// Writes the line that tells of a faulty line of a dump.
-pub(crate) fn tell_line<E: Sink>(err: &mut E, line: u64, cause: LineCause) -> Result<(), Failed>
+pub fn tell_line<E: Sink>(err: &mut E, line: u64, cause: LineCause) -> Result<(), Failed>
     ensures whole { OnOk result (Appends (E.written err.old) (E.written err.new) (dump_line line cause)) }
     ensures front { OnErr result (AppendsFront (E.written err.old) (E.written err.new) (dump_line line cause)) }
     ensures cause { OnErr result (Rose (E.faults err.old) (E.faults err.new)) }
@@ -78,7 +78,7 @@ pub(crate) fn tell_line<E: Sink>(err: &mut E, line: u64, cause: LineCause) -> Re
 }
 
 /// Writes the line that tells of a batch that does not fit the others of a dump.
-pub(crate) fn tell_batch<E: Sink>(err: &mut E, key: BatchKey, cause: KeyCause) -> Result<(), Failed>
+pub fn tell_batch<E: Sink>(err: &mut E, key: BatchKey, cause: KeyCause) -> Result<(), Failed>
     ensures whole { OnOk result (Appends (E.written err.old) (E.written err.new) (dump_batch_line key cause)) }
     ensures front { OnErr result (AppendsFront (E.written err.old) (E.written err.new) (dump_batch_line key cause)) }
     ensures cause { OnErr result (Rose (E.faults err.old) (E.faults err.new)) }

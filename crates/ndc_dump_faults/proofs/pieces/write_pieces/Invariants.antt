@@ -1,7 +1,7 @@
 use Rattle.std.proofs.Common.{◌≤◌, map, drop}
 use Rattle.std.specs.List.{concat}
 use Rattle.ndc_port.specs.Bytes.{Sent}
-use Rattle.ndc_tool_top.proofs.fault.write_pieces.Given as goal
+use Rattle.ndc_dump_faults.proofs.pieces.write_pieces.Given as goal
 
 -- what is left to send are the pieces that are left
 abbrev pub invariant-loop-piece : goal.invariant-loop-piece
