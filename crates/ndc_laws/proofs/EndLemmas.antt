@@ -9,7 +9,7 @@ use Rattle.ndc_model_cells.specs.Cells.{Cell, both, learned_of}
 use Rattle.ndc_model_cells.specs.Jobs.{cell_for}
 use Rattle.ndc_model_cells.specs.Places.{in_order, is_of}
 use Rattle.ndc_model_cells.specs.Shards.{shard_of}
-use Rattle.ndc_model_cells.specs.Writing.{Entry, Home, alone, as_command_error, batch_below, batches_in, carried_by, command_entries, command_of, entry_of, first_batch, goes_on_as, is_close_full, key_behind, may_write, next_key, reapplication_below, reapplication_by, reapplication_of, reset_at, reset_below, reset_close, reset_entries, reset_refused}
+use Rattle.ndc_model_cells.specs.Writing.{Entry, Desk, alone, as_command_error, batch_below, batches_in, carried_by, command_entries, command_of, entry_of, first_batch, goes_on_as, is_close_full, key_behind, may_write, next_key, reapplication_below, reapplication_by, reapplication_of, reset_at, reset_below, reset_close, reset_entries, reset_refused}
 use Rattle.ndc_command.specs.Laws.{begins_run}
 use Rattle.ndc_command.specs.Plan.{plan_of}
 use Rattle.ndc_command.specs.declared.command.Command.{Command}
@@ -102,7 +102,7 @@ module _ (tip : Batch) (domain workflow : Name) (key : BatchKey) where
   applied-fits s kinds false = tt
 
 -- what a cell writes where this is the tip of its current run of the workflow
-module _ (home : Home) (domain workflow : Name) (cell : Cell) (tip : Batch) (current : workflow_tip (learned_of domain workflow cell) ≡ Some tip) where
+module _ (home : Desk) (domain workflow : Name) (cell : Cell) (tip : Batch) (current : workflow_tip (learned_of domain workflow cell) ≡ Some tip) where
   abbrev batches : List Batch
   batches = learned_of domain workflow cell
 

@@ -10,7 +10,7 @@ use Rattle.ndc_script_types.specs.declared.script.Act.TheVariants as act
 use Rattle.ndc_script_types.specs.declared.script.Header.{Header}
 use Rattle.ndc_script_types.specs.declared.script.Line.{Line}
 use Rattle.ndc_model_cells.specs.Cells.{Cell, learned_of}
-use Rattle.ndc_model_cells.specs.Writing.{Home, as_command_error, is_writer, may_write}
+use Rattle.ndc_model_cells.specs.Writing.{Desk, as_command_error, is_writer, may_write}
 use Rattle.ndc_command.specs.declared.refusal.CommandError.{CommandError}
 use Rattle.ndc_command.specs.declared.refusal.Refusal.{Refusal}
 use Rattle.ndc_domain.specs.Clusters.{writer_of}
@@ -80,7 +80,7 @@ sync-stood header to from w here there cluster known report among = by (more-sto
     by (inr theirs) = inl (from, there, theirs)
 
 -- what a cluster tells is of a version of its own
-told-own : (home : Home) (domain workflow id : Name) (cell : Cell) (told : ℕ × ActivityRef) → told_of home domain workflow id cell ≡ Ok told → is_writer home.me (writer_of home.clusters told.0) ≡ true
+told-own : (home : Desk) (domain workflow id : Name) (cell : Cell) (told : ℕ × ActivityRef) → told_of home domain workflow id cell ≡ Ok told → is_writer home.me (writer_of home.clusters told.0) ≡ true
 told-own home domain workflow id cell told =
     by (may_write home domain workflow cell) refl (started_activity domain workflow id (learned_of domain workflow cell) (workflow_tip (learned_of domain workflow cell)))
   where
