@@ -1,8 +1,11 @@
 //! What a call answers, over memory.
-ghost use Rattle.std.specs.Prelude.{◌≡◌, [], IfOk};
+ghost use Rattle.std.specs.Prelude.{◌≡◌, [], map, IfOk};
+ghost use Rattle.std.specs.List.{AllByRecursion};
+ghost use Rattle.ndc_index.specs.Seats.{shown};
 ghost use Rattle.ndc_script_types.specs.Print.{script_text};
 ghost use Rattle.ndc_script_read.specs.Body.{script_of};
 
+use crate::counting::Counting;
 use crate::faulty::Faulty;
 use crate::gate::LateGate;
 use ndc_index::{Indexer, KindsIndexer, OpenIndexer, SignalsIndexer};
@@ -12,6 +15,8 @@ use ndc_script_words::number_of;
 use ndc_text::{TextError, print_batch, read_batch, read_batch_1};
 use ndc_tool_top::ndc_top;
 use std::alloc::{AllocError, Global};
+use std::sync::Arc;
+use std::sync::atomic::{AtomicU64, Ordering};
 use std::thread::Threads;
 
 /// How many bytes a call may print.
@@ -90,15 +95,17 @@ fn failing(alloc: Global, call: u64) -> Result<Vec<u64>, AllocError> {
     Ok(calls)
 }
 
-/// What the program answers on these words, with the three indexers that it ships and one that fails.
-fn ndc_answer<R: Threads + Sync, G: Gate>(
+/// What the program answers on these words, with these indexers, which were told nothing.
+fn answer_with<R: Threads + Sync, G: Gate>(
     rt: &R,
     alloc: Global,
     gate: &G,
     faults: Faults,
+    indexers: Vec<Box<dyn Indexer>>,
     words: &[&[u8]],
     input: &[u8],
 ) -> Result<Answer, AllocError>
+    requires new { AllByRecursion (λ one. one.list ≡ []) (map (λ b. shown (title b) (failing b) (list b)) indexers.items) }
     ensures { IfOk result (λ answer. answer.status ≡ 0 → answer.told.items ≡ []) }
 {
     let mut given = Vec::new(alloc);
@@ -109,11 +116,6 @@ fn ndc_answer<R: Threads + Sync, G: Gate>(
     let mut source = MemSource::new(input, failing(alloc, faults.read)?);
     let mut out = MemSink::new(alloc, faults.room as usize, failing(alloc, faults.write)?)?;
     let mut err = MemSink::new(alloc, ROOM as usize, failing(alloc, faults.tell)?)?;
-    let mut indexers: Vec<Box<dyn Indexer>> = Vec::new(alloc);
-    indexers.push(Box::new(alloc, KindsIndexer::new(alloc))?)?;
-    indexers.push(Box::new(alloc, OpenIndexer::new(alloc))?)?;
-    indexers.push(Box::new(alloc, SignalsIndexer::new(alloc))?)?;
-    indexers.push(Box::new(alloc, Faulty::new(alloc, faults.told))?)?;
     let status = ndc_top(
         rt,
         alloc,
@@ -131,6 +133,25 @@ fn ndc_answer<R: Threads + Sync, G: Gate>(
     })
 }
 
+/// What the program answers on these words, with the three indexers that it ships and one that fails.
+fn ndc_answer<R: Threads + Sync, G: Gate>(
+    rt: &R,
+    alloc: Global,
+    gate: &G,
+    faults: Faults,
+    words: &[&[u8]],
+    input: &[u8],
+) -> Result<Answer, AllocError>
+    ensures { IfOk result (λ answer. answer.status ≡ 0 → answer.told.items ≡ []) }
+{
+    let mut indexers: Vec<Box<dyn Indexer>> = Vec::new(alloc);
+    indexers.push(Box::new(alloc, KindsIndexer::new(alloc))?)?;
+    indexers.push(Box::new(alloc, OpenIndexer::new(alloc))?)?;
+    indexers.push(Box::new(alloc, SignalsIndexer::new(alloc))?)?;
+    indexers.push(Box::new(alloc, Faulty::new(alloc, faults.told))?)?;
+    answer_with(rt, alloc, gate, faults, indexers, words, input)
+}
+
 /// What the program answers where something fails that it is given: behind five numbers.
 fn faulty_answer<R: Threads + Sync>(
     rt: &R,
@@ -142,6 +163,45 @@ fn faulty_answer<R: Threads + Sync>(
     match faults_of(numbers) {
         Some(faults) => ndc_answer(rt, alloc, &OpenGate {}, faults, words, input),
         None => refused(alloc, 2, "no such numbers"),
+    }
+}
+
+/// What the program answers where this call of standard output fails, with one indexer, `open`, whose calls are added to
+/// the count.
+fn told_answer<R: Threads + Sync>(
+    rt: &R,
+    alloc: Global,
+    calls: &Arc<AtomicU64, Global>,
+    write: u64,
+    words: &[&[u8]],
+    input: &[u8],
+) -> Result<Answer, AllocError>
+    ensures { IfOk result (λ answer. answer.status ≡ 0 → answer.told.items ≡ []) }
+{
+    let faults = Faults { write, ..NO_FAULTS };
+    let counting = Counting::new(alloc, Arc::try_clone(calls)?);
+    let mut indexers: Vec<Box<dyn Indexer>> = Vec::new(alloc);
+    indexers.push(Box::new(alloc, counting)?)?;
+    answer_with(rt, alloc, &OpenGate {}, faults, indexers, words, input)
+}
+
+/// The same, where the indexer was told so many times; else it is refused.
+fn counted_answer<R: Threads + Sync>(
+    rt: &R,
+    alloc: Global,
+    numbers: [&[u8]; 2],
+    words: &[&[u8]],
+    input: &[u8],
+) -> Result<Answer, AllocError> {
+    let (Some(count), Some(write)) = (number_of(numbers[0]), number_of(numbers[1])) else {
+        return refused(alloc, 2, "no such numbers");
+    };
+    let calls = Arc::new(alloc, AtomicU64::new(0))?;
+    let answer = told_answer(rt, alloc, &calls, write, words, input)?;
+    if calls.load(Ordering::SeqCst) == count {
+        Ok(answer)
+    } else {
+        refused(alloc, 2, "the indexer was not told so many times")
     }
 }
 
@@ -234,6 +294,9 @@ pub fn answer_of<R: Threads + Sync>(
         [word, read, write, tell, told, room, _, rest @ ..] if *word == b"faulty".as_slice() => {
             let numbers = [*read, *write, *tell, *told, *room];
             faulty_answer(rt, alloc, &numbers, rest, input)
+        }
+        [word, count, write, _, rest @ ..] if *word == b"counted".as_slice() => {
+            counted_answer(rt, alloc, [*count, *write], rest, input)
         }
         [word, _, rest @ ..] if *word == b"paired".as_slice() => {
             paired_answer(rt, alloc, rest, input)

@@ -6,10 +6,11 @@
 //!
 //! - `== NAME`: the case's name.
 //! - `$ WORDS`: the call: `ndc` with its words; `faulty READ WRITE TELL TOLD ROOM ndc ..` (the call of the source, of
-//!   both sinks and of the indexer `faulty` that fails, 0 for none, and how many bytes may be printed); `paired ndc ..`
-//!   and `late ndc ..` (the first worker of a round waits for the second, or the second for the first); `script` (a
-//!   script is read and printed), `generated COUNT SEED` (a script is generated and printed), `batch` and `bare` (a batch
-//!   is read and printed, or one without carrier).
+//!   both sinks and of the indexer `faulty` that fails, 0 for none, and how many bytes may be printed); `counted COUNT
+//!   WRITE ndc ..` (the call of standard output that fails, and how many times the one indexer, `open`, is told); `paired
+//!   ndc ..` and `late ndc ..` (the first worker of a round waits for the second, or the second for the first); `script`
+//!   (a script is read and printed), `generated COUNT SEED` (a script is generated and printed), `batch` and `bare` (a
+//!   batch is read and printed, or one without carrier).
 //! - `> TEXT`: a line of input; `>- TEXT`: the last one, without its line end; `>x DIGITS`: bytes in hexadecimal;
 //!   `>* COUNT TEXT`: a line so many times.
 //! - `< TEXT`: a line of output; `<- TEXT`: without its line end.
@@ -19,6 +20,7 @@
 
 mod answer;
 mod case;
+mod counting;
 mod faulty;
 mod gate;
 mod line;

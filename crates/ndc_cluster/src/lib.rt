@@ -1,6 +1,6 @@
-//! Clusters with the queues of what their cells have written.
+//! Clusters: domain records, and cells that do jobs in rounds.
 #![tactic(auto)]
 
-mod site;
+mod cluster;
 
-pub use site::Site;
+pub use cluster::Cluster;

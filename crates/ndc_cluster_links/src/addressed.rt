@@ -1,25 +1,14 @@
-ghost use Rattle.std.specs.Prelude.{◌≡◌, ◌≤◌, length, IfOk, Some};
+ghost use Rattle.std.specs.Prelude.{◌≡◌, ◌≤◌, length, IfOk};
 ghost use Rattle.std.specs.List.{filter, prefix_len};
 ghost use Rattle.ndc_model_cells.specs.Cells.{is_learned_in, is_message_learned};
 ghost use Rattle.ndc_domain.specs.Records.{record_of};
 ghost use Rattle.ndc_model.specs.Queues.{is_addressed, names_cluster, needs_nothing};
 
-use ndc_cluster_rounds::Works;
+use ndc_cluster_rounds::Cell;
 use ndc_domain::{ClusterNo, DomainTable};
-use ndc_event::{Batch, BatchKey, Name};
+use ndc_event::{Batch, Name};
 use ndc_model_cells::Message;
 use std::alloc::{AllocError, Global};
-
-/// Something that does the jobs of a cell, and tells which batches it has learned.
-pub trait Learns: Works {
-    ghost use Rattle.std.specs.Prelude.{◌≡◌, Some};
-    ghost use Rattle.ndc_model_cells.specs.Cells.{learned_of};
-    ghost use Rattle.ndc_model_sets.specs.Learned.{has_key};
-
-    /// Whether it has learned the batch of this key of a workflow. Takes no memory.
-    fn has_learned(&self, domain: &Name, workflow: &Name, key: BatchKey) -> bool
-        ensures { result ≡ has_key (Some key) (learned_of domain.now workflow.now (Self.cell self.now)) };
-}
 
 /// Whether the record of a domain names a cluster.
 pub fn is_named(table: &DomainTable, domain: &Name, reader: ClusterNo) -> bool
@@ -57,14 +46,14 @@ pub(crate) fn addressed(
 }
 
 /// Whether a cell has learned a batch.
-fn is_learned<C: Learns>(cell: &C, batch: &Batch) -> bool
+fn is_learned<C: Cell>(cell: &C, batch: &Batch) -> bool
     ensures { result ≡ is_learned_in (C.cell cell.now) batch.now }
 {
     cell.has_learned(&batch.domain, &batch.workflow, batch.key)
 }
 
 /// Whether a cell has learned the batch of a message and the one that it carries.
-fn is_message_learned<C: Learns>(cell: &C, sent: &Message) -> bool
+fn is_message_learned<C: Cell>(cell: &C, sent: &Message) -> bool
     ensures { result ≡ is_message_learned (C.cell cell.now) sent.now }
 {
     if !is_learned(cell, &sent.batch) {
@@ -77,7 +66,7 @@ fn is_message_learned<C: Learns>(cell: &C, sent: &Message) -> bool
 }
 
 /// Whether nothing is to be done for a message: the reader's cell has learned it, or it is not addressed to the reader.
-fn needs_nothing<C: Learns>(
+fn needs_nothing<C: Cell>(
     table: &DomainTable,
     reader: ClusterNo,
     cell: &C,
@@ -89,7 +78,7 @@ fn needs_nothing<C: Learns>(
 }
 
 /// How many of the first entries there are for which nothing is to be done.
-pub(crate) fn settled_front<C: Learns>(
+pub(crate) fn settled_front<C: Cell>(
     table: &DomainTable,
     reader: ClusterNo,
     cell: &C,

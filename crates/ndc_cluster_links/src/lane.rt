@@ -6,7 +6,8 @@ ghost use Rattle.ndc_cluster_links.specs.Rest.{IsRestOf};
 ghost use Rattle.ndc_queue.specs.Lists.{entries_from};
 ghost use Rattle.ndc_queue.specs.Queues.{queue_len};
 
-use crate::addressed::{Learns, addressed, settled_front};
+use crate::addressed::{addressed, settled_front};
+use ndc_cluster_rounds::Cell;
 use ndc_domain::{ClusterNo, DomainTable};
 use ndc_model_cells::Message;
 use ndc_queue::{Flight, FlightError, Levels, NoSuchPlace, Queue};
@@ -50,7 +51,7 @@ fn entries_of(queue: &Queue, level: u64, count: Option<u64>) -> &[Message]
 
 /// How many of a queue's entries from a level on there are for which nothing is to be done. Where the level is its end, no
 /// entry is looked at.
-fn settled_from<C: Learns>(
+fn settled_from<C: Cell>(
     table: &DomainTable,
     reader: ClusterNo,
     cell: &C,
@@ -136,7 +137,7 @@ impl Lane {
     /// Raises `done` over the entries that the reader's cell has learned or that are not addressed to the reader, up to
     /// the first other one, and `read` where it would be below. What is kept of the queue reaches from `done` or before
     /// it to its end. Answers how far `done` is then. Takes no memory.
-    pub fn renew<C: Learns>(
+    pub fn renew<C: Cell>(
         &mut self,
         table: &DomainTable,
         reader: ClusterNo,

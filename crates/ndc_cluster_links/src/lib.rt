@@ -5,12 +5,8 @@ mod addressed;
 mod lane;
 mod link;
 mod queues;
-mod serves;
-mod writes;
 
-pub use addressed::{Learns, is_addressed, is_named};
+pub use addressed::{is_addressed, is_named};
 pub use lane::Lane;
 pub use link::Link;
 pub use queues::Queues;
-pub use serves::Serves;
-pub use writes::Writes;

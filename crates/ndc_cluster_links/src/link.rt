@@ -8,9 +8,10 @@ ghost use Rattle.ndc_model.specs.Moves.{map_from, without_flight};
 ghost use Rattle.ndc_model.specs.Queues.{after_pull, after_renewal, after_rewind, put_in_flight};
 ghost use Rattle.ndc_model.specs.World.{newly_naming};
 
-use crate::addressed::{Learns, is_named};
+use crate::addressed::is_named;
 use crate::lane::Lane;
 use crate::queues::Queues;
+use ndc_cluster_rounds::Cell;
 use ndc_domain::{ClusterNo, DomainRecord, DomainTable};
 use ndc_event::Name;
 use ndc_queue::{FlightError, Message, NoSuchPlace, Queue};
@@ -69,7 +70,7 @@ fn pull_lanes(
 }
 
 /// Renews the levels for each shard, and answers how many entries are done then, over all of them.
-fn renew_lanes<C: Learns>(
+fn renew_lanes<C: Cell>(
     lanes: &mut Vec<Lane>,
     table: &DomainTable,
     reader: ClusterNo,
@@ -144,7 +145,7 @@ fn are_quiet(lanes: &[Lane]) -> bool
 
 impl Link {
     ghost use Rattle.std.specs.List.{filter};
-    ghost use Rattle.std.specs.Prelude.{◌≡◌, ◌≢◌, ◌<◌, ◌≤◌, ◌++◌, ℕ, [], List, None, Some, Err, drop, length, map, replicate, slice_get, slice_set, sum, IsTrue, MatchResult, IfOk, IfErr, OnOk, OnErr};
+    ghost use Rattle.std.specs.Prelude.{◌≡◌, ◌≢◌, ◌<◌, ◌≤◌, ◌++◌, ◌∷◌, ℕ, [], List, None, Some, Err, drop, length, map, replicate, slice_get, slice_set, sum, IsTrue, MatchResult, IfOk, IfErr, OnOk, OnErr};
     ghost use Rattle.std.specs.Option.{option_copied};
     ghost use Rattle.ndc_model_cells.specs.Jobs.{cell_for};
     ghost use Rattle.ndc_model_cells.specs.declared.message.Message.{Message as Sent};
@@ -305,7 +306,7 @@ impl Link {
     /// Renews the levels of each shard, by what the reader's cells have learned. There is a cell and a queue for each
     /// shard, and what is kept of the queue reaches from the lane's `done` or before it to its end. Where all entries are
     /// done, none is looked at. Takes no memory.
-    pub fn renew<C: Learns>(&mut self, table: &DomainTable, cells: &[C], queues: &Queues)
+    pub fn renew<C: Cell>(&mut self, table: &DomainTable, cells: &[C], queues: &Queues)
         requires cells { length cells.now ≡ length self.old.lanes }
         requires alike { length queues.now ≡ length self.old.lanes }
         requires within { AreWithin queues.now self.old.lanes }
@@ -414,6 +415,16 @@ impl Link {
     {
         let mut names = newly_naming(alloc, self.reader, before.records(), after)?;
         self.late.append(&mut names)?;
+        Ok(())
+    }
+
+    /// One domain more goes last among those of which the reader is a member late. Where memory runs out, the link stays as it
+    /// was.
+    pub fn add_late(&mut self, domain: Name) -> Result<(), AllocError>
+        ensures added { OnOk result (self.new ≡ record self.old { late = self.old.late ++ domain ∷ [] }) }
+        ensures unchanged { OnErr result (self.new ≡ self.old) }
+    {
+        self.late.push(domain)?;
         Ok(())
     }
 

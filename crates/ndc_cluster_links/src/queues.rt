@@ -4,7 +4,7 @@ ghost use Rattle.ndc_model_cells.specs.Jobs.{cell_for};
 ghost use Rattle.ndc_cluster_links.specs.Rest.{AreFronts, AreRests, IsFrontOf, IsRestOf};
 ghost use Rattle.ndc_queue.specs.Queues.{queue_len};
 
-use crate::writes::Writes;
+use ndc_cluster_rounds::Cell;
 use ndc_queue::Queue;
 use std::alloc::{AllocError, Global};
 use std::marker::Model;
@@ -32,7 +32,7 @@ impl Model for Queues {
 }
 
 /// Puts the messages last that a cell has written behind those of its queue, and answers how long the queue is then.
-fn extend<C: Writes>(queue: &mut Queue, cell: &C) -> Result<u64, AllocError>
+fn extend<C: Cell>(queue: &mut Queue, cell: &C) -> Result<u64, AllocError>
     requires { IsFrontOf queue.old (C.cell cell.now).written }
     ensures rest { OnOk result (IsRestOf queue.new (C.cell cell.now).written) }
     ensures first { queue.new.first ≡ queue.old.first }
@@ -47,7 +47,7 @@ fn extend<C: Writes>(queue: &mut Queue, cell: &C) -> Result<u64, AllocError>
 }
 
 /// The same for each shard. Answers how long the queues are then, all together.
-fn extend_all<C: Writes>(queues: &mut Vec<Queue>, cells: &[C]) -> Result<u64, AllocError>
+fn extend_all<C: Cell>(queues: &mut Vec<Queue>, cells: &[C]) -> Result<u64, AllocError>
     requires few { length queues.old.items ≤ 64 }
     requires alike { length cells.now ≡ length queues.old.items }
     requires fronts { AreFronts queues.old.items (λ shard. (cell_for shard (map C.cell cells.now)).written) }
@@ -121,7 +121,7 @@ impl Queues {
 
     /// Puts the messages last in each queue that the cell of its shard has written behind those that are there. Where
     /// memory runs out, there are no queues afterwards.
-    pub fn extend<C: Writes>(&mut self, cells: &[C]) -> Result<(), AllocError>
+    pub fn extend<C: Cell>(&mut self, cells: &[C]) -> Result<(), AllocError>
         requires alike { length cells.now ≡ length self.old }
         requires fronts { AreFronts self.old (λ shard. (cell_for shard (map C.cell cells.now)).written) }
         ensures rests { OnOk result (AreRests self.new (λ shard. (cell_for shard (map C.cell cells.now)).written)) }

@@ -1,4 +1,4 @@
-use ndc_cluster_links::Serves;
+use ndc_cluster_rounds::Cell;
 use ndc_event::{BatchKey, Name};
 use ndc_model_cells::{Message, Place};
 use ndc_shard_runs::Runs;
@@ -16,7 +16,7 @@ pub struct Lacking {
 
 /// Something that does the jobs of a cell, gives messages of what it has learned and written, and tells what has arrived and
 /// what is put off.
-pub trait Reads: Serves {
+pub trait Reads: Cell {
     ghost use Rattle.std.specs.Prelude.{◌≡◌, [], is_some, map, IfSome, IfNone, IfOk};
     ghost use Rattle.ndc_model_cells.specs.Cells.{learned_of, message_at, put_off_in};
     ghost use Rattle.ndc_model_cells.specs.Jobs.{workflows_of};

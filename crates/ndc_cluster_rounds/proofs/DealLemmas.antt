@@ -11,7 +11,7 @@ use Rattle.ndc_model_cells.specs.declared.job.JobReply.{JobReply}
 use Rattle.ndc_model_cells.specs.declared.job.ShardJob.{ShardJob}
 use Rattle.ndc_model_cells.specs.Cells.{Cell, empty_cell}
 use Rattle.ndc_model_cells.specs.Jobs.{after_job, cell_for, cells_after, cells_behind, replies_to, reply_to}
-use Rattle.ndc_model_cells.specs.Writing.{Home}
+use Rattle.ndc_model_cells.specs.Writing.{Desk}
 use Rattle.ndc_model_cells.specs.Conditions.{AreAllowed, Condition}
 use Rattle.ndc_cluster_rounds.specs.Rounds.{SlotMay, SlotValue, cell_replies, dealt, fresh_slot, jobs_of, slot_done, slot_of, taken, with_job}
 use Rattle.ndc_cluster_rounds.proofs.ShardLemmas.{allowed-by-itself, behind-other, behind-own, cell_by_itself, cells-many}
@@ -63,7 +63,7 @@ all-by-place : {X : Type 0} (P : X → Type 0) (xs : List X) (d : X) → ((i : �
 all-by-place P [] d at = tt
 all-by-place P (x ∷ xs) d at = (at 0 (omega arith), all-by-place P xs d (λ i below. at (suc i) (omega (arith, below))))
 
-module _ (home : Home) (jobs : List ShardJob) (cells : List Cell) where
+module _ (home : Desk) (jobs : List ShardJob) (cells : List Cell) where
   -- the slots of fresh cells, with their jobs
   abbrev pub slots-dealt : List SlotValue
   slots-dealt = dealt jobs (map fresh_slot cells)
@@ -107,7 +107,7 @@ module _ (home : Home) (jobs : List ShardJob) (cells : List Cell) where
       subst (SlotMay allows home) (sym (slot-there shard below)) (allowed-by-itself allows home jobs cells shard below may))
 
 -- the next reply of each shard is that of the next job
-taken-each : (home : Home) (jobs : List ShardJob) (cells : List Cell) (replies : List (List JobReply)) → AreBelow (length cells) jobs → length replies ≡ length cells
+taken-each : (home : Desk) (jobs : List ShardJob) (cells : List Cell) (replies : List (List JobReply)) → AreBelow (length cells) jobs → length replies ≡ length cells
     → ((shard : ℕ) → shard < length cells → get_or replies shard [] ≡ cell_replies home (jobs_of shard jobs) (cell_for shard cells)) → taken jobs replies ≡ Some (replies_to home jobs cells)
 unfolding replies_to
 taken-each home [] cells replies below many each = refl
@@ -151,7 +151,7 @@ taken-each home (asked ∷ jobs) cells replies below many each =
             ∙ ap (cell_replies home (jobs_of shard jobs)) (sym (behind-other home asked cells shard other))
 
 -- the replies of slots behind their jobs, in order of the jobs, are those of the jobs done one after the other
-pub replies_dealt : (home : Home) (jobs : List ShardJob) (cells : List Cell) → AreBelow (length cells) jobs
+pub replies_dealt : (home : Desk) (jobs : List ShardJob) (cells : List Cell) → AreBelow (length cells) jobs
     → taken jobs (map (λ (s : SlotValue). s.replies) (map (slot_done home) (dealt jobs (map fresh_slot cells)))) ≡ Some (replies_to home jobs cells)
 replies_dealt home jobs cells below = taken-each home jobs cells _ below many each
   where

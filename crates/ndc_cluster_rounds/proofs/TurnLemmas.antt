@@ -7,38 +7,38 @@ use Rattle.ndc_model_cells.specs.declared.job.ShardJob.{ShardJob}
 use Rattle.ndc_model_cells.specs.Cells.{Cell, empty_cell}
 use Rattle.ndc_model_cells.specs.Conditions.{AreAllowed, Condition}
 use Rattle.ndc_model_cells.specs.Jobs.{after_job, cell_for, cells_after, cells_behind, replies_to, reply_to}
-use Rattle.ndc_model_cells.specs.Writing.{Home}
+use Rattle.ndc_model_cells.specs.Writing.{Desk}
 
 -- jobs of which some are done: the others may be, and lead where all lead
-pub record InTurn {X : Type 0} (allows : Condition) (view : X → Cell) (home : Home) (jobs left : List ShardJob) (before now : List X) (replies : List JobReply) : Type 0 where
+pub record InTurn {X : Type 0} (allows : Condition) (view : X → Cell) (home : Desk) (jobs left : List ShardJob) (before now : List X) (replies : List JobReply) : Type 0 where
   pub many : length now ≡ length before
   pub may : AreAllowed allows home left (map view now)
   pub cells : cells_after home left (map view now) ≡ cells_after home jobs (map view before)
   pub replied : replies ++ replies_to home left (map view now) ≡ replies_to home jobs (map view before)
 
 -- in the beginning none is done
-pub none_done : {X : Type 0} (allows : Condition) (view : X → Cell) (home : Home) (jobs : List ShardJob) (before : List X) (replies : List JobReply) → replies ≡ []
+pub none_done : {X : Type 0} (allows : Condition) (view : X → Cell) (home : Desk) (jobs : List ShardJob) (before : List X) (replies : List JobReply) → replies ≡ []
     → AreAllowed allows home jobs (map view before) → InTurn allows view home jobs (drop 0 jobs) before before replies
 none_done allows view home jobs before replies none may =
     record { many = refl; may = may; cells = refl; replied = ap (λ rs. rs ++ replies_to home jobs (map view before)) none }
 
 -- what a first job leaves, and what is replied to it
-cells_next : (home : Home) (asked : ShardJob) (left : List ShardJob) (cells : List Cell) → cells_after home (asked ∷ left) cells ≡ cells_after home left (cells_behind home asked cells)
+cells_next : (home : Desk) (asked : ShardJob) (left : List ShardJob) (cells : List Cell) → cells_after home (asked ∷ left) cells ≡ cells_after home left (cells_behind home asked cells)
 unfolding cells_after
 cells_next home asked left cells = refl
 
-replies_next : (home : Home) (asked : ShardJob) (left : List ShardJob) (cells : List Cell)
+replies_next : (home : Desk) (asked : ShardJob) (left : List ShardJob) (cells : List Cell)
     → replies_to home (asked ∷ left) cells ≡ reply_to home asked.job (cell_for asked.shard cells) ∷ replies_to home left (cells_behind home asked cells)
 unfolding replies_to
 replies_next home asked left cells = refl
 
 -- behind all jobs
-pub cells_end : {X : Type 0} (allows : Condition) (view : X → Cell) (home : Home) (jobs : List ShardJob) (i : ℕ) (before now : List X) (replies : List JobReply) → drop i jobs ≡ [] → InTurn allows view home jobs (drop i jobs) before now replies
+pub cells_end : {X : Type 0} (allows : Condition) (view : X → Cell) (home : Desk) (jobs : List ShardJob) (i : ℕ) (before now : List X) (replies : List JobReply) → drop i jobs ≡ [] → InTurn allows view home jobs (drop i jobs) before now replies
     → map view now ≡ cells_after home jobs (map view before)
 unfolding cells_after
 cells_end allows view home jobs i before now replies none done = sym (ap (λ left. cells_after home left (map view now)) none) ∙ done.cells
 
-pub replies_end : {X : Type 0} (allows : Condition) (view : X → Cell) (home : Home) (jobs : List ShardJob) (i : ℕ) (before now : List X) (replies : List JobReply) → drop i jobs ≡ [] → InTurn allows view home jobs (drop i jobs) before now replies
+pub replies_end : {X : Type 0} (allows : Condition) (view : X → Cell) (home : Desk) (jobs : List ShardJob) (i : ℕ) (before now : List X) (replies : List JobReply) → drop i jobs ≡ [] → InTurn allows view home jobs (drop i jobs) before now replies
     → replies ≡ replies_to home jobs (map view before)
 unfolding replies_to
 replies_end allows view home jobs i before now replies none done = sym (append-nil replies) ∙ sym (ap (λ left. replies ++ replies_to home left (map view now)) none) ∙ done.replied
@@ -48,14 +48,14 @@ pub cell_there : {X : Type 0} (view : X → Cell) (cells : List X) (shard : ℕ)
 cell_there view cells shard one inside is = get_or-map view cells shard one empty_cell inside ∙ ap view (sym is)
 
 -- the next job may be done
-pub next_may : {X : Type 0} (allows : Condition) (view : X → Cell) (home : Home) (jobs : List ShardJob) (i : ℕ) (asked : ShardJob) (before now : List X) (replies : List JobReply) (one : X) → i < length jobs → asked ≡ get_or jobs i asked
+pub next_may : {X : Type 0} (allows : Condition) (view : X → Cell) (home : Desk) (jobs : List ShardJob) (i : ℕ) (asked : ShardJob) (before now : List X) (replies : List JobReply) (one : X) → i < length jobs → asked ≡ get_or jobs i asked
     → asked.shard < length now → one ≡ get_or now asked.shard one → InTurn allows view home jobs (drop i jobs) before now replies → allows home asked.job (view one)
 next_may allows view home jobs i asked before now replies one below at inside is done =
     let front : AreAllowed allows home (asked ∷ drop (i + 1) jobs) (map view now) = subst (λ left. AreAllowed allows home left (map view now)) (drop-next jobs i asked below at) done.may in
     subst (allows home asked.job) (cell_there view now asked.shard one inside is) front.0
 
 -- one job more is done
-pub next_done : {X : Type 0} (allows : Condition) (view : X → Cell) (home : Home) (jobs : List ShardJob) (i : ℕ) (asked : ShardJob) (before now : List X) (replies more : List JobReply) (one new : X) (reply : JobReply) → i < length jobs → asked ≡ get_or jobs i asked
+pub next_done : {X : Type 0} (allows : Condition) (view : X → Cell) (home : Desk) (jobs : List ShardJob) (i : ℕ) (asked : ShardJob) (before now : List X) (replies more : List JobReply) (one new : X) (reply : JobReply) → i < length jobs → asked ≡ get_or jobs i asked
     → asked.shard < length now → one ≡ get_or now asked.shard one → view new ≡ after_job home asked.job (view one) → reply ≡ reply_to home asked.job (view one) → more ≡ replies ++ reply ∷ []
     → length (set now asked.shard new) ≡ length now
     → InTurn allows view home jobs (drop i jobs) before now replies → InTurn allows view home jobs (drop (i + 1) jobs) before (set now asked.shard new) more

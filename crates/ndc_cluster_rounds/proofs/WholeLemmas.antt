@@ -6,7 +6,7 @@ use Rattle.std.proofs.lemmas.List.{length-map, map-append}
 use Rattle.ndc_model_cells.specs.declared.job.ShardJob.{ShardJob}
 use Rattle.ndc_model_cells.specs.Cells.{Cell}
 use Rattle.ndc_model_cells.specs.Jobs.{cells_after, replies_to}
-use Rattle.ndc_model_cells.specs.Writing.{Home}
+use Rattle.ndc_model_cells.specs.Writing.{Desk}
 use Rattle.ndc_cluster_rounds.specs.Each.{Each}
 use Rattle.ndc_model_cells.specs.Conditions.{Condition}
 use Rattle.ndc_cluster_rounds.specs.Rounds.{SlotMay, SlotValue, dealt, fresh_slot, joined, slot_done, taken}
@@ -27,7 +27,7 @@ all-parts Q [] ys all = (tt, all)
 all-parts Q (x ∷ xs) ys all = let rest = all-parts Q xs ys all.1 in ((all.0, rest.0), rest.1)
 
 -- where all slots may do their jobs, each piece is ready
-pub ready_all : {P : Type 0} (held : P → List SlotValue) (desk : P → Home) (home : Home) (allows : Condition) (ps : List P) → AllByRecursion (SlotMay allows home) (joined (map held ps)) → AllByRecursion (λ p. desk p ≡ home) ps
+pub ready_all : {P : Type 0} (held : P → List SlotValue) (desk : P → Desk) (home : Desk) (allows : Condition) (ps : List P) → AllByRecursion (SlotMay allows home) (joined (map held ps)) → AllByRecursion (λ p. desk p ≡ home) ps
     → AllByRecursion (λ p. AllByRecursion (SlotMay allows (desk p)) (held p)) ps
 ready_all held desk home allows [] all desks = tt
 ready_all held desk home allows (p ∷ ps) all desks =
@@ -35,7 +35,7 @@ ready_all held desk home allows (p ∷ ps) all desks =
     (subst (λ h. AllByRecursion (SlotMay allows h) (held p)) (sym desks.0) parts.1, ready_all held desk home allows ps parts.0 desks.1)
 
 -- where all pieces were worked and none is spent, their slots are done
-pub worked_joined : {P : Type 0} (held : P → List SlotValue) (desk : P → Home) (spent : P → Bool) (home : Home) (ps qs : List P) → Each (λ p q. spent q ≡ false → held q ≡ map (slot_done (desk p)) (held p)) ps qs
+pub worked_joined : {P : Type 0} (held : P → List SlotValue) (desk : P → Desk) (spent : P → Bool) (home : Desk) (ps qs : List P) → Each (λ p q. spent q ≡ false → held q ≡ map (slot_done (desk p)) (held p)) ps qs
     → AllByRecursion (λ p. desk p ≡ home) ps → AllByRecursion (λ q. spent q ≡ false) qs → joined (map held qs) ≡ map (slot_done home) (joined (map held ps))
 worked_joined held desk spent home [] [] worked desks whole = refl
 worked_joined held desk spent home [] (q ∷ qs) worked desks whole = absurd worked
@@ -46,14 +46,14 @@ worked_joined held desk spent home (p ∷ ps) (q ∷ qs) worked desks whole =
     ∙ sym (map-append (slot_done home) (joined (map held ps)) (held p))
 
 -- the slots of pieces that were cut, worked and joined are those that were dealt, done
-pub whole_done : {P X : Type 0} (view : X → SlotValue) (held : P → List SlotValue) (desk : P → Home) (spent : P → Bool) (home : Home) (before lent after : List P) (dealt_slots : List SlotValue) (slots : List X)
+pub whole_done : {P X : Type 0} (view : X → SlotValue) (held : P → List SlotValue) (desk : P → Desk) (spent : P → Bool) (home : Desk) (before lent after : List P) (dealt_slots : List SlotValue) (slots : List X)
     → joined (map held before) ≡ dealt_slots → lent ≡ before → AllByRecursion (λ p. desk p ≡ home) before → Each (λ p q. spent q ≡ false → held q ≡ map (slot_done (desk p)) (held p)) lent after
     → AllByRecursion (λ q. spent q ≡ false) after → map view slots ≡ joined (map held after) → map view slots ≡ map (slot_done home) dealt_slots
 whole_done view held desk spent home before lent after dealt_slots slots cut same desks worked whole seen =
     seen ∙ worked_joined held desk spent home before after (subst (λ ps. Each (λ p q. spent q ≡ false → held q ≡ map (slot_done (desk p)) (held p)) ps after) same worked) desks whole ∙ ap (map (slot_done home)) cut
 
 -- what comes of slots that are done
-module _ {X : Type 0} (view : X → SlotValue) (home : Home) (jobs : List ShardJob) (cells : List Cell) (slots : List X) (done : map view slots ≡ map (slot_done home) (dealt jobs (map fresh_slot cells))) where
+module _ {X : Type 0} (view : X → SlotValue) (home : Desk) (jobs : List ShardJob) (cells : List Cell) (slots : List X) (done : map view slots ≡ map (slot_done home) (dealt jobs (map fresh_slot cells))) where
   -- as many slots as cells
   pub slots_many : length slots ≡ length cells
   slots_many =

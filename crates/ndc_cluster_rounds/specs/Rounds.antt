@@ -7,7 +7,7 @@ use Rattle.ndc_model_cells.specs.declared.job.JobReply.{JobReply}
 use Rattle.ndc_model_cells.specs.declared.job.ShardJob.{ShardJob}
 use Rattle.ndc_model_cells.specs.Cells.{Cell, empty_cell}
 use Rattle.ndc_model_cells.specs.Jobs.{after_job, reply_to}
-use Rattle.ndc_model_cells.specs.Writing.{Home}
+use Rattle.ndc_model_cells.specs.Writing.{Desk}
 use Rattle.ndc_model_cells.specs.Conditions.{Condition, MayDo}
 
 -- the jobs of a shard, in order
@@ -16,11 +16,11 @@ jobs_of shard [] = []
 jobs_of shard (asked ∷ jobs) = if asked.shard == shard then asked.job ∷ jobs_of shard jobs else jobs_of shard jobs
 
 -- a cell behind jobs of its own
-abbrev pub cell_after : Home → List Job → Cell → Cell
+abbrev pub cell_after : Desk → List Job → Cell → Cell
 cell_after home jobs cell = fold (λ before asked. after_job home asked before) cell jobs
 
 -- what a cell replies to jobs of its own
-abbrev pub cell_replies : Home → List Job → Cell → List JobReply
+abbrev pub cell_replies : Desk → List Job → Cell → List JobReply
 cell_replies home [] cell = []
 cell_replies home (asked ∷ jobs) cell = reply_to home asked cell ∷ cell_replies home jobs (after_job home asked cell)
 
@@ -35,11 +35,11 @@ abbrev pub slot_of : Cell → List Job → List JobReply → SlotValue
 slot_of cell jobs replies = record { cell = cell; jobs = jobs; replies = replies }
 
 -- a slot whose jobs were done
-abbrev pub slot_done : Home → SlotValue → SlotValue
+abbrev pub slot_done : Desk → SlotValue → SlotValue
 slot_done home slot = slot_of (cell_after home slot.jobs slot.cell) slot.jobs (slot.replies ++ cell_replies home slot.jobs slot.cell)
 
 -- a slot may do its jobs
-abbrev pub SlotMay : Condition → Home → SlotValue → Type 0
+abbrev pub SlotMay : Condition → Desk → SlotValue → Type 0
 SlotMay allows home slot = MayDo allows home slot.jobs slot.cell
 
 -- a cell that has nothing to do

@@ -3,7 +3,8 @@ ghost use Rattle.std.specs.List.{AllByRecursion};
 ghost use Rattle.ndc_model_cells.specs.Conditions.{AreAllowed};
 ghost use Rattle.ndc_model_cells.specs.Jobs.{cells_after, replies_to};
 
-use crate::piece::{Desk, Works};
+use crate::cell::Cell;
+use crate::home::Desk;
 use ndc_model_cells::{JobReply, ShardJob};
 use ndc_port::Gate;
 use std::alloc::{AllocError, Global};
@@ -16,7 +17,7 @@ pub(crate) fn enter_all<G: Gate>(gate: &G, workers: u32) {
 }
 
 /// Does the jobs one after the other, on the cells where they stand.
-pub(crate) fn do_in_turn<C: Works + Drop>(
+pub(crate) fn do_in_turn<C: Cell + Drop>(
     alloc: Global,
     desk: &Desk,
     cells: &mut Vec<C>,

@@ -1,12 +1,15 @@
 //! Rounds: jobs that the cells of a cluster do side by side, with the same outcome as one after the other.
 #![tactic(auto)]
 
+mod cell;
 mod halves;
+mod home;
 mod in_turn;
 mod piece;
 pub mod round_laws;
 mod rounds;
 
+pub use cell::Cell;
 pub use halves::{Work, work_all};
-pub use piece::{Desk, Works};
+pub use home::{Desk, Home};
 pub use rounds::{Rounded, round};

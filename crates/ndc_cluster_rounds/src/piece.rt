@@ -1,99 +1,14 @@
-ghost use Rattle.std.specs.Prelude.{◌≡◌, map, IfOk, OnOk};
+ghost use Rattle.std.specs.Prelude.{◌≡◌, map, OnOk};
 ghost use Rattle.std.specs.List.{AllByRecursion};
-ghost use Rattle.ndc_model_cells.specs.Cells.{Cell};
-ghost use Rattle.ndc_model_cells.specs.Jobs.{after_job, reply_to};
-ghost use Rattle.ndc_model_cells.specs.Writing.{Home};
-ghost use Rattle.ndc_model_cells.specs.declared.job.Job.{Job as Asked};
 ghost use Rattle.ndc_cluster_rounds.specs.Rounds.{SlotMay, slot_done, slot_of};
 
+use crate::cell::Cell;
 use crate::halves::Work;
-use ndc_domain::{ClusterNo, Clusters, DomainTable};
+use crate::home::Desk;
 use ndc_model_cells::{Job, JobReply};
 use ndc_port::Gate;
 use std::alloc::AllocError;
 use std::collections::VecDeque;
-use std::marker::Model;
-
-/// Where the cells of a cluster stand while they do jobs: the clusters, which of them it is, the limit of histories,
-/// and its domain records. Seen as the home of the cells.
-#[derive(Drop)]
-pub struct Desk<'a> {
-    clusters: &'a Clusters,
-    me: ClusterNo,
-    limit: u64,
-    table: &'a DomainTable,
-}
-
-impl<'a> Model for Desk<'a> {
-    ghost use Rattle.ndc_model_cells.specs.Writing.{Home};
-
-    ghost Value = { Home };
-
-    ghost view = { λ desk. record { clusters = desk.clusters.now; me = desk.me; limit = desk.limit; table = desk.table.now } };
-}
-
-impl<'a> Desk<'a> {
-    ghost use Rattle.std.specs.Prelude.{◌≡◌};
-
-    /// The place of a cluster's cells.
-    pub fn new(
-        clusters: &'a Clusters,
-        me: ClusterNo,
-        limit: u64,
-        table: &'a DomainTable,
-    ) -> Desk<'a>
-        ensures { result ≡ record { clusters = clusters.now; me = me; limit = limit; table = table.now } }
-    {
-        Desk {
-            clusters,
-            me,
-            limit,
-            table,
-        }
-    }
-
-    /// The clusters.
-    pub fn clusters(&self) -> &Clusters
-        ensures { result.now ≡ self.now.clusters }
-    {
-        self.clusters
-    }
-
-    /// Which of them it is.
-    pub fn me(&self) -> ClusterNo
-        ensures { result ≡ self.now.me }
-    {
-        self.me
-    }
-
-    /// The limit of histories.
-    pub fn limit(&self) -> u64
-        ensures { result ≡ self.now.limit }
-    {
-        self.limit
-    }
-
-    /// Its domain records.
-    pub fn table(&self) -> &DomainTable
-        ensures { result.now ≡ self.now.table }
-    {
-        self.table
-    }
-}
-
-/// Something that does the jobs of a cell, one after the other.
-pub trait Works {
-    ghost cell: { Self → Cell };
-
-    ghost allows: { Home → Asked → Cell → Type 0 };
-
-    /// Does a job: the cell is then the one behind it, and the reply is that of the cell. After want of memory no more
-    /// is said of it.
-    fn do_job(&mut self, desk: &Desk, job: &Job) -> Result<JobReply, AllocError>
-        requires { allows desk.now job.now (cell self.old) }
-        ensures done { OnOk result (cell self.new ≡ after_job desk.now job.now (cell self.old)) }
-        ensures reply { IfOk result (λ reply. reply ≡ reply_to desk.now job.now (cell self.old)) };
-}
 
 /// A cell with the jobs that it is to do, and what it replied.
 #[derive(Drop)]
@@ -104,7 +19,7 @@ pub(crate) struct Slot<'a, C: Drop> {
 }
 
 /// Does the jobs of a slot, in order.
-fn do_jobs<C: Works + Drop>(slot: &mut Slot<C>, desk: &Desk) -> Result<(), AllocError>
+fn do_jobs<C: Cell + Drop>(slot: &mut Slot<C>, desk: &Desk) -> Result<(), AllocError>
     requires { SlotMay C.allows desk.now (slot_of (C.cell slot.old.cell) (map (λ job. job.now) slot.old.jobs.items) slot.old.replies.items) }
     ensures { OnOk result (slot_of (C.cell slot.new.cell) (map (λ job. job.now) slot.new.jobs.items) slot.new.replies.items
         ≡ slot_done desk.now (slot_of (C.cell slot.old.cell) (map (λ job. job.now) slot.old.jobs.items) slot.old.replies.items)) }
@@ -118,7 +33,7 @@ fn do_jobs<C: Works + Drop>(slot: &mut Slot<C>, desk: &Desk) -> Result<(), Alloc
 }
 
 /// Does the jobs of each slot.
-fn do_all<C: Works + Drop>(slots: &mut Vec<Slot<C>>, desk: &Desk) -> Result<(), AllocError>
+fn do_all<C: Cell + Drop>(slots: &mut Vec<Slot<C>>, desk: &Desk) -> Result<(), AllocError>
     requires { AllByRecursion (SlotMay C.allows desk.now) (map (λ slot. slot_of (C.cell slot.cell) (map (λ job. job.now) slot.jobs.items) slot.replies.items) slots.old.items) }
     ensures { OnOk result (map (λ slot. slot_of (C.cell slot.cell) (map (λ job. job.now) slot.jobs.items) slot.replies.items) slots.new.items
         ≡ map (slot_done desk.now) (map (λ slot. slot_of (C.cell slot.cell) (map (λ job. job.now) slot.jobs.items) slot.replies.items) slots.old.items)) }
@@ -131,7 +46,7 @@ fn do_all<C: Works + Drop>(slots: &mut Vec<Slot<C>>, desk: &Desk) -> Result<(), 
 
 /// Neighbouring cells that one worker holds during a round, with their jobs.
 #[derive(Drop)]
-pub(crate) struct Piece<'a, G: Gate, C: Works + Drop> {
+pub(crate) struct Piece<'a, G: Gate, C: Cell + Drop> {
     pub(crate) number: u32,
     pub(crate) gate: &'a G,
     pub(crate) desk: &'a Desk<'a>,
@@ -139,7 +54,7 @@ pub(crate) struct Piece<'a, G: Gate, C: Works + Drop> {
     pub(crate) is_spent: bool,
 }
 
-impl<'a, G: Gate, C: Works + Drop> Piece<'a, G, C> {
+impl<'a, G: Gate, C: Cell + Drop> Piece<'a, G, C> {
     /// How many jobs its cells are to do.
     pub(crate) fn jobs(&self) -> usize {
         let mut count: usize = 0;
@@ -150,7 +65,7 @@ impl<'a, G: Gate, C: Works + Drop> Piece<'a, G, C> {
     }
 }
 
-impl<'a, G: Gate, C: Works + Drop> Work for Piece<'a, G, C> {
+impl<'a, G: Gate, C: Cell + Drop> Work for Piece<'a, G, C> {
     ghost use Rattle.std.specs.Prelude.{◌≡◌, false, map};
     ghost use Rattle.std.specs.List.{AllByRecursion};
     ghost use Rattle.ndc_cluster_rounds.specs.Rounds.{SlotMay, slot_done, slot_of};

@@ -3,7 +3,7 @@ ghost use Rattle.std.specs.Prelude.{◌≡◌, ℕ, ◌<◌, List, length, map, 
 ghost use Rattle.std.specs.List.{AllByRecursion};
 ghost use Rattle.ndc_model_cells.specs.Cells.{Cell};
 ghost use Rattle.ndc_model_cells.specs.Jobs.{cell_for, cells_after, replies_to};
-ghost use Rattle.ndc_model_cells.specs.Writing.{Home as Desk};
+ghost use Rattle.ndc_model_cells.specs.Writing.{Desk};
 ghost use Rattle.ndc_model_cells.specs.declared.job.ShardJob.{ShardJob as Asked};
 ghost use Rattle.ndc_cluster_rounds.specs.Rounds.{SlotValue, cell_after, dealt, fresh_slot, jobs_of, slot_done, taken};
 

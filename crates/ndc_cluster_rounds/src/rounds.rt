@@ -5,9 +5,11 @@ ghost use Rattle.ndc_model_cells.specs.Jobs.{cells_after, replies_to};
 ghost use Rattle.ndc_model_cells.specs.Conditions.{AreAllowed};
 ghost use Rattle.ndc_cluster_rounds.specs.Rounds.{dealt, fresh_slot, joined, slot_of, taken};
 
+use crate::cell::Cell;
 use crate::halves::work_list;
+use crate::home::Desk;
 use crate::in_turn::{do_in_turn, enter_all};
-use crate::piece::{Desk, Piece, Slot, Works};
+use crate::piece::{Piece, Slot};
 use ndc_model_cells::{JobReply, ShardJob};
 use ndc_port::Gate;
 use std::alloc::{AllocError, Global};
@@ -15,7 +17,7 @@ use std::collections::VecDeque;
 use std::thread::Threads;
 
 /// A slot for each cell, with nothing to do.
-fn slots_of<'a, C: Works + Drop>(
+fn slots_of<'a, C: Cell + Drop>(
     alloc: Global,
     cells: Vec<C>,
 ) -> Result<Vec<Slot<'a, C>>, AllocError>
@@ -34,7 +36,7 @@ fn slots_of<'a, C: Works + Drop>(
 }
 
 /// Each job goes last among those of the slot of its shard.
-fn deal<'a, C: Works + Drop>(
+fn deal<'a, C: Cell + Drop>(
     slots: &mut Vec<Slot<'a, C>>,
     jobs: &'a [ShardJob],
 ) -> Result<(), AllocError>
@@ -50,7 +52,7 @@ fn deal<'a, C: Works + Drop>(
 
 /// Cuts slots into so many pieces of neighbouring ones, of nearly equal lengths, numbered from 0; the last one comes
 /// first.
-fn cut<'a, G: Gate, C: Works + Drop>(
+fn cut<'a, G: Gate, C: Cell + Drop>(
     alloc: Global,
     slots: Vec<Slot<'a, C>>,
     count: u32,
@@ -80,7 +82,7 @@ fn cut<'a, G: Gate, C: Works + Drop>(
 }
 
 /// The slots of pieces in order, of which the last one comes first; an error where a piece is spent.
-fn join<'a, G: Gate, C: Works + Drop>(
+fn join<'a, G: Gate, C: Cell + Drop>(
     alloc: Global,
     pieces: Vec<Piece<'a, G, C>>,
 ) -> Result<Vec<Slot<'a, C>>, AllocError>
@@ -101,7 +103,7 @@ fn join<'a, G: Gate, C: Works + Drop>(
 }
 
 /// For each job the next reply of its shard; none, where one lacks.
-fn collect<C: Works + Drop>(
+fn collect<C: Cell + Drop>(
     alloc: Global,
     slots: &mut Vec<Slot<C>>,
     jobs: &[ShardJob],
@@ -121,7 +123,7 @@ fn collect<C: Works + Drop>(
 }
 
 /// The cells of slots.
-fn cells_of<C: Works + Drop>(alloc: Global, slots: Vec<Slot<C>>) -> Result<Vec<C>, AllocError>
+fn cells_of<C: Cell + Drop>(alloc: Global, slots: Vec<Slot<C>>) -> Result<Vec<C>, AllocError>
     ensures { IfOk result (λ cells. map C.cell cells.items ≡ map (λ slot. C.cell slot.cell) slots.entry.items) }
 {
     let mut cells = Vec::new(alloc);
@@ -135,7 +137,7 @@ fn cells_of<C: Works + Drop>(alloc: Global, slots: Vec<Slot<C>>) -> Result<Vec<C
 const ENOUGH: usize = 64;
 
 /// Whether at least two pieces have so many jobs that they pay for a thread.
-fn pay_for_threads<G: Gate, C: Works + Drop>(pieces: &[Piece<G, C>]) -> bool {
+fn pay_for_threads<G: Gate, C: Cell + Drop>(pieces: &[Piece<G, C>]) -> bool {
     let mut paying = false;
     for piece in pieces {
         let pays = piece.jobs() >= ENOUGH;
@@ -156,7 +158,7 @@ pub struct Rounded<C: Drop> {
 
 /// Cells do jobs in so many pieces of neighbouring ones: side by side, or one piece after the other where the gate holds
 /// nobody and the jobs do not pay for threads.
-fn in_pieces<R: Threads + Sync, G: Gate, C: Works + Drop + Send>(
+fn in_pieces<R: Threads + Sync, G: Gate, C: Cell + Drop + Send>(
     rt: &R,
     alloc: Global,
     gate: &G,
@@ -189,7 +191,7 @@ fn in_pieces<R: Threads + Sync, G: Gate, C: Works + Drop + Send>(
 /// the round, and the cells are gone. With one worker no thread is started, nor under a gate that holds nobody where the
 /// jobs are too few to pay for it. The shard of each job is that of a cell, and each job may be done by the cell that the
 /// jobs before it leave.
-pub fn round<R: Threads + Sync, G: Gate, C: Works + Drop + Send>(
+pub fn round<R: Threads + Sync, G: Gate, C: Cell + Drop + Send>(
     rt: &R,
     alloc: Global,
     gate: &G,

@@ -1,35 +1,33 @@
-ghost use Rattle.std.specs.Prelude.{◌≡◌};
+ghost use Rattle.std.specs.Prelude.{◌≡◌, OnErr};
+ghost use Rattle.std.specs.Arc.{arc_value};
+ghost use Rattle.ndc_event.specs.Outcome.{Gives};
+ghost use Rattle.ndc_history.specs.History.{added};
+ghost use Rattle.ndc_history.specs.declared.item.AddError.TheVariants.{Memory};
 ghost use Rattle.ndc_history.specs.Common.{best_from, better};
-ghost use Rattle.ndc_history.specs.History.{last_item};
 
 use crate::item::{AddError, Item};
+use crate::rising::Rising;
 use std::alloc::{AllocError, Global};
 use std::marker::Model;
+use std::sync::Arc;
 
-/// The version history of a path: an item for each version on it, in order. Ids and versions rise strictly.
+/// The version history of a path: an item for each version on it, in order. Ids and versions rise strictly. Copies share
+/// the items.
 #[derive(Debug, Drop)]
 pub struct VersionHistory {
-    items: Vec<Item>,
+    alloc: Global,
+    shared: Option<Arc<Rising, Global>>,
 }
 
 impl Model for VersionHistory {
-    ghost use Rattle.std.specs.Prelude.{List, IsTrue};
+    ghost use Rattle.std.specs.Prelude.{List};
     ghost use Rattle.ndc_history.specs.declared.item.Item.{Item};
 
     ghost Value = { List Item };
 
-    ghost use Rattle.ndc_history.specs.History.{rises};
+    ghost use Rattle.ndc_history.specs.Shared.{items_shared};
 
-    ghost view = { λ history. history.items.items };
-
-    ghost invariant = { λ history. IsTrue (rises history.items.items) };
-}
-
-/// The last item.
-fn last_of(items: &[Item]) -> Option<Item>
-    ensures { result ≡ last_item items.now }
-{
-    items.last().copied()
+    ghost view = { λ history. items_shared history.shared };
 }
 
 impl VersionHistory {
@@ -44,8 +42,21 @@ impl VersionHistory {
         ensures { result ≡ [] }
     {
         VersionHistory {
-            items: Vec::new(alloc),
+            alloc,
+            shared: None,
         }
+    }
+
+    /// The history of these items, whose ids and versions rise strictly.
+    pub fn of(alloc: Global, items: Vec<Item>) -> Result<VersionHistory, AllocError>
+        requires { IsTrue (rises items.items) }
+        ensures { IfOk result (λ history. history ≡ items.items) }
+    {
+        let shared = Arc::new(alloc, Rising::of(items))?;
+        Ok(VersionHistory {
+            alloc,
+            shared: Some(shared),
+        })
     }
 
     /// The items, in order.
@@ -53,7 +64,10 @@ impl VersionHistory {
         ensures items { result.now ≡ self.now }
         ensures rises { IsTrue (rises self.now) }
     {
-        self.items.as_slice()
+        match &self.shared {
+            None => &[],
+            Some(shared) => shared.items(),
+        }
     }
 
     /// Adds an item behind the last: where the version is the last one's, its id is replaced, else the item
@@ -63,19 +77,11 @@ impl VersionHistory {
         ensures answer { Gives Memory (λ _. self.new) result (added self.old item) }
         ensures err { OnErr result (self.new ≡ self.old) }
     {
-        let Some(last) = last_of(self.items.as_slice()) else {
-            self.items.push(item)?;
-            return Ok(());
-        };
-        if item.id <= last.id || item.version < last.version {
-            return Err(AddError::NotAfter);
+        if let Some(shared) = &mut self.shared {
+            return add_to(shared, item);
         }
-        if item.version == last.version {
-            let end = self.items.len() - 1;
-            self.items[end] = item;
-            return Ok(());
-        }
-        self.items.push(item)?;
+        let first = Rising::one(self.alloc, item)?;
+        self.shared = Some(Arc::new(self.alloc, first)?);
         Ok(())
     }
 
@@ -84,44 +90,47 @@ impl VersionHistory {
     pub fn common(&self, other: &VersionHistory) -> Option<Item>
         ensures { result ≡ common_of self.now other.now }
     {
-        let one = self.items.as_slice();
-        let two = other.items.as_slice();
-        let (mut own, mut others) = (one.len(), two.len());
-        while own > 0 && others > 0 {
-            let (last, other) = (one[own - 1], two[others - 1]);
-            if last.version == other.version {
-                return Some(Item {
-                    id: last.id.min(other.id),
-                    version: last.version,
-                });
-            }
-            if last.version < other.version {
-                others -= 1;
-            } else {
-                own -= 1;
-            }
-        }
-        None
+        let Some(one) = &self.shared else {
+            return None;
+        };
+        let Some(two) = &other.shared else {
+            return None;
+        };
+        one.common(two)
     }
 
     /// Whether the item is the last one, so that what follows it can be appended.
     pub fn appendable(&self, item: Item) -> bool
         ensures { result ≡ is_last item (last_item self.now) }
     {
-        match last_of(self.items.as_slice()) {
-            Some(last) => last.id == item.id && last.version == item.version,
+        match &self.shared {
             None => false,
+            Some(shared) => shared.appendable(item),
         }
     }
 
-    /// The same history.
+    /// The same history, over the same items: in the same time for any number of them.
     pub fn try_copy(&self) -> Result<VersionHistory, AllocError>
         ensures { IfOk result (λ copy. copy ≡ self.now) }
     {
+        let shared = match &self.shared {
+            None => None,
+            Some(shared) => Some(Arc::try_clone(shared)?),
+        };
         Ok(VersionHistory {
-            items: self.items.clone()?,
+            alloc: self.alloc,
+            shared,
         })
     }
+}
+
+/// Adds an item to items that may be shared: a copy of its own then.
+fn add_to(shared: &mut Arc<Rising, Global>, item: Item) -> Result<(), AddError>
+    ensures answer { Gives Memory (λ _. arc_value shared.new) result (added (arc_value shared.old) item) }
+    ensures err { OnErr result (arc_value shared.new ≡ arc_value shared.old) }
+{
+    let items = Arc::make_mut(shared)?;
+    items.add(item)
 }
 
 /// What a place has in common, or what a later place has with a greater id.

@@ -3,6 +3,7 @@
 
 mod history;
 mod item;
+mod rising;
 
 pub use history::{VersionHistory, best_common};
 pub use item::{AddError, Item};

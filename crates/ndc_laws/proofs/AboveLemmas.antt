@@ -5,7 +5,7 @@ use Rattle.std.specs.List.{AllByRecursion}
 use Rattle.ndc_model_cells.specs.Arrival.{arrived_at, cell_with, has_arrived}
 use Rattle.ndc_model_cells.specs.Cells.{Cell, both, empty_cell, learned_of}
 use Rattle.ndc_model_cells.specs.Jobs.{after_job, cell_for, cells_after, cells_behind, reapplied_in, workflows_of, written_at}
-use Rattle.ndc_model_cells.specs.Writing.{Entry, Home, alone, as_command_error, batch_below, batches_in, carried_by, command_entries, command_of, entry_message, entry_of, first_batch, goes_on_as, is_close_full, key_behind, may_write, next_key, reapplication_below, reapplication_by, reapplication_of, reset_at, reset_below, reset_close, reset_entries, reset_refused, with_all_written, with_batches, with_written}
+use Rattle.ndc_model_cells.specs.Writing.{Entry, Desk, alone, as_command_error, batch_below, batches_in, carried_by, command_entries, command_of, entry_message, entry_of, first_batch, goes_on_as, is_close_full, key_behind, may_write, next_key, reapplication_below, reapplication_by, reapplication_of, reset_at, reset_below, reset_close, reset_entries, reset_refused, with_all_written, with_batches, with_written}
 use Rattle.ndc_model_cells.specs.declared.job.Job.{Job}
 use Rattle.ndc_model_cells.specs.declared.job.Job.TheVariants as job
 use Rattle.ndc_model_cells.specs.declared.job.ShardJob.{ShardJob}
@@ -43,11 +43,11 @@ abbrev pub HoldsOfWritten : (Batch → Type 0) → Cell → Type 0
 HoldsOfWritten P cell = AllByRecursion (λ sent. AllByRecursion P (both sent)) cell.written
 
 -- it holds of all batches of entries
-abbrev HoldsOfEntries : (Batch → Type 0) → List Entry → Type 0
+abbrev pub HoldsOfEntries : (Batch → Type 0) → List Entry → Type 0
 HoldsOfEntries P entries = AllByRecursion (λ entry. AllByRecursion P (batches_in entry)) entries
 
 -- it does, where there are entries
-abbrev HoldsWhereOk : (Batch → Type 0) → Result (List Entry) CommandError → Type 0
+abbrev pub HoldsWhereOk : (Batch → Type 0) → Result (List Entry) CommandError → Type 0
 HoldsWhereOk P (Ok entries) = HoldsOfEntries P entries
 HoldsWhereOk P (Err error) = Unit {0}
 
@@ -61,7 +61,7 @@ result-kept : (P : Batch → Type 0) (r : Result (List Entry) CommandError) (cel
 result-kept P (Ok entries) cell fit holds = entries-kept P entries cell fit holds
 result-kept P (Err error) cell fit holds = holds
 
-next-holds : {A : Type 0} (P : Batch → Type 0) (r : Result A CommandError) (f : A → Result (List Entry) CommandError) → ((x : A) → r ≡ Ok x → HoldsWhereOk P (f x)) → HoldsWhereOk P (r >>= f)
+pub next-holds : {A : Type 0} (P : Batch → Type 0) (r : Result A CommandError) (f : A → Result (List Entry) CommandError) → ((x : A) → r ≡ Ok x → HoldsWhereOk P (f x)) → HoldsWhereOk P (r >>= f)
 next-holds P (Ok x) f each = each x refl
 next-holds P (Err error) f each = tt
 
@@ -100,7 +100,7 @@ module _ (P : Batch → Type 0) (domain workflow : Name) (key : BatchKey) (each 
   again-holds tip s kinds false = tt
 
 -- a cell that stands somewhere writes what has its record's version
-module _ (home : Home) (P : Batch → Type 0) (new : (b : Batch) → IsAbove home.table b → P b) where
+module _ (home : Desk) (P : Batch → Type 0) (new : (b : Batch) → IsAbove home.table b → P b) where
   with-version : (domain workflow : Name) (cell : Cell) (version : ℕ) → may_write home domain workflow cell ≡ Ok version → (b : Batch) → b.domain ≡ domain → b.key.version ≡ version → P b
   with-version domain workflow cell version e b named same =
       let r = (may-parts home domain workflow cell version e).by_record in
@@ -170,7 +170,7 @@ module _ (home : Home) (P : Batch → Type 0) (new : (b : Batch) → IsAbove hom
   job-kept (job.Reset domain workflow event) cell holds = result-kept P (reset_at home domain workflow event cell) cell (reset-kept domain workflow event cell) holds
 
 -- jobs in the cells of a cluster, of each of which something holds
-pub cells-kept : (home : Home) (P : ℕ → Batch → Type 0) → ((shard : ℕ) (b : Batch) → IsAbove home.table b → P shard b) → (jobs : List ShardJob) (cells : List Cell)
+pub cells-kept : (home : Desk) (P : ℕ → Batch → Type 0) → ((shard : ℕ) (b : Batch) → IsAbove home.table b → P shard b) → (jobs : List ShardJob) (cells : List Cell)
     → ((shard : ℕ) → HoldsOfWritten (P shard) (cell_for shard cells)) → (shard : ℕ) → HoldsOfWritten (P shard) (cell_for shard (cells_after home jobs cells))
 unfolding cells_after
 cells-kept home P new [] cells all shard = all shard

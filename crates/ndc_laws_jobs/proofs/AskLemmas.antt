@@ -5,7 +5,7 @@ use Rattle.ndc_script_types.specs.declared.script.Header.{Header}
 use Rattle.ndc_model_cells.specs.declared.job.Job.TheVariants as job
 use Rattle.ndc_model_cells.specs.Cells.{Cell, learned_of}
 use Rattle.ndc_model_cells.specs.Shards.{shard_of}
-use Rattle.ndc_model_cells.specs.Writing.{Entry, Home, command_entries, command_of, reset_at, reset_below, with_written}
+use Rattle.ndc_model_cells.specs.Writing.{Entry, Desk, command_entries, command_of, reset_at, reset_below, with_written}
 use Rattle.ndc_command.specs.declared.command.Command.{Command}
 use Rattle.ndc_command.specs.declared.refusal.CommandError.{CommandError}
 use Rattle.ndc_domain.specs.Records.{record_of}
@@ -39,7 +39,7 @@ module _ (header : Header) (well : IsWellFormedHeader header) (lines : ℕ) (w :
   abbrev here : Cell
   here = cell_at cluster place w
 
-  abbrev home : Home
+  abbrev home : Desk
   home = home_at header cluster w
 
   abbrev part : List Batch

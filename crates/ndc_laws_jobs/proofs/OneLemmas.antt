@@ -179,6 +179,7 @@ module _ (header : Header) (lines : ℕ) (w : World) (is : IsReached header line
     pub may-arrive : MayArrive sent (cell_at cluster shard w)
     may-arrive = record {
       message = as-written;
+      lone = none-is sent.batch.carrier (own-is (filter (is_of sent.batch.domain sent.batch.workflow) all) all sent.batch sent true_is.1).0;
       own = if-some (λ s. is_of domain workflow s ≡ true) sent.second (λ s e. (second-parts s e).0);
       new = as-new;
       sound = as-sound;

@@ -8,7 +8,7 @@ use Rattle.ndc_model_cells.specs.Cells.{Cell, learned_of}
 use Rattle.ndc_model_cells.specs.Jobs.{workflows_of}
 use Rattle.ndc_model_cells.specs.Places.{is_of}
 use Rattle.ndc_model_cells.specs.Shards.{shard_of}
-use Rattle.ndc_model_cells.specs.Writing.{Entry, Home, may_write, reapplication_below, reapplication_by, reapplication_of}
+use Rattle.ndc_model_cells.specs.Writing.{Entry, Desk, may_write, reapplication_below, reapplication_by, reapplication_of}
 use Rattle.ndc_command.specs.declared.refusal.Refusal.{Refusal}
 use Rattle.ndc_domain.specs.declared.clusters.ClusterNo.{ClusterNo}
 use Rattle.ndc_event.specs.declared.batch.Batch.{Batch}
@@ -49,7 +49,7 @@ module _ (header : Header) (lines : ℕ) (w : World) (is : IsReached header line
   abbrev cell : Cell
   cell = cell_at cluster at w
 
-  abbrev home : Home
+  abbrev home : Desk
   home = home_at header cluster w
 
   abbrev all : List Batch
@@ -161,7 +161,7 @@ module _ (header : Header) (lines : ℕ) (keeps : ApplyingKeeps header lines) (c
           → MayReapply (home_at header cluster w) (b ∷ bs) (cell_at cluster shard w) × Leaves (OthersOf (b ∷ bs)) w (applied_all header cluster shard (b ∷ bs) w)
       joined rest =
           let one = one-may shard below b live.0 w is in (
-            (one.0, one.1, subst (λ (h : Home). MayReapply h bs (cell_applied header cluster shard b w)) home-same (subst (MayReapply (home_at header cluster v) bs) cell-is rest.0)),
+            (one.0, one.1, subst (λ (h : Desk). MayReapply h bs (cell_applied header cluster shard b w)) home-same (subst (MayReapply (home_at header cluster v) bs) cell-is rest.0)),
             record {
               reached = rest.1.reached;
               tables = rest.1.tables ∙ first.tables;

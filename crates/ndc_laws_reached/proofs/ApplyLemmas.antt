@@ -6,7 +6,7 @@ use Rattle.ndc_model_cells.specs.declared.job.Job.TheVariants.{Reapply}
 use Rattle.ndc_model_cells.specs.declared.job.ShardJob.{ShardJob}
 use Rattle.ndc_model_cells.specs.Cells.{Cell, empty_cell}
 use Rattle.ndc_model_cells.specs.Jobs.{after_job, cell_for, cells_after, reapplied_in, workflows_of}
-use Rattle.ndc_model_cells.specs.Writing.{Home}
+use Rattle.ndc_model_cells.specs.Writing.{Desk}
 use Rattle.ndc_domain.specs.declared.clusters.ClusterNo.{ClusterNo}
 use Rattle.ndc_event.specs.declared.batch.Batch.{Batch}
 use Rattle.ndc_model.proofs.ListLemmas.{set-twice, set-length}
@@ -67,7 +67,7 @@ module _ (header : Header) (cluster : ClusterNo) (shard : ℕ) where
   all-applied [] w has = same-cell cluster shard w
   all-applied (b ∷ bs) w has =
       sym (put-twice cluster shard w has new (reapplied_in (home_at header cluster w) bs new))
-      ∙ ap (λ (home : Home). with_cell cluster shard (reapplied_in home bs new) v) (sym (home-put cluster shard w has new header))
+      ∙ ap (λ (home : Desk). with_cell cluster shard (reapplied_in home bs new) v) (sym (home-put cluster shard w has new header))
       ∙ ap (λ (cell : Cell). with_cell cluster shard (reapplied_in (home_at header cluster v) bs cell) v) (sym (cell-put cluster shard w has new))
       ∙ all-applied bs v (has-put cluster shard w has new)
     where

@@ -6,7 +6,7 @@ use Rattle.std.proofs.lemmas.Bool.Decides.{nat_tests}
 use Rattle.ndc_script_types.specs.WellFormed.{IsCluster}
 use Rattle.ndc_script_types.specs.declared.script.Header.{Header}
 use Rattle.ndc_model_cells.specs.Cells.{Cell, learned_of}
-use Rattle.ndc_model_cells.specs.Writing.{Home, as_command_error, greatest_version, is_writer, may_write, may_write_by, may_write_with}
+use Rattle.ndc_model_cells.specs.Writing.{Desk, as_command_error, greatest_version, is_writer, may_write, may_write_by, may_write_with}
 use Rattle.ndc_command.specs.declared.refusal.CommandError.{CommandError}
 use Rattle.ndc_command.specs.declared.refusal.Refusal.{Refusal}
 use Rattle.ndc_command.specs.declared.refusal.Refusal.TheVariants.{Behind, NotActive}
@@ -32,7 +32,7 @@ use Rattle.ndc_laws_reached.proofs.PutLemmas.{lines_pass}
 use Rattle.ndc_laws_reached.proofs.ReportLemmas.{AreOne, IsTold, comes, reports-more, v}
 
 -- the version with which a home may write is one of its own
-may-write-own : (home : Home) (version : ℕ) (batches : List Batch) (answer : ℕ) → may_write_with home version batches ≡ Ok answer → is_writer home.me (writer_of home.clusters answer) ≡ true
+may-write-own : (home : Desk) (version : ℕ) (batches : List Batch) (answer : ℕ) → may_write_with home version batches ≡ Ok answer → is_writer home.me (writer_of home.clusters answer) ≡ true
 may-write-own home version batches answer = by (is_writer home.me (writer_of home.clusters version)) refl (nat_lt version (greatest_version batches)) (NotActive version) (Behind (greatest_version batches))
   where
     by : (mine : Bool) → is_writer home.me (writer_of home.clusters version) ≡ mine → (behind : Bool) (one two : Refusal)
@@ -41,16 +41,16 @@ may-write-own home version batches answer = by (is_writer home.me (writer_of hom
     by true mine false one two e = let same : version ≡ answer = cc in subst (λ (n : ℕ). is_writer home.me (writer_of home.clusters n) ≡ true) same mine
     by false mine behind one two e = absurd (cc)
 
-may-by-own : (home : Home) (one : Option DomainRecord) (batches : List Batch) (answer : ℕ) → may_write_by home one batches ≡ Ok answer → is_writer home.me (writer_of home.clusters answer) ≡ true
+may-by-own : (home : Desk) (one : Option DomainRecord) (batches : List Batch) (answer : ℕ) → may_write_by home one batches ≡ Ok answer → is_writer home.me (writer_of home.clusters answer) ≡ true
 may-by-own home None batches answer e = absurd (cc)
 may-by-own home (Some one) batches answer e = may-write-own home one.version batches answer e
 
-pub may-own : (home : Home) (domain workflow : Name) (cell : Cell) (answer : ℕ) → may_write home domain workflow cell ≡ Ok answer → is_writer home.me (writer_of home.clusters answer) ≡ true
+pub may-own : (home : Desk) (domain workflow : Name) (cell : Cell) (answer : ℕ) → may_write home domain workflow cell ≡ Ok answer → is_writer home.me (writer_of home.clusters answer) ≡ true
 unfolding may_write
 may-own home domain workflow cell answer e = may-by-own home (record_of home.table domain) (learned_of domain workflow cell) answer e
 
 -- what a cluster tells is of a version of its own
-told-own : (home : Home) (domain workflow id : Name) (cell : Cell) (told : ℕ × ActivityRef) → told_of home domain workflow id cell ≡ Ok told → is_writer home.me (writer_of home.clusters told.0) ≡ true
+told-own : (home : Desk) (domain workflow id : Name) (cell : Cell) (told : ℕ × ActivityRef) → told_of home domain workflow id cell ≡ Ok told → is_writer home.me (writer_of home.clusters told.0) ≡ true
 told-own home domain workflow id cell told =
     by (may_write home domain workflow cell) refl (started_activity domain workflow id (learned_of domain workflow cell) (workflow_tip (learned_of domain workflow cell)))
   where

@@ -12,7 +12,7 @@ use Rattle.ndc_model_cells.specs.Arrival.{arrived_at, has_arrived}
 use Rattle.ndc_model_cells.specs.Cells.{Cell, empty_cell, own_message}
 use Rattle.ndc_model_cells.specs.Jobs.{after_job, cell_for, cells_after, cells_behind}
 use Rattle.ndc_model_cells.specs.Places.{batch_there, is_of, place_of}
-use Rattle.ndc_model_cells.specs.Writing.{Home}
+use Rattle.ndc_model_cells.specs.Writing.{Desk}
 use Rattle.ndc_domain.specs.declared.clusters.ClusterNo.{ClusterNo}
 use Rattle.ndc_domain.specs.declared.record.DomainRecord.{DomainRecord}
 use Rattle.ndc_event.specs.declared.batch.Batch.{Batch}
@@ -53,7 +53,7 @@ module _ (header : Header) (cluster : ClusterNo) (w : World) (shaped : IsShaped 
   unfolding cells_after
   after-more asked jobs =
       ap (λ (c : Cluster). with_cells cluster (cells_after (home_at header cluster (with_cells cluster first w)) jobs c.cells) (with_cells cluster first w)) (cluster-there first)
-      ∙ ap (λ (home : Home). with_cells cluster (cells_after home jobs first) (with_cells cluster first w)) (home-there first)
+      ∙ ap (λ (home : Desk). with_cells cluster (cells_after home jobs first) (with_cells cluster first w)) (home-there first)
       ∙ cells-twice first (cells_after (home_at header cluster w) jobs first)
     where
       first : List Cell

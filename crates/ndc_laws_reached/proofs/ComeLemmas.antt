@@ -12,7 +12,7 @@ use Rattle.ndc_model_cells.specs.Arrival.{arrived_at, cell_with, has_arrived, pl
 use Rattle.ndc_model_cells.specs.Cells.{Cell, both, empty_cell}
 use Rattle.ndc_model_cells.specs.Jobs.{after_job, cell_for, cells_after, cells_behind}
 use Rattle.ndc_model_cells.specs.Places.{AreInOrder, batch_there, in_order, place_of, placed}
-use Rattle.ndc_model_cells.specs.Writing.{Home}
+use Rattle.ndc_model_cells.specs.Writing.{Desk}
 use Rattle.ndc_event.specs.declared.batch.Batch.{Batch}
 use Rattle.ndc_model.specs.Moves.{all_arrive, arrives}
 use Rattle.ndc_model.proofs.WorldLemmas.{set-cases}
@@ -50,7 +50,7 @@ abbrev pub Arrives : ShardJob → Type 0
 Arrives asked = (sent : Message) × (asked.job ≡ Arrive sent)
 
 -- what has arrived behind such jobs had arrived, or is of one of their messages
-pub jobs-from : (home : Home) (shard : ℕ) (jobs : List ShardJob) (cells : List Cell) (x : Batch) → AllByRecursion Arrives jobs → Among x (cell_for shard (cells_after home jobs cells)).arrived
+pub jobs-from : (home : Desk) (shard : ℕ) (jobs : List ShardJob) (cells : List Cell) (x : Batch) → AllByRecursion Arrives jobs → Among x (cell_for shard (cells_after home jobs cells)).arrived
     → Among x (cell_for shard cells).arrived ⊎ IsBroughtBy shard jobs x
 unfolding cells_after after_job
 jobs-from home shard [] cells x all among = inl among

@@ -6,7 +6,7 @@ use Rattle.ndc_model_cells.specs.Cells.{Cell, empty_cell, learned_of}
 use Rattle.ndc_model_cells.specs.Jobs.{after_job, cells_after, written_at}
 use Rattle.ndc_model_cells.specs.Places.{is_of}
 use Rattle.ndc_model_cells.specs.Shards.{shard_of}
-use Rattle.ndc_model_cells.specs.Writing.{Entry, Home, as_command_error, command_entries, command_of, may_write, reset_at, reset_below, with_all_written, with_written}
+use Rattle.ndc_model_cells.specs.Writing.{Entry, Desk, as_command_error, command_entries, command_of, may_write, reset_at, reset_below, with_all_written, with_written}
 use Rattle.ndc_command.specs.declared.command.Command.{Command}
 use Rattle.ndc_command.specs.declared.refusal.CommandError.{CommandError}
 use Rattle.ndc_command.specs.declared.refusal.Refusal.{Refusal}
@@ -127,12 +127,12 @@ unfolding reset_step jobs_done cells_after after_job
 reset-world header cluster domain workflow event w = refl
 
 -- what a cluster writes where it may: the version, and what is written with it
-pub record MayHave (home : Home) (domain workflow : Name) (cell : Cell) (next : ℕ → Result (List Entry) CommandError) (entries : List Entry) : Type 0 where
+pub record MayHave (home : Desk) (domain workflow : Name) (cell : Cell) (next : ℕ → Result (List Entry) CommandError) (entries : List Entry) : Type 0 where
   pub version : ℕ
   pub with : WritesWith home domain (learned_of domain workflow cell) version
   pub wrote : next version ≡ Ok entries
 
-pub may-have : (home : Home) (domain workflow : Name) (cell : Cell) (next : ℕ → Result (List Entry) CommandError) (entries : List Entry) → (as_command_error (may_write home domain workflow cell) >>= next) ≡ Ok entries
+pub may-have : (home : Desk) (domain workflow : Name) (cell : Cell) (next : ℕ → Result (List Entry) CommandError) (entries : List Entry) → (as_command_error (may_write home domain workflow cell) >>= next) ≡ Ok entries
     → MayHave home domain workflow cell next entries
 may-have home domain workflow cell next entries e = by (may_write home domain workflow cell) refl e
   where

@@ -8,7 +8,7 @@ use Rattle.ndc_script_types.specs.declared.script.Header.{Header}
 use Rattle.ndc_model_cells.specs.Cells.{Cell, learned_of}
 use Rattle.ndc_model_cells.specs.Jobs.{workflows_of}
 use Rattle.ndc_model_cells.specs.Places.{is_of}
-use Rattle.ndc_model_cells.specs.Writing.{Home, is_writer, may_write, may_write_by, reapplication_by, reapplication_of}
+use Rattle.ndc_model_cells.specs.Writing.{Desk, is_writer, may_write, may_write_by, reapplication_by, reapplication_of}
 use Rattle.ndc_domain.specs.Clusters.{ClusterList, writer_of}
 use Rattle.ndc_domain.specs.Records.{record_of}
 use Rattle.ndc_domain.specs.declared.clusters.ClusterNo.{ClusterNo}
@@ -32,7 +32,7 @@ abbrev pub owns : Header → ClusterNo → World → Name → Bool
 owns header cluster w domain = owns_by cluster header.clusters (record_of (cluster_at cluster w).table domain)
 
 -- who does not write to a domain applies nothing again
-idle : (home : Home) (domain workflow : Name) (cell : Cell) → owns_by home.me home.clusters (record_of home.table domain) ≡ false → reapplication_of home domain workflow cell ≡ []
+idle : (home : Desk) (domain workflow : Name) (cell : Cell) → owns_by home.me home.clusters (record_of home.table domain) ≡ false → reapplication_of home domain workflow cell ≡ []
 unfolding reapplication_of may_write
 idle home domain workflow cell = by (record_of home.table domain)
   where

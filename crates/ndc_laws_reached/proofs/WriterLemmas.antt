@@ -7,7 +7,7 @@ use Rattle.ndc_script_types.specs.declared.script.Header.{Header}
 use Rattle.ndc_model_cells.specs.Cells.{Cell, arrived_of, both, learned_of}
 use Rattle.ndc_model_cells.specs.Places.{is_of}
 use Rattle.ndc_model_cells.specs.Shards.{shard_of}
-use Rattle.ndc_model_cells.specs.Writing.{Entry, Home, greatest_version, is_writer, may_write, may_write_by}
+use Rattle.ndc_model_cells.specs.Writing.{Entry, Desk, greatest_version, is_writer, may_write, may_write_by}
 use Rattle.ndc_model_cells.proofs.PlaceLemmas.{set_of_workflow}
 use Rattle.ndc_command.specs.declared.refusal.Refusal.{Refusal}
 use Rattle.ndc_command.specs.declared.refusal.Refusal.TheVariants as refusal
@@ -36,14 +36,14 @@ use Rattle.ndc_laws_reached.specs.Entries.{AreFew, IsWrite}
 use Rattle.ndc_laws_reached.proofs.MayLemmas.{version-most}
 
 -- the version is that of the cluster's record of the domain, and its own
-pub record IsWriter (home : Home) (domain : Name) (version : ℕ) : Type 0 where
+pub record IsWriter (home : Desk) (domain : Name) (version : ℕ) : Type 0 where
   pub found : DomainRecord
   pub has : record_of home.table domain ≡ Some found
   pub version_is : found.version ≡ version
   pub writer : writer_of home.clusters version ≡ Some home.me
 
 -- with what a cluster may write: it is the writer, and no greater version is learned
-pub record WritesWith (home : Home) (domain : Name) (batches : List Batch) (version : ℕ) : Type 0 where
+pub record WritesWith (home : Desk) (domain : Name) (batches : List Batch) (version : ℕ) : Type 0 where
   pub by_record : IsWriter home domain version
   pub most : greatest_version batches ≤ version
 
@@ -51,7 +51,7 @@ pub record WritesWith (home : Home) (domain : Name) (batches : List Batch) (vers
 abbrev tested : Bool → Bool → ℕ → ℕ → Result ℕ Refusal
 tested mine late version greatest = if not mine then Err (refusal.NotActive version) else if late then Err (refusal.Behind greatest) else Ok version
 
-pub may-parts : (home : Home) (domain workflow : Name) (cell : Cell) (version : ℕ) → may_write home domain workflow cell ≡ Ok version → WritesWith home domain (learned_of domain workflow cell) version
+pub may-parts : (home : Desk) (domain workflow : Name) (cell : Cell) (version : ℕ) → may_write home domain workflow cell ≡ Ok version → WritesWith home domain (learned_of domain workflow cell) version
 unfolding may_write
 may-parts home domain workflow cell version e = by (record_of home.table domain) refl e
   where

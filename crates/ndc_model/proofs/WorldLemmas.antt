@@ -9,7 +9,7 @@ use Rattle.ndc_model_cells.specs.Cells.{Cell, empty_cell, learned_of}
 use Rattle.ndc_model_cells.specs.Jobs.{after_job, cell_for, cells_after, written_at}
 use Rattle.ndc_model_cells.specs.Places.{is_of}
 use Rattle.ndc_model_cells.specs.Shards.{shard_of}
-use Rattle.ndc_model_cells.specs.Writing.{Entry, Home, alone, as_command_error, batch_below, carried_by, closing_entries, command_of, entry_of, first_batch, goes_on_as, is_close_full, key_behind, may_write, next_key, reset_at, reset_below, reset_close, reset_key, reset_refused, state_under, with_all_written, with_written}
+use Rattle.ndc_model_cells.specs.Writing.{Entry, Desk, alone, as_command_error, batch_below, carried_by, closing_entries, command_of, entry_of, first_batch, goes_on_as, is_close_full, key_behind, may_write, next_key, reset_at, reset_below, reset_close, reset_key, reset_refused, state_under, with_all_written, with_written}
 use Rattle.ndc_model_cells.proofs.CellLemmas.{others_learned, others_learned_by}
 use Rattle.ndc_command.specs.declared.command.Command.{Command}
 use Rattle.ndc_command.specs.declared.refusal.CommandError.{CommandError}
@@ -112,7 +112,7 @@ module _ (domain workflow d v : Name) (apart : (bytes_eq d domain && bytes_eq v 
   entry-others false key None batches kinds = (apart, tt)
   entry-others false key (Some tip) batches kinds = (apart, carried-others key (goes_on_as kinds))
 
-  command-others : (home : Home) (command : Command) (cell : Cell) → IsOfOthers domain workflow (command_of home d v command cell)
+  command-others : (home : Desk) (command : Command) (cell : Cell) → IsOfOthers domain workflow (command_of home d v command cell)
   unfolding command_of
   command-others home command cell =
       then-others domain workflow (as_command_error (may_write home d v cell)) _
@@ -125,7 +125,7 @@ module _ (domain workflow d v : Name) (apart : (bytes_eq d domain && bytes_eq v 
   closing-others true key tip s last other = ((apart, tt), (other, tt))
   closing-others false key tip s last other = (other, tt)
 
-  reset-others : (home : Home) (event : ℕ) (cell : Cell) → IsOfOthers domain workflow (reset_at home d v event cell)
+  reset-others : (home : Desk) (event : ℕ) (cell : Cell) → IsOfOthers domain workflow (reset_at home d v event cell)
   unfolding reset_at
   reset-others home event cell =
       then-others domain workflow (as_command_error (may_write home d v cell)) _ (λ version. below version (workflow_tip (learned_of d v cell)))

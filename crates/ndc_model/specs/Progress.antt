@@ -24,7 +24,7 @@ use Rattle.ndc_model.specs.Reading.{learned_at, read_answer, tip_answer}
 use Rattle.ndc_model.specs.Steps.{Stepped, answered, error_answer}
 use Rattle.ndc_model.specs.Texts.{ok, refused}
 use Rattle.ndc_model.specs.World.{World, cell_of, cluster_at, home_at, with_cluster}
-use Rattle.ndc_model_cells.specs.Writing.{Home, as_command_error, may_write}
+use Rattle.ndc_model_cells.specs.Writing.{Desk, as_command_error, may_write}
 
 -- the reports of a cluster become others
 abbrev pub with_reports : ClusterNo → List Report → World → World
@@ -55,7 +55,7 @@ started_activity domain workflow id batches (Some tip) =
     >> pending_activity domain workflow id batches tip)
 
 -- the version with which a cluster may tell of an activity, and the activity, or the first refusal
-abbrev pub told_of : Home → Name → Name → Name → Cell → Result (ℕ × ActivityRef) CommandError
+abbrev pub told_of : Desk → Name → Name → Name → Cell → Result (ℕ × ActivityRef) CommandError
 told_of home domain workflow id cell =
     as_command_error (may_write home domain workflow cell)
     >>= λ version. started_activity domain workflow id (learned_of domain workflow cell) (workflow_tip (learned_of domain workflow cell))

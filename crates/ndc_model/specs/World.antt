@@ -13,7 +13,7 @@ use Rattle.ndc_model_cells.specs.declared.message.Message.{Message}
 use Rattle.ndc_model_cells.specs.Cells.{Cell, empty_cell}
 use Rattle.ndc_model_cells.specs.Jobs.{cell_for}
 use Rattle.ndc_model_cells.specs.Shards.{shard_of}
-use Rattle.ndc_model_cells.specs.Writing.{Home, same_cluster}
+use Rattle.ndc_model_cells.specs.Writing.{Desk, same_cluster}
 use Rattle.ndc_graceful.specs.declared.handover.Handover.{Handover}
 use Rattle.ndc_letters.specs.declared.letter.Letter.{Letter}
 use Rattle.ndc_progress.specs.declared.report.Report.{Report}
@@ -164,5 +164,5 @@ abbrev pub trimmed_at : ClusterNo → World → ℕ → ℕ
 trimmed_at source w shard = slice_index_or (slice_index_or w.trimmed source.number []) shard 0
 
 -- where a cell of a cluster stands
-abbrev pub home_at : Header → ClusterNo → World → Home
+abbrev pub home_at : Header → ClusterNo → World → Desk
 home_at header cluster w = record { clusters = header.clusters; me = cluster; limit = header.limit; table = (cluster_at cluster w).table }

@@ -10,7 +10,7 @@ use Rattle.ndc_model_cells.specs.declared.job.ShardJob.{ShardJob}
 use Rattle.ndc_model_cells.specs.Arrival.{arrival_of, arrived_at, learned_by}
 use Rattle.ndc_model_cells.specs.Cells.{Cell, empty_cell}
 use Rattle.ndc_model_cells.specs.Places.{is_of}
-use Rattle.ndc_model_cells.specs.Writing.{Entry, Home, batches_in, command_of, reapplication_of, reset_at, with_all_written}
+use Rattle.ndc_model_cells.specs.Writing.{Entry, Desk, batches_in, command_of, reapplication_of, reset_at, with_all_written}
 use Rattle.ndc_command.specs.declared.refusal.CommandError.{CommandError}
 use Rattle.ndc_command.specs.declared.refusal.CommandError.TheVariants.{Refused, Memory}
 use Rattle.ndc_event.specs.declared.batch.Batch.{Batch}
@@ -47,39 +47,39 @@ written_outcome (Err (Refused refusal)) = outcome.Refused refusal
 written_outcome (Err Memory) = outcome.Reapplied 0
 
 -- the cell behind reapplication in the workflows of these batches, in order
-abbrev pub reapplied_in : Home → List Batch → Cell → Cell
+abbrev pub reapplied_in : Desk → List Batch → Cell → Cell
 reapplied_in home [] cell = cell
 reapplied_in home (b ∷ workflows) cell = reapplied_in home workflows (with_all_written (reapplication_of home b.domain b.workflow cell) cell)
 
 -- what reapplication in the workflows of these batches writes, in order
-abbrev pub reapplied_now : Home → List Batch → Cell → List Batch
+abbrev pub reapplied_now : Desk → List Batch → Cell → List Batch
 reapplied_now home [] cell = []
 reapplied_now home (b ∷ workflows) cell =
     all_batches (reapplication_of home b.domain b.workflow cell) ++ reapplied_now home workflows (with_all_written (reapplication_of home b.domain b.workflow cell) cell)
 
 -- the cell behind a job
-unfoldable pub after_job : Home → Job → Cell → Cell
+unfoldable pub after_job : Desk → Job → Cell → Cell
 after_job home (job.Command domain workflow command) cell = written_at (command_of home domain workflow command cell) cell
 after_job home (job.Arrive message) cell = arrived_at message cell
 after_job home job.Reapply cell = reapplied_in home (workflows_of cell.arrived) cell
 after_job home (job.Reset domain workflow event) cell = written_at (reset_at home domain workflow event cell) cell
 
 -- what a job answers
-unfoldable pub outcome_of : Home → Job → Cell → Outcome
+unfoldable pub outcome_of : Desk → Job → Cell → Outcome
 outcome_of home (job.Command domain workflow command) cell = written_outcome (command_of home domain workflow command cell)
 outcome_of home (job.Arrive message) cell = outcome.Arrived (arrival_of message cell)
 outcome_of home job.Reapply cell = outcome.Reapplied (length (reapplied_now home (workflows_of cell.arrived) cell))
 outcome_of home (job.Reset domain workflow event) cell = written_outcome (reset_at home domain workflow event cell)
 
 -- the batches that a job makes learned, in the order of being told
-unfoldable pub learned_in : Home → Job → Cell → List Batch
+unfoldable pub learned_in : Desk → Job → Cell → List Batch
 learned_in home (job.Command domain workflow command) cell = written_now (command_of home domain workflow command cell)
 learned_in home (job.Arrive message) cell = learned_by message cell
 learned_in home job.Reapply cell = reapplied_now home (workflows_of cell.arrived) cell
 learned_in home (job.Reset domain workflow event) cell = written_now (reset_at home domain workflow event cell)
 
 -- what a cell replies to a job
-abbrev pub reply_to : Home → Job → Cell → JobReply
+abbrev pub reply_to : Desk → Job → Cell → JobReply
 reply_to home asked cell = record { outcome = outcome_of home asked cell; learned = learned_in home asked cell }
 
 -- the cell of a shard
@@ -87,15 +87,15 @@ abbrev pub cell_for : ℕ → List Cell → Cell
 cell_for shard cells = slice_index_or cells shard empty_cell
 
 -- the cells of a cluster behind a job
-abbrev pub cells_behind : Home → ShardJob → List Cell → List Cell
+abbrev pub cells_behind : Desk → ShardJob → List Cell → List Cell
 cells_behind home asked cells = slice_set cells asked.shard (after_job home asked.job (cell_for asked.shard cells))
 
 -- the cells of a cluster behind jobs, done one after the other
-unfoldable pub cells_after : Home → List ShardJob → List Cell → List Cell
+unfoldable pub cells_after : Desk → List ShardJob → List Cell → List Cell
 cells_after home [] cells = cells
 cells_after home (asked ∷ jobs) cells = cells_after home jobs (cells_behind home asked cells)
 
 -- what they reply, in the order of the jobs
-unfoldable pub replies_to : Home → List ShardJob → List Cell → List JobReply
+unfoldable pub replies_to : Desk → List ShardJob → List Cell → List JobReply
 replies_to home [] cells = []
 replies_to home (asked ∷ jobs) cells = reply_to home asked.job (cell_for asked.shard cells) ∷ replies_to home jobs (cells_behind home asked cells)

@@ -2,7 +2,7 @@
 use Rattle.std.specs.Prelude.{ℕ, List, [], ◌∷◌, codes, Some, None}
 use Rattle.ndc_model_cells.specs.declared.message.Message.{Message}
 use Rattle.ndc_model_cells.specs.Cells.{Cell}
-use Rattle.ndc_model_cells.specs.Writing.{Home}
+use Rattle.ndc_model_cells.specs.Writing.{Desk}
 use Rattle.ndc_domain.specs.Clusters.{cluster_no}
 use Rattle.ndc_domain.specs.declared.record.DomainRecord.{DomainRecord}
 use Rattle.ndc_event.specs.declared.batch.Batch.{Batch}
@@ -15,7 +15,7 @@ abbrev pub alpha : ℕ → DomainRecord
 alpha version = record { name = codes "alpha"; version = version; config = 0; days = 7; members = 0 ∷ 1 ∷ [] }
 
 -- clusters A and B, seen from one of them, whose record of the domain has this version
-abbrev pub home : ℕ → ℕ → Home
+abbrev pub home : ℕ → ℕ → Desk
 home me version = record {
   clusters = record { increment = 10; members = (codes "A", 1) ∷ (codes "B", 2) ∷ [] };
   me = cluster_no me;

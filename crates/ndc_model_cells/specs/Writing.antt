@@ -33,8 +33,8 @@ use Rattle.ndc_model_cells.specs.Arrival.{placed_second}
 use Rattle.ndc_model_cells.specs.Cells.{Cell, learned_of}
 use Rattle.ndc_model_cells.specs.Places.{placed}
 
--- where a cell stands: the clusters, which of them it is of, the limit of histories, and its cluster's domain records
-pub record Home : Type 0 where
+-- the desk of a cell: the clusters, which of them it is of, the limit of histories, and its cluster's domain records
+pub record Desk : Type 0 where
   pub clusters : ClusterList
   pub me : ClusterNo
   pub limit : ℕ
@@ -60,19 +60,19 @@ greatest_task [] = 0
 greatest_task (b ∷ batches) = max b.key.task (greatest_task batches)
 
 -- whether the cluster may write with the version of its record: the version is its own, and no greater one is learned
-abbrev pub may_write_with : Home → ℕ → List Batch → Result ℕ Refusal
+abbrev pub may_write_with : Desk → ℕ → List Batch → Result ℕ Refusal
 may_write_with home version batches =
     if not (is_writer home.me (writer_of home.clusters version)) then Err (refusal.NotActive version)
     else if nat_lt version (greatest_version batches) then Err (refusal.Behind (greatest_version batches))
     else Ok version
 
 -- the same by its record of the domain, where it has one
-abbrev pub may_write_by : Home → Option DomainRecord → List Batch → Result ℕ Refusal
+abbrev pub may_write_by : Desk → Option DomainRecord → List Batch → Result ℕ Refusal
 may_write_by home None batches = Err refusal.UnknownDomain
 may_write_by home (Some one) batches = may_write_with home one.version batches
 
 -- the version with which the cell may write to a workflow, or why it may not
-unfoldable pub may_write : Home → Name → Name → Cell → Result ℕ Refusal
+unfoldable pub may_write : Desk → Name → Name → Cell → Result ℕ Refusal
 may_write home domain workflow cell = may_write_by home (record_of home.table domain) (learned_of domain workflow cell)
 
 -- the key that is written next with this version
@@ -161,7 +161,7 @@ as_command_error (Ok x) = Ok x
 as_command_error (Err why) = Err (Refused why)
 
 -- what a command at a cell writes, or the first refusal
-unfoldable pub command_of : Home → Name → Name → Command → Cell → Result (List Entry) CommandError
+unfoldable pub command_of : Desk → Name → Name → Command → Cell → Result (List Entry) CommandError
 command_of home domain workflow command cell =
     as_command_error (may_write home domain workflow cell)
     >>= λ version. command_entries domain workflow command home.limit version (learned_of domain workflow cell)
@@ -181,7 +181,7 @@ reapplication_by domain workflow (Err why) batches = []
 reapplication_by domain workflow (Ok version) batches = reapplication_below domain workflow version (workflow_tip batches) batches (strays batches)
 
 -- what reapplication writes to a workflow: nothing, where the cell may not write, the current run is closed, or there is no stray
-unfoldable pub reapplication_of : Home → Name → Name → Cell → List Entry
+unfoldable pub reapplication_of : Desk → Name → Name → Cell → List Entry
 reapplication_of home domain workflow cell = reapplication_by domain workflow (may_write home domain workflow cell) (learned_of domain workflow cell)
 
 -- the kinds that close an open run before a reset
@@ -222,7 +222,7 @@ reset_below domain workflow event limit version (Some tip) batches =
     >>= λ kinds. reset_entries domain workflow limit (next_key version batches) tip (state_to tip.run tip.key batches) kinds
 
 -- what a reset at a cell writes, or the first refusal
-unfoldable pub reset_at : Home → Name → Name → ℕ → Cell → Result (List Entry) CommandError
+unfoldable pub reset_at : Desk → Name → Name → ℕ → Cell → Result (List Entry) CommandError
 reset_at home domain workflow event cell =
     as_command_error (may_write home domain workflow cell)
     >>= λ version. reset_below domain workflow event home.limit version (workflow_tip (learned_of domain workflow cell)) (learned_of domain workflow cell)

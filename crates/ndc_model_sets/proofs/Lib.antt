@@ -4,6 +4,7 @@ pub mod CommonLemmas
 pub mod CommonPaths
 pub mod CurrentLaws
 pub mod CurrentLemmas
+pub mod EventLemmas
 pub mod FaultLemmas
 pub mod ForkLemmas
 pub mod GapLaws

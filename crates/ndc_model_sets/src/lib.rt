@@ -5,10 +5,12 @@
 
 pub mod arrival_laws;
 pub mod branch_laws;
+mod keys;
 pub mod path_laws;
 pub mod sound_laws;
 mod view;
 pub mod view_laws;
 pub mod worked_sets;
 
+pub use keys::{earlier_key, first_id, is_key, last_id};
 pub use view::{Batches, BranchView, BranchViews, RunStatus, RunView, RunViews, View};

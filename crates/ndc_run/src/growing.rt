@@ -70,7 +70,10 @@ pub(crate) fn grow<L>(
         Err(error) => return Err(RunError::from(error)),
     }
     match take_in(kept, tree, tracked, batch) {
-        Ok(()) => Ok(()),
+        Ok(()) => {
+            tracked.mark();
+            Ok(())
+        }
         Err(_) => {
             tracked.revert();
             Err(RunError::Memory)

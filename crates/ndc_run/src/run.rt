@@ -1,11 +1,11 @@
 ghost use Rattle.std.specs.Prelude.{◌≡◌};
 ghost use Rattle.ndc_run.specs.Learning.{is_known, leads_over};
-ghost use Rattle.ndc_model_sets.specs.Keys.{is_key};
 ghost use Rattle.ndc_run.specs.Leading.{leading_of, beside_of};
 
 use crate::answer::{Learned, RunError};
 use crate::growing::grow;
 use ndc_event::{Batch, BatchKey, RunId};
+use ndc_model_sets::is_key;
 use ndc_rebuild::Checkpoints;
 use ndc_state::{State, Steps};
 use ndc_tree::{Inserted, Tree};
@@ -329,16 +329,6 @@ fn is_known(inserted: Inserted) -> bool
     match inserted {
         Inserted::Known => true,
         _ => false,
-    }
-}
-
-/// Whether the key is this one, where there is one.
-fn is_key(key: BatchKey, other: Option<BatchKey>) -> bool
-    ensures { result ≡ is_key key other }
-{
-    match other {
-        None => false,
-        Some(other) => key.version == other.version && key.task == other.task,
     }
 }
 

@@ -3,7 +3,7 @@ use Rattle.std.proofs.Common.{◌≡◌, ◌≤◌, ◌^◌, ℕ, Bool, true, fa
 use Rattle.std.specs.Prelude.{is_some, option_to_list}
 use Rattle.ndc_model_cells.specs.declared.message.Message.{Message}
 use Rattle.ndc_model_cells.specs.Cells.{Cell, learned_of}
-use Rattle.ndc_model_cells.specs.Writing.{Entry, Home, alone, batch_below, greatest_version, may_write, may_write_by, next_key, reapplication_below, reapplication_by, reapplication_of}
+use Rattle.ndc_model_cells.specs.Writing.{Entry, Desk, alone, batch_below, greatest_version, may_write, may_write_by, next_key, reapplication_below, reapplication_by, reapplication_of}
 use Rattle.ndc_command.specs.declared.refusal.Refusal.{Refusal}
 use Rattle.ndc_domain.specs.Records.{record_of}
 use Rattle.ndc_shard_entries.proofs.IdLemmas.{reapplied-ids}
@@ -38,7 +38,7 @@ again-reached batches sound domain workflow version (Some tip) e (stray ∷ list
     by true = (ap is_some (tip-has batches sound tip e), tt)
     by false = tt
 
-pub again-writable : (home : Home) (domain workflow : Name) (cell : Cell) → IsFit domain workflow cell → HasRoom (learned_of domain workflow cell)
+pub again-writable : (home : Desk) (domain workflow : Name) (cell : Cell) → IsFit domain workflow cell → HasRoom (learned_of domain workflow cell)
     → MayWriteAll domain workflow (reapplication_of home domain workflow cell) cell → AreWritable (reapplication_of home domain workflow cell) cell
 unfolding reapplication_of may_write
 again-writable home domain workflow cell fit room = by (may_write_by home (record_of home.table domain) known) (writes_ahead home (record_of home.table domain) known)
@@ -56,11 +56,11 @@ again-writable home domain workflow cell fit room = by (may_write_by home (recor
         (reapplied-ids known version domain workflow (10 ^ 12) (workflow_tip known) (strays known) room.ids) may
 
 -- the entry, where there is one
-pub entry-writable : (home : Home) (domain workflow : Name) (cell : Cell) (entry : Entry) → entry ∷ [] ≡ reapplication_of home domain workflow cell → IsFit domain workflow cell
+pub entry-writable : (home : Desk) (domain workflow : Name) (cell : Cell) (entry : Entry) → entry ∷ [] ≡ reapplication_of home domain workflow cell → IsFit domain workflow cell
     → HasRoom (learned_of domain workflow cell) → MayWriteAll domain workflow (reapplication_of home domain workflow cell) cell → AreWritable (entry ∷ []) cell
 entry-writable home domain workflow cell entry e fit room may = subst (λ (l : List Entry). AreWritable l cell) (sym e) (again-writable home domain workflow cell fit room may)
 
-pub entry-may : (home : Home) (domain workflow : Name) (old new : Cell) (o : Option Entry) (entry : Entry) → new ≡ old → o ≡ Some entry → option_to_list o ≡ reapplication_of home domain workflow old
+pub entry-may : (home : Desk) (domain workflow : Name) (old new : Cell) (o : Option Entry) (entry : Entry) → new ≡ old → o ≡ Some entry → option_to_list o ≡ reapplication_of home domain workflow old
     → IfSome o (λ _. IsFit domain workflow new) → HasRoom (learned_of domain workflow old) → MayWriteAll domain workflow (reapplication_of home domain workflow old) old
     → MayBeWritten (carrying entry.batch entry.second) (workflow_of entry.batch.domain entry.batch.workflow new)
 entry-may home domain workflow old new o entry same some e fit room may =

@@ -4,7 +4,7 @@ use Rattle.std.specs.Prelude.{is_some}
 use Rattle.std.specs.List.{AllByRecursion}
 use Rattle.std.proofs.lemmas.List.Elements.{All-weaker}
 use Rattle.ndc_model_cells.specs.Cells.{Cell, learned_of}
-use Rattle.ndc_model_cells.specs.Writing.{Entry, Home, alone, as_command_error, batch_below, batches_in, command_entries, command_of, entry_of, first_batch, greatest_version, is_close_full, key_behind, may_write, may_write_by, next_key, reset_at, reset_below, reset_close, reset_entries, reset_refused}
+use Rattle.ndc_model_cells.specs.Writing.{Entry, Desk, alone, as_command_error, batch_below, batches_in, command_entries, command_of, entry_of, first_batch, greatest_version, is_close_full, key_behind, may_write, may_write_by, next_key, reset_at, reset_below, reset_close, reset_entries, reset_refused}
 use Rattle.ndc_command.specs.Laws.{begins_run}
 use Rattle.ndc_command.specs.Plan.{plan_of}
 use Rattle.ndc_command.specs.declared.command.Command.{Command}
@@ -75,7 +75,7 @@ ids-weaker least most l entries small =
     (λ b up. All-weaker (λ (event : Event). event.id ≤ least) (λ (event : Event). event.id ≤ most) (λ event h. omega (arith, h, l)) b.events up) (batches_in entry) all) entries small
 
 -- what is asked for with the version of the cell
-module _ (home : Home) (domain workflow : Name) (cell : Cell) (fit : IsFit domain workflow cell) (written : Result (List Entry) CommandError) (may : MayBeAsked home domain workflow written cell)
+module _ (home : Desk) (domain workflow : Name) (cell : Cell) (fit : IsFit domain workflow cell) (written : Result (List Entry) CommandError) (may : MayBeAsked home domain workflow written cell)
     (entries_with : ℕ → Result (List Entry) CommandError) (is : written ≡ (as_command_error (may_write_by home (record_of home.table domain) (learned_of domain workflow cell)) >>= entries_with))
     (behind : (version : ℕ) → greatest_version (learned_of domain workflow cell) ≤ version → IfOk (entries_with version) (AreWrittenTo (learned_of domain workflow cell) domain workflow))
     (reached : (version : ℕ) → IfOk (entries_with version) (AreReached (learned_of domain workflow cell)))
@@ -91,7 +91,7 @@ module _ (home : Home) (domain workflow : Name) (cell : Cell) (fit : IsFit domai
           (ids-weaker home.limit (10 ^ 12) (let l = may.limit in omega (arith, l)) entries (subst (λ r. IfOk r (AllByRecursion (HasIdsUpTo home.limit))) f (small version)))
           (subst (λ r. MayTake domain workflow r cell) e may.takes)
 
-pub command-writable : (home : Home) (domain workflow : Name) (command : Command) (cell : Cell) (entries : List Entry) → IsFit domain workflow cell
+pub command-writable : (home : Desk) (domain workflow : Name) (command : Command) (cell : Cell) (entries : List Entry) → IsFit domain workflow cell
     → MayBeAsked home domain workflow (command_of home domain workflow command cell) cell → command_of home domain workflow command cell ≡ Ok entries → AreWritable entries cell
 unfolding command_of may_write
 command-writable home domain workflow command cell entries fit may =
@@ -100,7 +100,7 @@ command-writable home domain workflow command cell entries fit may =
     (λ version. command-reached (learned_of domain workflow cell) fit.sound domain workflow version home.limit command)
     (λ version. command-ids (learned_of domain workflow cell) version domain workflow home.limit command may.least) entries
 
-pub reset-writable : (home : Home) (domain workflow : Name) (event : ℕ) (cell : Cell) (entries : List Entry) → IsFit domain workflow cell
+pub reset-writable : (home : Desk) (domain workflow : Name) (event : ℕ) (cell : Cell) (entries : List Entry) → IsFit domain workflow cell
     → MayBeAsked home domain workflow (reset_at home domain workflow event cell) cell → reset_at home domain workflow event cell ≡ Ok entries → AreWritable entries cell
 unfolding reset_at may_write
 reset-writable home domain workflow event cell entries fit may =

@@ -5,7 +5,7 @@ use Rattle.ndc_model_cells.specs.declared.job.Job.{Job}
 use Rattle.ndc_model_cells.specs.declared.job.Job.TheVariants as job
 use Rattle.ndc_model_cells.specs.Arrival.{arrived_at}
 use Rattle.ndc_model_cells.specs.Cells.{Cell, empty_cell}
-use Rattle.ndc_model_cells.specs.Writing.{Home, command_of, may_write}
+use Rattle.ndc_model_cells.specs.Writing.{Desk, command_of, may_write}
 use Rattle.ndc_command.specs.Plan.{plan_of, start_of, within}
 use Rattle.ndc_command.specs.Stage.{refuse}
 use Rattle.ndc_domain.specs.Clusters.{ClusterList, cluster_no}
@@ -35,16 +35,17 @@ begun-may : MayArrive begun empty_cell
 unfolding arrived_at
 begun-may = record {
   message = record { back = λ key e. absurd (cc); second = tt };
+  lone = refl;
   own = tt;
   new = λ h. (refl, tt);
   sound = first-sound;
   ids = (All-from_recursion (λ (event : Event). event.id ≤ 10 ^ 12) (begun_again 1 None).events (omega arith, (omega arith, tt)), tt);
 }
 
-module _ (home : Home) (asked : Job) (cell : Cell) (empty : cell ≡ empty_cell) where
-  allowed-as : (other : Home) (one : Job) → home ≡ other → asked ≡ one → IsAllowed other one empty_cell → IsAllowed home asked cell
+module _ (home : Desk) (asked : Job) (cell : Cell) (empty : cell ≡ empty_cell) where
+  allowed-as : (other : Desk) (one : Job) → home ≡ other → asked ≡ one → IsAllowed other one empty_cell → IsAllowed home asked cell
   allowed-as other one e f may =
-      subst (λ (h : Home). IsAllowed h asked cell) (sym e) (subst (λ (j : Job). IsAllowed other j cell) (sym f) (subst (IsAllowed other one) (sym empty) may))
+      subst (λ (h : Desk). IsAllowed h asked cell) (sym e) (subst (λ (j : Job). IsAllowed other j cell) (sym f) (subst (IsAllowed other one) (sym empty) may))
 
   pub start-allowed : home ≡ home_with (alpha ∷ []) → asked ≡ start → IsAllowed home asked cell
   start-allowed e f = allowed-as (home_with (alpha ∷ [])) start e f start-may

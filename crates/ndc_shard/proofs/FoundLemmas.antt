@@ -1,7 +1,7 @@
 -- Whether a cell may write, by what is learned of the workflow.
 use Rattle.std.proofs.Common.{◌≡◌, ℕ, List, Option, Result, ◌∙◌, ap, sym}
 use Rattle.ndc_model_cells.specs.Cells.{Cell, learned_of}
-use Rattle.ndc_model_cells.specs.Writing.{Home, may_write}
+use Rattle.ndc_model_cells.specs.Writing.{Desk, may_write}
 use Rattle.ndc_event.specs.Outcome.{◌>>=◌}
 use Rattle.ndc_shard_entries.proofs.WriterLemmas.{both_tests}
 use Rattle.ndc_shard_entries.specs.Writer.{unless_behind, writes_to}
@@ -14,16 +14,16 @@ use Rattle.ndc_event.specs.declared.batch.Batch.{Batch}
 use Rattle.ndc_event.specs.declared.name.Name.{Name}
 
 -- a home is its parts
-home-parts : (home : Home) (clusters : ClusterList) (me : ClusterNo) (table : List DomainRecord) → clusters ≡ home.clusters → me ≡ home.me → table ≡ home.table
+home-parts : (home : Desk) (clusters : ClusterList) (me : ClusterNo) (table : List DomainRecord) → clusters ≡ home.clusters → me ≡ home.me → table ≡ home.table
     → record { clusters = clusters; me = me; limit = home.limit; table = table } ≡ home
 home-parts home clusters me table e f g = λ i. record { clusters = e i; me = f i; limit = home.limit; table = g i }
 
 -- whether a cell may write is told by what its cluster's record lets it, and then by what it has learned of the workflow
-pub may-parts : (home : Home) (domain workflow : Name) (cell : Cell) (clusters : ClusterList) (me : ClusterNo) (table : List DomainRecord) (o : Option DomainRecord) (w : Result ℕ Refusal)
+pub may-parts : (home : Desk) (domain workflow : Name) (cell : Cell) (clusters : ClusterList) (me : ClusterNo) (table : List DomainRecord) (o : Option DomainRecord) (w : Result ℕ Refusal)
     → clusters ≡ home.clusters → me ≡ home.me → table ≡ home.table → w ≡ writes_to (record { clusters = clusters; me = me; limit = home.limit; table = table }) o → o ≡ record_of table domain
     → (w >>= λ version. unless_behind version (learned_of domain workflow cell)) ≡ may_write home domain workflow cell
 unfolding may_write
 may-parts home domain workflow cell clusters me table o w e f g h k =
     let known : w ≡ writes_to home (record_of home.table domain) =
-    h ∙ ap (λ (x : Home). writes_to x o) (home-parts home clusters me table e f g) ∙ ap (writes_to home) (k ∙ ap (λ (t : List DomainRecord). record_of t domain) g) in
+    h ∙ ap (λ (x : Desk). writes_to x o) (home-parts home clusters me table e f g) ∙ ap (writes_to home) (k ∙ ap (λ (t : List DomainRecord). record_of t domain) g) in
     ap (λ (r : Result ℕ Refusal). r >>= λ version. unless_behind version (learned_of domain workflow cell)) known ∙ sym (both_tests home (record_of home.table domain) (learned_of domain workflow cell))

@@ -28,6 +28,7 @@ module _ (sent : Message) (messages : List Message) (cell : Cell) where
   pub may-same : MayArrive sent (having_written messages cell) → MayArrive sent cell
   may-same may = record {
     message = may.message;
+    lone = may.lone;
     own = may.own;
     new = may.new;
     sound = subst (λ (c : Cell). IsSound (learned_of sent.batch.domain sent.batch.workflow c)) (sym arrived-same) may.sound;

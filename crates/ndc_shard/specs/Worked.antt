@@ -3,7 +3,7 @@ use Rattle.std.specs.Prelude.{List, [], ◌∷◌, None, codes}
 use Rattle.ndc_model_cells.specs.declared.job.Job.{Job}
 use Rattle.ndc_model_cells.specs.declared.job.Job.TheVariants as job
 use Rattle.ndc_model_cells.specs.declared.message.Message.{Message}
-use Rattle.ndc_model_cells.specs.Writing.{Home}
+use Rattle.ndc_model_cells.specs.Writing.{Desk}
 use Rattle.ndc_command.specs.declared.command.Command.TheVariants.{Start}
 use Rattle.ndc_domain.specs.Clusters.{ClusterList, cluster_no}
 use Rattle.ndc_domain.specs.declared.record.DomainRecord.{DomainRecord}
@@ -19,7 +19,7 @@ abbrev pub alpha : DomainRecord
 alpha = record { name = codes "alpha"; version = 1; config = 0; days = 7; members = 0 ∷ [] }
 
 -- where its cells stand, with these records
-abbrev pub home_with : List DomainRecord → Home
+abbrev pub home_with : List DomainRecord → Desk
 home_with table = record { clusters = one_cluster; me = cluster_no 0; limit = 100; table = table }
 
 -- the start of a workflow

@@ -4,10 +4,10 @@ ghost use Rattle.ndc_model_cells.specs.Writing.{command_of, reset_at};
 ghost use Rattle.ndc_model_cells.specs.declared.job.Job.TheVariants.{Arrive, Command as Commanded, Reapply, Reset};
 ghost use Rattle.ndc_command.specs.declared.refusal.CommandError.TheVariants.{Memory};
 ghost use Rattle.ndc_shard.specs.Shards.{reply_of};
-ghost use Rattle.ndc_model_cells.specs.Allowed.{MayArrive, MayBeAsked, MayReapply};
+ghost use Rattle.ndc_model_cells.specs.Allowed.{IsAllowed, MayArrive, MayBeAsked, MayReapply};
 
 use crate::shard::Shard;
-use ndc_cluster_rounds::{Desk, Works};
+use ndc_cluster_rounds::Desk;
 use ndc_command::{Command, CommandError};
 use ndc_event::{Batch, Name};
 use ndc_model_cells::{Job, JobReply, Message, Outcome, Written};
@@ -19,28 +19,25 @@ use std::alloc::{AllocError, Global};
 /// Marks the counters of steps that jobs take.
 struct Jobs;
 
-impl Works for Shard {
-    ghost use Rattle.ndc_model_cells.specs.Allowed.{IsAllowed};
-
-    ghost cell = { λ shard. shard };
-
-    ghost allows = { IsAllowed };
-
-    fn do_job(&mut self, desk: &Desk, job: &Job) -> Result<JobReply, AllocError> {
-        match job {
-            Job::Command {
-                domain,
-                workflow,
-                command,
-            } => do_command(self, desk, domain, workflow, command),
-            Job::Arrive { message } => do_arrive(self, desk, message),
-            Job::Reapply => do_reapply(self, desk),
-            Job::Reset {
-                domain,
-                workflow,
-                event,
-            } => do_reset(self, desk, domain, workflow, *event),
-        }
+/// Does a job, as the cell that the shard is seen as does it.
+pub(crate) fn do_job(shard: &mut Shard, desk: &Desk, job: &Job) -> Result<JobReply, AllocError>
+    requires { IsAllowed desk.now job.now shard.old }
+    ensures cell { OnOk result (shard.new ≡ after_job desk.now job.now shard.old) }
+    ensures reply { IfOk result (λ reply. reply ≡ reply_to desk.now job.now shard.old) }
+{
+    match job {
+        Job::Command {
+            domain,
+            workflow,
+            command,
+        } => do_command(shard, desk, domain, workflow, command),
+        Job::Arrive { message } => do_arrive(shard, desk, message),
+        Job::Reapply => do_reapply(shard, desk),
+        Job::Reset {
+            domain,
+            workflow,
+            event,
+        } => do_reset(shard, desk, domain, workflow, *event),
     }
 }
 
@@ -57,7 +54,7 @@ fn do_command(
     ensures reply { IfOk result (λ reply. reply ≡ reply_to desk.now (Commanded domain.now workflow.now command.now) shard.old) }
 {
     let mut steps: Steps<Jobs> = Steps::new();
-    let written = shard.command(desk, domain, workflow, command, &mut steps);
+    let written = shard.write_command(desk, domain, workflow, command, &mut steps);
     let reply = written_reply(shard.alloc(), written)?;
     Ok(reply)
 }
@@ -70,7 +67,7 @@ fn do_arrive(shard: &mut Shard, desk: &Desk, message: &Message) -> Result<JobRep
     ensures reply { IfOk result (λ reply. reply ≡ reply_to desk.now (Arrive message.now) shard.old) }
 {
     let mut steps: Steps<Jobs> = Steps::new();
-    let arrival = shard.arrive(message.try_copy()?, &mut steps)?;
+    let arrival = shard.take_in(message.try_copy()?, &mut steps)?;
     let Arrival { outcome, learned } = arrival;
     Ok(JobReply {
         outcome: Outcome::Arrived(outcome),
@@ -86,7 +83,7 @@ fn do_reapply(shard: &mut Shard, desk: &Desk) -> Result<JobReply, AllocError>
     ensures reply { IfOk result (λ reply. reply ≡ reply_to desk.now Reapply shard.old) }
 {
     let mut steps: Steps<Jobs> = Steps::new();
-    let learned = shard.reapply(desk, &mut steps)?;
+    let learned = shard.apply_again(desk, &mut steps)?;
     let count = learned.as_slice().len() as u64;
     Ok(JobReply {
         outcome: Outcome::Reapplied { count },
@@ -107,7 +104,7 @@ fn do_reset(
     ensures reply { IfOk result (λ reply. reply ≡ reply_to desk.now (Reset domain.now workflow.now event) shard.old) }
 {
     let mut steps: Steps<Jobs> = Steps::new();
-    let written = shard.reset(desk, domain, workflow, event, &mut steps);
+    let written = shard.write_reset(desk, domain, workflow, event, &mut steps);
     let reply = written_reply(shard.alloc(), written)?;
     Ok(reply)
 }

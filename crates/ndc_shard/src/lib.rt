@@ -2,13 +2,16 @@
 #![tactic(auto)]
 
 mod asking;
+mod calls;
+mod cell;
+mod error;
 mod jobs;
 mod lacking;
-mod reading;
 mod shard;
 mod showing;
-mod writing;
 
+pub use error::ShardError;
+pub use ndc_cluster_rounds::Home;
 pub use ndc_model_cells::{Arrived, Job, JobReply, Keys, Outcome, ShardJob, Written, shard_of};
 pub use ndc_model_sets::{Batches, BranchView, BranchViews, RunStatus, RunView, RunViews, View};
 pub use ndc_shard_gaps::GapOf;

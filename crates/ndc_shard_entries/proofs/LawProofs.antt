@@ -5,7 +5,7 @@ use Rattle.std.specs.List.{AllByRecursion}
 use Rattle.std.proofs.Math.Nat.{eq-or-lt_of_le}
 use Rattle.std.proofs.lemmas.Bool.{ltb-false}
 use Rattle.ndc_model_cells.specs.declared.message.Message.{Message}
-use Rattle.ndc_model_cells.specs.Writing.{Entry, Home, alone, batch_below, carried_by, command_entries, entry_of, first_batch, goes_on_as, greatest_task, greatest_version, is_close_full, is_writer, key_behind, may_write_by, next_key, reapplication_below, reset_below, reset_close, reset_entries, reset_refused}
+use Rattle.ndc_model_cells.specs.Writing.{Entry, Desk, alone, batch_below, carried_by, command_entries, entry_of, first_batch, goes_on_as, greatest_task, greatest_version, is_close_full, is_writer, key_behind, may_write_by, next_key, reapplication_below, reset_below, reset_close, reset_entries, reset_refused}
 use Rattle.ndc_command.specs.Laws.{begins_run}
 use Rattle.ndc_command.specs.Plan.{plan_of}
 use Rattle.ndc_command.specs.declared.command.Command.{Command}
@@ -42,7 +42,7 @@ use Rattle.ndc_shard_entries.specs.Written.{AreWrittenTo, IsSecond, IsWrittenTo}
 use Rattle.ndc_shard_entries.proofs.NewRunLemmas.{no-part}
 
 -- the version with which a cluster may write is not behind
-pub writes_ahead : (home : Home) (one : Option DomainRecord) (batches : List Batch) → IfOk (may_write_by home one batches) (λ version. greatest_version batches ≤ version)
+pub writes_ahead : (home : Desk) (one : Option DomainRecord) (batches : List Batch) → IfOk (may_write_by home one batches) (λ version. greatest_version batches ≤ version)
 writes_ahead home None batches = tt
 writes_ahead home (Some one) batches = by (is_writer home.me (writer_of home.clusters one.version)) (nat_lt one.version (greatest_version batches)) refl
   where

@@ -6,11 +6,11 @@ use Rattle.ndc_domain.specs.Clusters.{writer_of}
 use Rattle.ndc_domain.specs.declared.record.DomainRecord.{DomainRecord}
 use Rattle.ndc_event.specs.Outcome.{◌>>=◌}
 use Rattle.ndc_event.specs.declared.batch.Batch.{Batch}
-use Rattle.ndc_model_cells.specs.Writing.{Home, is_writer, may_write_by}
+use Rattle.ndc_model_cells.specs.Writing.{Desk, is_writer, may_write_by}
 use Rattle.ndc_shard_entries.specs.Writer.{unless_behind, writes_to}
 
 -- both tests, one after the other
-pub both_tests : (home : Home) (one : Option DomainRecord) (batches : List Batch) → may_write_by home one batches ≡ (writes_to home one >>= λ version. unless_behind version batches)
+pub both_tests : (home : Desk) (one : Option DomainRecord) (batches : List Batch) → may_write_by home one batches ≡ (writes_to home one >>= λ version. unless_behind version batches)
 both_tests home None batches = refl
 both_tests home (Some one) batches = by (not (is_writer home.me (writer_of home.clusters one.version))) refl
   where

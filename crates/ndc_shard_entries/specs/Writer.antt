@@ -5,10 +5,10 @@ use Rattle.ndc_command.specs.declared.refusal.Refusal.TheVariants as refusal
 use Rattle.ndc_domain.specs.Clusters.{writer_of}
 use Rattle.ndc_domain.specs.declared.record.DomainRecord.{DomainRecord}
 use Rattle.ndc_event.specs.declared.batch.Batch.{Batch}
-use Rattle.ndc_model_cells.specs.Writing.{Home, greatest_version, is_writer}
+use Rattle.ndc_model_cells.specs.Writing.{Desk, greatest_version, is_writer}
 
 -- the version with which a cluster writes to a domain: that of its record, where it is the writer of it
-abbrev pub writes_to : Home → Option DomainRecord → Result ℕ Refusal
+abbrev pub writes_to : Desk → Option DomainRecord → Result ℕ Refusal
 writes_to home None = Err refusal.UnknownDomain
 writes_to home (Some one) = if not (is_writer home.me (writer_of home.clusters one.version)) then Err (refusal.NotActive one.version) else Ok one.version
 

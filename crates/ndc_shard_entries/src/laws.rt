@@ -1,7 +1,7 @@
 //! Laws of what is written. The functions do nothing: what each ensures is the law.
 ghost use Rattle.std.specs.Prelude.{◌≡◌, ◌≤◌, ◌+◌, ◌^◌, ℕ, List, [], length, Option, None, Some, IfOk, IfSome};
 ghost use Rattle.std.specs.List.{AllByRecursion};
-ghost use Rattle.ndc_model_cells.specs.Writing.{Entry, Home, command_entries, greatest_task, greatest_version, may_write_by, reapplication_below, reset_below, state_under};
+ghost use Rattle.ndc_model_cells.specs.Writing.{Entry, Desk, command_entries, greatest_task, greatest_version, may_write_by, reapplication_below, reset_below, state_under};
 ghost use Rattle.ndc_model_cells.specs.declared.message.Message.{Message};
 ghost use Rattle.ndc_command.specs.declared.command.Command.{Command as Asked};
 ghost use Rattle.ndc_domain.specs.declared.record.DomainRecord.{DomainRecord as RecordValue};
@@ -17,7 +17,7 @@ ghost use Rattle.ndc_model_cells.specs.Messages.{IsMessage, IsNewTo};
 
 /// The version with which a cluster may write is not below any that it has learned.
 pub fn a_writer_is_not_behind()
-    ensures { (home : Home) (one : Option RecordValue) (batches : List Batch) → IfOk (may_write_by home one batches) (λ version. greatest_version batches ≤ version) }
+    ensures { (home : Desk) (one : Option RecordValue) (batches : List Batch) → IfOk (may_write_by home one batches) (λ version. greatest_version batches ≤ version) }
 {}
 
 /// With a version that is not below any learned one, what a command, a reset or a reapplication writes is of its

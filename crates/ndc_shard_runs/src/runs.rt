@@ -3,12 +3,12 @@ ghost use Rattle.ndc_event.specs.Key.{key_lt};
 ghost use Rattle.std.specs.Option.{option_copied, option_map};
 ghost use Rattle.ndc_shard_runs.specs.Kept.{is_ahead, is_open};
 ghost use Rattle.ndc_model_sets.specs.Current.{current_state};
-ghost use Rattle.ndc_model_sets.specs.Keys.{is_key};
 ghost use Rattle.ndc_shard_runs.specs.RunMap.{run_at};
 
 use crate::index::RunIndex;
 use crate::kept::{Kept, has_no_signal};
 use ndc_event::{Batch, BatchKey, RunId};
+use ndc_model_sets::is_key;
 use ndc_reapply::Stray;
 use ndc_run::Run;
 use ndc_state::{State, Steps};
@@ -345,16 +345,6 @@ fn is_run_open(run: Option<&Run>) -> bool
     match run {
         None => false,
         Some(run) => run.state().is_running(),
-    }
-}
-
-/// Whether the key is this one, where there is one.
-pub(crate) fn is_key(key: BatchKey, other: Option<BatchKey>) -> bool
-    ensures { result ≡ is_key key other }
-{
-    match other {
-        None => false,
-        Some(other) => key.version == other.version && key.task == other.task,
     }
 }
 

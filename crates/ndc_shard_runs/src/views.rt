@@ -3,10 +3,10 @@ ghost use Rattle.ndc_shard_runs.specs.View.{branch_with, run_with};
 ghost use Rattle.ndc_model_sets.specs.Keys.{is_key_among};
 ghost use Rattle.ndc_tree.specs.Tips.{tip_keys};
 
-use crate::runs::{Runs, is_key};
+use crate::runs::Runs;
 use ndc_current::status;
 use ndc_event::{Batch, BatchKey};
-use ndc_model_sets::{Batches, BranchView, BranchViews, RunView, RunViews, View};
+use ndc_model_sets::{Batches, BranchView, BranchViews, RunView, RunViews, View, is_key};
 use ndc_run::Run;
 use ndc_state::Steps;
 use std::alloc::{AllocError, Global};

@@ -10,6 +10,7 @@ use crate::links::Links;
 use crate::messages::Messages;
 use ndc_event::{Batch, BatchKey};
 use ndc_model_cells::Message;
+use ndc_model_sets::earlier_key;
 use std::alloc::{AllocError, Global};
 use std::marker::Model;
 
@@ -39,16 +40,6 @@ impl Drop for Shelf {
             messages: _messages,
             links: _links,
         } = self;
-    }
-}
-
-/// The key for which the batch waits, where it waits.
-pub(crate) fn earlier_key(batch: &Batch) -> Option<BatchKey>
-    ensures { result ≡ earlier batch.now }
-{
-    match batch.parent {
-        Some(parent) => Some(parent),
-        None => batch.carrier,
     }
 }
 

@@ -6,10 +6,11 @@ ghost use Rattle.ndc_model_sets.specs.Sets.{batch_at};
 ghost use Rattle.ndc_shard_waiting.specs.Shortcuts.{shortcut_at, missed_by};
 ghost use Rattle.ndc_model_cells.specs.Messages.{batches_of};
 
-use crate::shelf::{Shelf, earlier_key};
+use crate::shelf::Shelf;
 use crate::shortcuts::Shortcuts;
 use ndc_event::{Batch, BatchKey};
 use ndc_model_cells::Message;
+use ndc_model_sets::earlier_key;
 use std::alloc::{AllocError, Global};
 use std::marker::Model;
 

@@ -3,7 +3,7 @@ use Rattle.std.proofs.Common.{◌≡◌, ℕ, Bool, true, false, not, ◌&&◌, 
 use Rattle.std.specs.List.{AllByRecursion, filter}
 use Rattle.ndc_model_cells.specs.Cells.{Cell, learned_of}
 use Rattle.ndc_model_cells.specs.Jobs.{all_batches}
-use Rattle.ndc_model_cells.specs.Writing.{Entry, Home, alone, batch_below, may_write, next_key, reapplication_below, reapplication_by, reapplication_of, state_under, with_all_written}
+use Rattle.ndc_model_cells.specs.Writing.{Entry, Desk, alone, batch_below, may_write, next_key, reapplication_below, reapplication_by, reapplication_of, state_under, with_all_written}
 use Rattle.ndc_model_cells.proofs.CellLemmas.{others_learned}
 use Rattle.ndc_command.specs.declared.refusal.Refusal.{Refusal}
 use Rattle.ndc_event.specs.declared.batch.Batch.{Batch}
@@ -30,7 +30,7 @@ AreApart (one ∷ list) = AllByRecursion (λ other. is_named other.0 other.1 one
 abbrev pub AreSame : Cell → Cell → List (Name × Name) → Type 0
 AreSame first cell list = AllByRecursion (λ names. learned_of names.0 names.1 cell ≡ learned_of names.0 names.1 first) list
 
-module _ (home : Home) where
+module _ (home : Desk) where
   module _ (one : Name × Name) (cell : Cell) where
     abbrev batches : List Batch
     batches = learned_of one.0 one.1 cell

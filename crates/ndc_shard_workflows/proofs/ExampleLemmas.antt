@@ -25,7 +25,7 @@ first-written b cell e f =
 second-may : MayArrive second_sent empty_cell
 unfolding arrived_at after_arrival
 second-may = let may = workflow.second-arrives second_sent empty_workflow refl refl in
-    record { message = may.message; own = tt; new = may.fresh; sound = may.sound; ids = may.small }
+    record { message = may.message; lone = refl; own = tt; new = may.fresh; sound = may.sound; ids = may.small }
 
 pub second-arrives : (sent : Message) (cell : Cell) → sent ≡ second_sent → cell ≡ empty_cell → MayArrive sent cell
 second-arrives sent cell e f = subst (MayArrive sent) (sym f) (subst (λ (m : Message). MayArrive m empty_cell) (sym e) second-may)

@@ -11,7 +11,7 @@ use Rattle.std.proofs.lemmas.Slice.Eq.{bytes_eq-Decides}
 use Rattle.ndc_model_cells.specs.Cells.{Cell, learned_of}
 use Rattle.ndc_model_cells.specs.Jobs.{reapplied_in, reapplied_now, workflows_of, all_batches}
 use Rattle.ndc_model_cells.specs.Places.{AreBehind, AreInOrder, is_of, place_lt, place_of}
-use Rattle.ndc_model_cells.specs.Writing.{Home, reapplication_of}
+use Rattle.ndc_model_cells.specs.Writing.{Desk, reapplication_of}
 use Rattle.ndc_model_cells.proofs.PlaceLemmas.{place-parts, PlaceIsBefore}
 use Rattle.ndc_domain.specs.Records.{names_cmp}
 use Rattle.ndc_domain.proofs.Order.{names_same}
@@ -147,7 +147,7 @@ all-same : (cell : Cell) (list : List (Name × Name)) → AreSame cell cell list
 all-same cell [] = tt
 all-same cell (one ∷ list) = (refl, all-same cell list)
 
-module _ (home : Home) where
+module _ (home : Desk) where
   reapplied-as : (bs : List Batch) (cell : Cell) → reapplied_in home bs cell ≡ reapplied_among home (all_names bs) cell
   reapplied-as [] cell = refl
   reapplied-as (b ∷ bs) cell = reapplied-as bs (reapplied_at home (names_in b) cell)

@@ -2,27 +2,27 @@
 use Rattle.std.specs.Prelude.{List, [], ◌∷◌, ◌++◌}
 use Rattle.ndc_model_cells.specs.Cells.{Cell, learned_of}
 use Rattle.ndc_model_cells.specs.Jobs.{all_batches}
-use Rattle.ndc_model_cells.specs.Writing.{Home, reapplication_of, with_all_written}
+use Rattle.ndc_model_cells.specs.Writing.{Desk, reapplication_of, with_all_written}
 use Rattle.ndc_event.specs.declared.batch.Batch.{Batch}
 use Rattle.ndc_event.specs.declared.name.Name.{Name}
 use Rattle.ndc_model_cells.specs.Allowed.{HasRoom, MayWriteAll}
 
 -- the cell behind reapplication in a workflow
-abbrev pub reapplied_at : Home → Name × Name → Cell → Cell
+abbrev pub reapplied_at : Desk → Name × Name → Cell → Cell
 reapplied_at home names cell = with_all_written (reapplication_of home names.0 names.1 cell) cell
 
 -- the cell behind reapplication in these workflows, in order
-abbrev pub reapplied_among : Home → List (Name × Name) → Cell → Cell
+abbrev pub reapplied_among : Desk → List (Name × Name) → Cell → Cell
 reapplied_among home [] cell = cell
 reapplied_among home (names ∷ list) cell = reapplied_among home list (reapplied_at home names cell)
 
 -- what reapplication in these workflows writes, in order
-abbrev pub written_among : Home → List (Name × Name) → Cell → List Batch
+abbrev pub written_among : Desk → List (Name × Name) → Cell → List Batch
 written_among home [] cell = []
 written_among home (names ∷ list) cell = all_batches (reapplication_of home names.0 names.1 cell) ++ written_among home list (reapplied_at home names cell)
 
 -- strays may be applied again in these workflows, in order
-abbrev pub MayReapplyAmong : Home → List (Name × Name) → Cell → Type 0
+abbrev pub MayReapplyAmong : Desk → List (Name × Name) → Cell → Type 0
 MayReapplyAmong home [] cell = Unit {0}
 MayReapplyAmong home (names ∷ list) cell =
     HasRoom (learned_of names.0 names.1 cell) × MayWriteAll names.0 names.1 (reapplication_of home names.0 names.1 cell) cell × MayReapplyAmong home list (reapplied_at home names cell)

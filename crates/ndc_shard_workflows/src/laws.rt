@@ -3,7 +3,7 @@ ghost use Rattle.std.specs.Prelude.{◌≡◌, false, List, []};
 ghost use Rattle.ndc_model_cells.specs.Cells.{Cell, learned_of};
 ghost use Rattle.ndc_model_cells.specs.Jobs.{reapplied_in, reapplied_now, workflows_of};
 ghost use Rattle.ndc_model_cells.specs.Places.{AreInOrder};
-ghost use Rattle.ndc_model_cells.specs.Writing.{Home, reapplication_of};
+ghost use Rattle.ndc_model_cells.specs.Writing.{Desk, reapplication_of};
 ghost use Rattle.ndc_event.specs.declared.name.Name.{Name as Text};
 ghost use Rattle.ndc_shard_runs.specs.Kept.{is_due};
 ghost use Rattle.ndc_model_cells.specs.Allowed.{MayReapply};
@@ -12,14 +12,14 @@ ghost use Rattle.ndc_shard_workflows.specs.Reapplied.{reapplied_at, reapplied_am
 
 /// Where reapplication is not due in a workflow, it writes nothing there; and it leaves what is learned of all others.
 pub fn reapplication_concerns_one_workflow()
-    ensures nothing { (home : Home) (names : Text × Text) (cell : Cell) → is_due (learned_of names.0 names.1 cell) ≡ false → reapplication_of home names.0 names.1 cell ≡ [] }
-    ensures others { (home : Home) (names : Text × Text) (cell : Cell) (domain workflow : Text) → is_named domain workflow names ≡ false → learned_of domain workflow (reapplied_at home names cell) ≡ learned_of domain workflow cell }
+    ensures nothing { (home : Desk) (names : Text × Text) (cell : Cell) → is_due (learned_of names.0 names.1 cell) ≡ false → reapplication_of home names.0 names.1 cell ≡ [] }
+    ensures others { (home : Desk) (names : Text × Text) (cell : Cell) (domain workflow : Text) → is_named domain workflow names ≡ false → learned_of domain workflow (reapplied_at home names cell) ≡ learned_of domain workflow cell }
 {}
 
 /// Reapplication in all workflows of a cell is that in a list, in order, of all in which it is due: it comes to the same
 /// cell, writes the same, and may be done where that may be done.
 pub fn reapplication_is_done_where_it_is_due()
-    ensures cell { (home : Home) (list : List (Text × Text)) (cell : Cell) → AreInOrder cell.arrived → AreDue list cell → reapplied_among home list cell ≡ reapplied_in home (workflows_of cell.arrived) cell }
-    ensures batches { (home : Home) (list : List (Text × Text)) (cell : Cell) → AreInOrder cell.arrived → AreDue list cell → written_among home list cell ≡ reapplied_now home (workflows_of cell.arrived) cell }
-    ensures may { (home : Home) (list : List (Text × Text)) (cell : Cell) → AreInOrder cell.arrived → AreDue list cell → MayReapply home (workflows_of cell.arrived) cell → MayReapplyAmong home list cell }
+    ensures cell { (home : Desk) (list : List (Text × Text)) (cell : Cell) → AreInOrder cell.arrived → AreDue list cell → reapplied_among home list cell ≡ reapplied_in home (workflows_of cell.arrived) cell }
+    ensures batches { (home : Desk) (list : List (Text × Text)) (cell : Cell) → AreInOrder cell.arrived → AreDue list cell → written_among home list cell ≡ reapplied_now home (workflows_of cell.arrived) cell }
+    ensures may { (home : Desk) (list : List (Text × Text)) (cell : Cell) → AreInOrder cell.arrived → AreDue list cell → MayReapply home (workflows_of cell.arrived) cell → MayReapplyAmong home list cell }
 {}

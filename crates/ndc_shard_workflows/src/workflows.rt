@@ -83,6 +83,13 @@ impl Workflows {
         }
     }
 
+    /// The cell is in order. Takes no time.
+    pub fn is_in_order(&self)
+        ensures { IsCell self.now }
+    {
+        self.domains.is_in_order();
+    }
+
     /// The workflow of these names. There is none only where nothing of it has arrived. In the logarithm of the domains and
     /// of the domain's workflows. What is learned of it is sound, and the cell is in order.
     pub fn find(&self, domain: &Name, workflow: &Name) -> Option<&Workflow>

@@ -1,4 +1,5 @@
 pub mod PlaceLemmas
+pub mod RemovedLemmas
 pub mod TextLemmas
 pub mod RowLemmas
 pub mod ReplayLemmas

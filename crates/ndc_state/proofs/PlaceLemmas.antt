@@ -1,14 +1,14 @@
 -- What is pending, started at a place and taken back.
-use Rattle.std.proofs.Common.{◌≡◌, ℕ, zero, suc, ◌<◌, Bool, true, false, cond, is_none, List, [], ◌∷◌, ◌++◌, length, take, get_or, Option, None, Some, slice_get, IsTrue, if◌then◌else◌, refl, ap, sym, subst, ◌∙◌, arith}
+use Rattle.std.proofs.Common.{◌≡◌, ℕ, zero, suc, ◌<◌, Bool, true, false, cond, is_none, List, [], ◌∷◌, ◌++◌, length, take, get_or, Option, None, Some, slice_get, IsTrue, if◌then◌else◌, refl, ap, sym, ◌∙◌, arith}
 use Rattle.std.specs.List.{position}
-use Rattle.std.specs.Map.{keys_of, values_of, remove_entry}
-use Rattle.std.proofs.lemmas.List.{take-append-le}
+use Rattle.std.specs.Map.{keys_of, values_of}
+use Rattle.std.proofs.lemmas.List.{take-append-le, length-append}
 use Rattle.std.proofs.lemmas.List.Quantifiers.{position-Some}
 use Rattle.indexmap.specs.IndexMap.{IndexMap, set_value_at}
 use Rattle.ndc_event.specs.declared.name.Name.{Name}
 use Rattle.ndc_state.specs.declared.pendings.Pending.{Pending}
 use Rattle.ndc_state.specs.Pendings.{same_name, pending_of, started_by, with_started, without, unstarted_at, unstarted, is_waiting}
-use Rattle.ndc_state.specs.Places.{marked_of, IsCountWithin}
+use Rattle.ndc_state.specs.Places.{marked_of, IsCountWithin, IsKeptAs}
 
 -- a write of a pending that is not started takes the place back
 pub unstarted_at_write : (es : List (Name × Pending)) (i : ℕ) (p : Pending) → slice_get (values_of es) i ≡ Some p
@@ -78,7 +78,7 @@ length-write (e ∷ es) zero p = refl
 length-write (e ∷ es) (suc i) p = ap suc (length-write es i p)
 
 -- where a name is not pending, nothing goes with it
-without-absent : (name : Name) (es : List (Name × Pending)) → pending_of name es ≡ None → without name es ≡ es
+pub without-absent : (name : Name) (es : List (Name × Pending)) → pending_of name es ≡ None → without name es ≡ es
 without-absent name [] h = refl
 without-absent name (e ∷ es) h = by (same_name name e.0) h (without-absent name es)
   where
@@ -86,19 +86,6 @@ without-absent name (e ∷ es) h = by (same_name name e.0) h (without-absent nam
         → (if b then without name es else e ∷ without name es) ≡ e ∷ es
     by true h rest = absurd (cc)
     by false h rest = ap (λ l. e ∷ l) (rest h)
-
--- where a name is not pending behind the removal of its first entry, that entry was all that stood under it
-pub without_first : (name : Name) (es : List (Name × Pending)) → pending_of name (remove_entry (same_name name) es) ≡ None
-    → remove_entry (same_name name) es ≡ without name es
-without_first name [] h = refl
-without_first name (e ∷ es) h = by (same_name name e.0) refl h (without_first name es)
-  where
-    by : (b : Bool) → same_name name e.0 ≡ b → pending_of name (cond b es (e ∷ remove_entry (same_name name) es)) ≡ None
-        → (pending_of name (remove_entry (same_name name) es) ≡ None → remove_entry (same_name name) es ≡ without name es)
-        → cond b es (e ∷ remove_entry (same_name name) es) ≡ (if b then without name es else e ∷ without name es)
-    by true is h rest = sym (without-absent name es h)
-    by false is h rest =
-        ap (λ l. e ∷ l) (rest (subst (λ t. cond t (Some e.1) (pending_of name (remove_entry (same_name name) es)) ≡ None) is h))
 
 module _ {S : Type 0} where
   -- a start leaves the mark
@@ -119,3 +106,17 @@ module _ {S : Type 0} where
       → IsCountWithin kept count es → marked_of kept count places (es ++ e ∷ []) ≡ marked_of kept count places es
   marked_of-scheduled None count places es e h = ap (unstarted places) (take-append-le count es (e ∷ []) h)
   marked_of-scheduled (Some kept) count places es e h = refl
+
+  pub IsCountWithin-scheduled : (kept : Option (IndexMap Name Pending S)) (count : ℕ) (es : List (Name × Pending)) (e : Name × Pending)
+      → IsCountWithin kept count es → IsCountWithin kept count (es ++ e ∷ [])
+  IsCountWithin-scheduled None count es e h = omega (arith, h, length-append es (e ∷ []))
+  IsCountWithin-scheduled (Some kept) count es e h = tt
+
+  -- where the entries at the mark are kept, they are those of the mark whatever stands there now
+  pub marked_of_kept : (kept : Option (IndexMap Name Pending S)) (count : ℕ) (places : List ℕ) (es marked : List (Name × Pending)) → IsKeptAs kept marked → marked_of kept count places es ≡ marked
+  marked_of_kept None count places es marked h = absurd h
+  marked_of_kept (Some kept) count places es marked h = h
+
+  pub within_kept : (kept : Option (IndexMap Name Pending S)) (count : ℕ) (es marked : List (Name × Pending)) → IsKeptAs kept marked → IsCountWithin kept count es
+  within_kept None count es marked h = absurd h
+  within_kept (Some kept) count es marked h = tt

@@ -1,7 +1,8 @@
 -- What is pending by name, in the order of scheduling.
-use Rattle.std.specs.Prelude.{ℕ, zero, suc, Bool, false, is_some, is_none, nat_eq, List, [], ◌∷◌, ◌++◌, Option, Some, None, if◌then◌else◌, take}
+use Rattle.std.specs.Prelude.{ℕ, zero, suc, Bool, false, not, is_some, is_none, nat_eq, List, [], ◌∷◌, ◌++◌, Option, Some, None, if◌then◌else◌, drop, take}
 use Rattle.std.specs.Cmp.Lexicographic.{pointwise}
-use Rattle.std.specs.Map.{lookup}
+use Rattle.std.specs.List.{filter, list_any}
+use Rattle.std.specs.Map.{lookup, values_of}
 use Rattle.ndc_event.specs.declared.name.Name.{Name}
 use Rattle.ndc_state.specs.declared.pendings.Pending.{Pending}
 
@@ -45,6 +46,18 @@ with_started name id (entry ∷ entries) =
 abbrev pub without : Name → List (Name × Pending) → List (Name × Pending)
 without name [] = []
 without name (entry ∷ entries) = if same_name name entry.0 then without name entries else entry ∷ without name entries
+
+-- whether the name is one of these
+abbrev pub is_gone : List Name → Name → Bool
+is_gone names name = list_any (same_name name) names
+
+-- what stands under none of these names, in order
+abbrev pub remaining : List Name → List (Name × Pending) → List (Name × Pending)
+remaining names entries = filter (λ entry. not (is_gone names entry.0)) entries
+
+-- the same of the entries from a place on, without the names
+abbrev pub values_from : ℕ → List Name → List (Name × Pending) → List Pending
+values_from place names entries = values_of (remaining names (drop place entries))
 
 -- the entry at a place is not started
 abbrev pub unstarted_at : ℕ → List (Name × Pending) → List (Name × Pending)

@@ -1,8 +1,12 @@
-ghost use Rattle.std.specs.Prelude.{◌≡◌};
-ghost use Rattle.ndc_state.specs.Pendings.{gone_back, unstarted_at};
+ghost use Rattle.std.specs.Prelude.{◌≡◌, false, OnOk, OnErr};
+ghost use Rattle.ndc_state.specs.Pendings.{gone_back, is_gone, remaining, unstarted_at};
+ghost use Rattle.ndc_state.specs.Places.{marked_of, IsCountWithin, IsKeptAs};
 
 use crate::pendings::Pending;
-use indexmap::IndexMap;
+use crate::removed::{
+    copy_remaining, forget, is_gone, keep_remaining, remaining_at, remaining_len,
+};
+use indexmap::{IndexMap, IndexSet};
 use ndc_event::Name;
 use std::alloc::{AllocError, Global};
 use std::marker::Model;
@@ -16,7 +20,9 @@ pub(crate) struct Held {
     count: usize,
     /// The places of the entries that were started since.
     started: Vec<usize>,
-    /// The entries at the mark, from the first removal since on.
+    /// The names that were taken out since; their entries go at the next mark.
+    removed: IndexSet<Name>,
+    /// The entries at the mark, from when a name came again that had been taken out since.
     kept: Option<IndexMap<Name, Pending>>,
 }
 
@@ -55,6 +61,51 @@ fn go_back(entries: &mut IndexMap<Name, Pending>, count: usize, places: &[usize]
     }
 }
 
+/// Keeps the entries as they were at the mark, where they are not kept.
+fn keep(
+    kept: &mut Option<IndexMap<Name, Pending>>,
+    entries: &IndexMap<Name, Pending>,
+    count: usize,
+    started: &[usize],
+) -> Result<(), AllocError>
+    ensures ok { OnOk result (IsKeptAs kept.new (marked_of kept.old count started.now entries.now.entries)) }
+    ensures err { OnErr result (kept.new ≡ kept.old) }
+{
+    if kept.is_some() {
+        return Ok(());
+    }
+    let mut copy = entries.clone()?;
+    go_back(&mut copy, count, started);
+    *kept = Some(copy);
+    Ok(())
+}
+
+/// Sees to it that a name can go last: where it was taken out since the mark, the entries at the mark are kept, and what was
+/// taken out goes.
+#[tactic(auto, using(crate::proofs::RemovedLemmas::remaining_nothing, crate::proofs::PlaceLemmas::marked_of_kept, crate::proofs::PlaceLemmas::within_kept))]
+fn make_way(
+    entries: &mut IndexMap<Name, Pending>,
+    removed: &mut IndexSet<Name>,
+    kept: &mut Option<IndexMap<Name, Pending>>,
+    count: usize,
+    started: &[usize],
+    name: &Name,
+) -> Result<(), AllocError>
+    requires { IsCountWithin kept.old count entries.old.entries }
+    ensures current { remaining removed.new.keys entries.new.entries ≡ remaining removed.old.keys entries.old.entries }
+    ensures marked { marked_of kept.new count started.now entries.new.entries ≡ marked_of kept.old count started.now entries.old.entries }
+    ensures within { IsCountWithin kept.new count entries.new.entries }
+    ensures ok { OnOk result (is_gone removed.new.keys name.now ≡ false) }
+{
+    if !is_gone(removed, name) {
+        return Ok(());
+    }
+    keep(kept, entries, count, started)?;
+    keep_remaining(entries, removed);
+    forget(removed);
+    Ok(())
+}
+
 impl Held {
     ghost use Rattle.std.specs.Prelude.{◌≡◌, [], IsTrue, None, not, is_some, OnOk, OnErr, IfOk, length, slice_get};
     ghost use Rattle.std.specs.Map.{values_of};
@@ -69,14 +120,19 @@ impl Held {
             entries: IndexMap::new(alloc),
             count: 0,
             started: Vec::new(alloc),
+            removed: IndexSet::new(alloc),
             kept: None,
         }
     }
 
     /// What is pending under the name.
+    #[tactic(auto, using(crate::proofs::RemovedLemmas::gone_remaining, crate::proofs::RemovedLemmas::found_remaining))]
     pub(crate) fn get(&self, name: &Name) -> Option<Pending>
         ensures { result ≡ pending_of name.now self.now.current }
     {
+        if is_gone(&self.removed, name) {
+            return None;
+        }
         self.entries.get(name).copied()
     }
 
@@ -87,6 +143,14 @@ impl Held {
         ensures marked { self.new.marked ≡ self.old.marked }
         ensures err { OnErr result (self.new ≡ self.old) }
     {
+        make_way(
+            &mut self.entries,
+            &mut self.removed,
+            &mut self.kept,
+            self.count,
+            self.started.as_slice(),
+            &name,
+        )?;
         self.entries.insert(
             name,
             Pending {
@@ -112,33 +176,32 @@ impl Held {
         Ok(())
     }
 
-    /// Takes the name out.
-    #[tactic(auto, using(crate::proofs::PlaceLemmas::without_first))]
+    /// Takes the name out. Its entry stays until the next mark.
+    #[tactic(auto, using(crate::proofs::RemovedLemmas::remaining_taken))]
     pub(crate) fn remove(&mut self, name: &Name) -> Result<(), AllocError>
         ensures current { OnOk result (self.new.current ≡ without name.now self.old.current) }
         ensures marked { self.new.marked ≡ self.old.marked }
         ensures err { OnErr result (self.new ≡ self.old) }
     {
-        if self.kept.is_none() {
-            let mut kept = self.entries.clone()?;
-            go_back(&mut kept, self.count, self.started.as_slice());
-            self.kept = Some(kept);
-        }
-        self.entries.shift_remove(name);
+        self.removed.insert(name.try_copy()?)?;
         Ok(())
     }
 
     /// Makes what is pending now the mark.
+    #[tactic(auto, using(crate::proofs::RemovedLemmas::remaining_nothing))]
     pub(crate) fn mark(&mut self)
         ensures current { self.new.current ≡ self.old.current }
         ensures marked { self.new.marked ≡ self.old.current }
     {
+        keep_remaining(&mut self.entries, &self.removed);
         self.count = self.entries.len();
         self.started.clear();
+        forget(&mut self.removed);
         self.kept = None;
     }
 
     /// Goes back to the mark.
+    #[tactic(auto, using(crate::proofs::RemovedLemmas::remaining_nothing))]
     pub(crate) fn revert(&mut self)
         ensures current { self.new.current ≡ self.old.marked }
         ensures marked { self.new.marked ≡ self.old.marked }
@@ -149,33 +212,36 @@ impl Held {
         }
         self.count = self.entries.len();
         self.started.clear();
+        forget(&mut self.removed);
     }
 
     /// How many names are pending.
     pub(crate) fn len(&self) -> usize
         ensures { result ≡ length self.now.current }
     {
-        self.entries.len()
+        remaining_len(&self.entries, &self.removed)
     }
 
     /// What is pending at a place in the order of scheduling.
     pub(crate) fn at(&self, place: usize) -> Option<Pending>
         ensures { result ≡ slice_get (values_of self.now.current) place }
     {
-        let (_, pending) = self.entries.get_index(place)?;
-        Some(*pending)
+        remaining_at(&self.entries, &self.removed, place)
     }
 
     /// The same names, pending as they are now.
+    #[tactic(auto, using(crate::proofs::RemovedLemmas::remaining_nothing))]
     pub(crate) fn try_copy(&self) -> Result<Held, AllocError>
         ensures { IfOk result (λ copy. copy.current ≡ self.now.current) }
     {
-        let entries = self.entries.clone()?;
+        let entries = copy_remaining(&self.entries, &self.removed)?;
         let count = entries.len();
+        let alloc = *self.entries.allocator();
         Ok(Held {
             entries,
             count,
-            started: Vec::new(*self.entries.allocator()),
+            started: Vec::new(alloc),
+            removed: IndexSet::new(alloc),
             kept: None,
         })
     }

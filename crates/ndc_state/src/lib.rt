@@ -6,6 +6,7 @@ pub mod laws;
 mod listed;
 mod origins;
 mod pendings;
+mod removed;
 mod rule;
 mod state;
 mod steps;

@@ -58,9 +58,8 @@ impl State {
         ensures err { OnErr result (self.new ≡ self.old) }
         ensures steps { steps.new ≡ (if is_ok result then counted steps.old 1 else steps.old) }
     {
-        self.tracked.step(event)?;
+        self.tracked.apply(event, steps)?;
         self.tracked.mark();
-        steps.count();
         Ok(())
     }
 

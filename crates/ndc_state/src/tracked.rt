@@ -117,7 +117,7 @@ fn is_alone(state: &Tracked, event: &Event) -> bool
 }
 
 impl Tracked {
-    ghost use Rattle.std.specs.Prelude.{◌≡◌, ◌≢◌, ◌≤◌, ◌^◌, [], length, All, None, Err, OnOk, OnErr, IfOk};
+    ghost use Rattle.std.specs.Prelude.{◌≡◌, ◌≢◌, ◌≤◌, ◌^◌, [], length, All, None, Err, OnOk, OnErr, IfOk, is_ok, if◌then◌else◌};
     ghost use Rattle.ndc_event.specs.Outcome.{Gives};
     ghost use Rattle.ndc_state.specs.declared.rule.StateError.TheVariants.{Memory};
     ghost use Rattle.ndc_state.specs.Counted.{counted};
@@ -148,8 +148,8 @@ impl Tracked {
         }
     }
 
-    /// Makes the state now the mark.
-    pub(crate) fn mark(&mut self)
+    /// Makes the state now the mark. What was taken out since the last one goes.
+    pub fn mark(&mut self)
         ensures current { self.new.current ≡ self.old.current }
         ensures marked { self.new.marked ≡ self.old.current }
     {
@@ -375,12 +375,16 @@ impl Tracked {
         }
     }
 
-    /// Applies an event, or names the first rule that forbids it.
-    pub(crate) fn step(&mut self, event: &Event) -> Result<(), StateError>
+    /// Applies an event and counts one step, or names the first rule that forbids it. It is the one step of
+    /// [`Tracked::apply_all`] and of [`State::apply`].
+    ///
+    /// [`State::apply`]: crate::State::apply
+    pub(crate) fn apply<L>(&mut self, event: &Event, steps: &mut Steps<L>) -> Result<(), StateError>
         requires { event.now.id ≤ 10 ^ 12 }
         ensures answer { Gives Memory (λ _. self.new.current) result (applied self.old.current event.now) }
         ensures marked { self.new.marked ≡ self.old.marked }
         ensures err { OnErr result (self.new ≡ self.old) }
+        ensures steps { steps.new ≡ (if is_ok result then counted steps.old 1 else steps.old) }
     {
         if let Some(rule) = self.rule_of(event) {
             return Err(StateError::Invalid { id: event.id, rule });
@@ -388,6 +392,7 @@ impl Tracked {
         self.change(event)?;
         self.outline.next = event.id + 1;
         self.outline.version = event.version;
+        steps.count();
         Ok(())
     }
 
@@ -404,11 +409,10 @@ impl Tracked {
         ensures most_steps { CountsWithin steps.old (allowed_count self.old.current events.now) steps.new }
     {
         for event in events {
-            if let Err(error) = self.step(event) {
+            if let Err(error) = self.apply(event, steps) {
                 self.revert();
                 return Err(error);
             }
-            steps.count();
         }
         Ok(())
     }

@@ -1,5 +1,4 @@
-use ndc_cluster_links::{Learns, Writes};
-use ndc_cluster_rounds::{Desk, Works};
+use ndc_cluster_rounds::{Cell, Desk, Home};
 use ndc_domain::{ClusterNo, Clusters, DomainTable, Members};
 use ndc_event::{BatchKey, Name};
 use ndc_history::VersionHistory;
@@ -28,10 +27,7 @@ pub(crate) fn message(alloc: Global) -> Result<Message, AllocError> {
 
 /// A table with a record of alpha that names these clusters of two.
 pub(crate) fn table_naming(alloc: Global, members: &[ClusterNo]) -> Result<DomainTable, Fail> {
-    let mut names = Vec::new(alloc);
-    names.push((name(alloc, "A")?, 1))?;
-    names.push((name(alloc, "B")?, 2))?;
-    let clusters = Clusters::build(10, names)?;
+    let clusters = two_clusters(alloc)?;
     let mut table = DomainTable::new(alloc);
     let alpha = name(alloc, "alpha")?;
     let first = ClusterNo { number: 0 };
@@ -50,25 +46,29 @@ pub(crate) struct ListCell {
     pub(crate) written: Vec<Message>,
 }
 
-impl Works for ListCell {
+impl Cell for ListCell {
     ghost use Rattle.std.specs.Prelude.{[]};
 
     ghost cell = { λ list. record { arrived = []; written = list.written.items; waiting = [] } };
 
     ghost allows = { λ _ _ _. Unit {0} };
 
+    ghost may = { λ _ _ _ _. tt };
+
+    fn new(alloc: Global, _home: &Home) -> Result<ListCell, AllocError> {
+        Ok(ListCell {
+            written: Vec::new(alloc),
+        })
+    }
+
     fn do_job(&mut self, _desk: &Desk, _job: &Job) -> Result<JobReply, AllocError> {
         Err(AllocError)
     }
-}
 
-impl Learns for ListCell {
     fn has_learned(&self, _domain: &Name, _workflow: &Name, _key: BatchKey) -> bool {
         false
     }
-}
 
-impl Writes for ListCell {
     fn written_len(&self) -> u64 {
         self.written.len() as u64
     }
@@ -77,4 +77,16 @@ impl Writes for ListCell {
         let message = &self.written[place as usize];
         message.try_copy()
     }
+
+    fn learned_of(&self, alloc: Global, _domains: &[Name]) -> Result<Vec<Message>, AllocError> {
+        Ok(Vec::new(alloc))
+    }
+}
+
+/// The clusters of a header of two, A and B.
+pub(crate) fn two_clusters(alloc: Global) -> Result<Clusters, Fail> {
+    let mut names = Vec::new(alloc);
+    names.push((name(alloc, "A")?, 1))?;
+    names.push((name(alloc, "B")?, 2))?;
+    Ok(Clusters::build(10, names)?)
 }

@@ -6,6 +6,8 @@ mod again;
 #[cfg(test)]
 mod answers;
 #[cfg(test)]
+mod clusters;
+#[cfg(test)]
 mod dump;
 #[cfg(test)]
 mod given;
@@ -13,5 +15,3 @@ mod given;
 mod links;
 #[cfg(test)]
 mod network;
-#[cfg(test)]
-mod sites;

@@ -1,6 +1,6 @@
 use crate::given::{ListCell, message, table_naming};
-use ndc_cluster_links::{Lane, Learns, Link, Queues, Writes};
-use ndc_cluster_rounds::Works;
+use ndc_cluster_links::{Lane, Link, Queues};
+use ndc_cluster_rounds::Cell;
 use ndc_domain::{ClusterNo, DomainTable};
 use ndc_queue::{Message, Queue};
 use std::alloc::{AllocError, Global};

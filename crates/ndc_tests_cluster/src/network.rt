@@ -2,15 +2,12 @@ ghost use Rattle.std.specs.Prelude.{◌≡◌, length, IfOk};
 ghost use Rattle.ndc_domain.specs.Clusters.{count_of};
 ghost use Rattle.ndc_laws_reached.specs.Sometime.{IsReachedSometime};
 ghost use Rattle.ndc_model.specs.Facts.{IsReached};
-ghost use Rattle.ndc_world_network.specs.Networks.{opening_site};
 ghost use Rattle.ndc_world_network.specs.Orderly.{IsOrderly};
 
-use crate::given::{ListCell, name, table_naming};
-use ndc_cluster::Site;
-use ndc_cluster_links::{Learns, Serves, Writes};
+use crate::given::{ListCell, name};
 use ndc_cluster_reads::{Lacking, Reads};
-use ndc_cluster_rounds::Works;
-use ndc_domain::{ClusterNo, Clusters};
+use ndc_cluster_rounds::Cell;
+use ndc_domain::{ClusterNo, Clusters, Members};
 use ndc_event::{BatchKey, Name};
 use ndc_graceful::{Handover, Places};
 use ndc_model_cells::{Message, Place};
@@ -20,12 +17,6 @@ use ndc_shard_runs::Runs;
 use ndc_world_network::Network;
 use std::alloc::{AllocError, Global};
 use std::test::Fail;
-
-impl Serves for ListCell {
-    fn learned_of(&self, alloc: Global, _domains: &[Name]) -> Result<Vec<Message>, AllocError> {
-        Ok(Vec::new(alloc))
-    }
-}
 
 impl Reads for ListCell {
     fn runs(&self, _domain: &Name, _workflow: &Name) -> Option<&Runs> {
@@ -60,17 +51,6 @@ impl Reads for ListCell {
     }
 }
 
-/// A cluster with one cell.
-fn site(alloc: Global) -> Result<Site<ListCell>, AllocError>
-    ensures { IfOk result (λ site. site ≡ opening_site 1) }
-{
-    let mut cells = Vec::new(alloc);
-    cells.push(ListCell {
-        written: Vec::new(alloc),
-    })?;
-    Site::new(alloc, cells, 1)
-}
-
 /// Two clusters with one shard, in the beginning.
 #[derive(Drop)]
 struct Opened {
@@ -95,10 +75,7 @@ fn in_the_beginning(alloc: Global) -> Result<Opened, Fail>
         shards: 1,
         limit: 100,
     };
-    let mut sites = Vec::new(alloc);
-    sites.push(site(alloc)?)?;
-    sites.push(site(alloc)?)?;
-    let network = Network::new(alloc, &header, sites)?;
+    let network = Network::new(alloc, &header)?;
     Ok(Opened { header, network })
 }
 
@@ -158,16 +135,16 @@ fn handover(alloc: Global) -> Result<Handover, AllocError> {
 }
 
 #[test]
-fn a_table_is_replaced_and_a_handover_opened(rt: HostRuntime) -> Result<(), Fail> {
+fn a_domain_is_registered_and_a_handover_opened(rt: HostRuntime) -> Result<(), Fail> {
     let alloc = rt.alloc();
     let Opened {
-        header: _header,
+        header,
         mut network,
     } = in_the_beginning(alloc)?;
-    let (source, reader) = (ClusterNo { number: 0 }, ClusterNo { number: 1 });
-    let table = table_naming(alloc, &[source, reader])?;
-    let before = network.replace_table(alloc, source, table)?;
-    assert!(rt; before.records().is_empty());
+    let source = ClusterNo { number: 0 };
+    let alpha = name(alloc, "alpha")?;
+    let members = Members::of(&[source]);
+    assert_eq!(rt; network.register(&header, source, &alpha, source, 7, members)?, 1);
     network.open_handover(handover(alloc)?)?;
     assert_eq!(rt; network.handovers().len(), 1);
     Ok(())

@@ -1,10 +1,11 @@
 ghost use Rattle.std.specs.List.{AllByRecursion};
 ghost use Rattle.std.specs.Prelude.{◌≡◌, ◌<◌, ◌≤◌, length, IfOk};
 
-use ndc_cluster_rounds::{Desk, Works, round};
+use ndc_cluster_rounds::{Cell, Desk, Home, round};
 use ndc_domain::{ClusterNo, Clusters, DomainTable};
-use ndc_event::Name;
+use ndc_event::{BatchKey, Name};
 use ndc_port::{Gate, OpenGate, PairGate};
+use ndc_model_cells::Message;
 use ndc_shard::{Job, JobReply, ShardJob};
 use std::alloc::{AllocError, Global};
 use std::sync::atomic::{AtomicBool, Ordering};
@@ -15,12 +16,34 @@ use std::thread::Threads;
 #[derive(Drop)]
 struct FullCell {}
 
-impl Works for FullCell {
+impl Cell for FullCell {
     ghost use Rattle.ndc_model_cells.specs.Cells.{empty_cell};
 
     ghost cell = { λ _. empty_cell };
 
     ghost allows = { λ _ _ _. Unit {0} };
+
+    ghost may = { λ _ _ _ _. tt };
+
+    fn new(_alloc: Global, _home: &Home) -> Result<FullCell, AllocError> {
+        Ok(FullCell {})
+    }
+
+    fn has_learned(&self, _domain: &Name, _workflow: &Name, _key: BatchKey) -> bool {
+        false
+    }
+
+    fn written_len(&self) -> u64 {
+        0
+    }
+
+    fn written_at(&self, _place: u64) -> Result<Message, AllocError> {
+        Err(AllocError)
+    }
+
+    fn learned_of(&self, alloc: Global, _domains: &[Name]) -> Result<Vec<Message>, AllocError> {
+        Ok(Vec::new(alloc))
+    }
 
     fn do_job(&mut self, _desk: &Desk, _job: &Job) -> Result<JobReply, AllocError> {
         Err(AllocError)

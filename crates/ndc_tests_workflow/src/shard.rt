@@ -5,9 +5,8 @@ ghost use Rattle.ndc_model_cells.specs.declared.job.Job.TheVariants.{Arrive};
 ghost use Rattle.ndc_shard.specs.Worked.{alpha, begun, home_with, one_cluster, start};
 
 use crate::worked::{begun, message, name};
-use ndc_cluster_links::{Learns, Writes};
 use ndc_cluster_reads::Reads;
-use ndc_cluster_rounds::{Desk, Works};
+use ndc_cluster_rounds::{Cell, Desk, Home};
 use ndc_command::Command;
 use ndc_domain::{ClusterNo, Clusters, DomainTable, Members};
 use ndc_event::{Batch, BatchKey, Name};
@@ -65,7 +64,7 @@ fn arrival(alloc: Global) -> Result<Job, AllocError>
 }
 
 // Anything that does jobs does one.
-fn done<C: Works>(cell: &mut C, desk: &Desk, job: &Job) -> Result<JobReply, AllocError>
+fn done<C: Cell>(cell: &mut C, desk: &Desk, job: &Job) -> Result<JobReply, AllocError>
     requires { C.allows desk.now job.now (C.cell cell.old) }
     ensures { IfOk result (λ reply. reply ≡ reply_to desk.now job.now (C.cell cell.old)) }
 {
@@ -104,7 +103,7 @@ fn arrived(shard: &mut Shard, desk: &Desk, alloc: Global) -> Result<JobReply, Al
 }
 
 // The key of the first message that something has written, where there is one.
-fn first_key<C: Writes>(cell: &C) -> Result<Option<BatchKey>, AllocError> {
+fn first_key<C: Cell>(cell: &C) -> Result<Option<BatchKey>, AllocError> {
     if cell.written_len() == 0 {
         return Ok(None);
     }
@@ -117,7 +116,12 @@ fn a_start_is_written(rt: HostRuntime) -> Result<(), Fail> {
     let clusters = clusters(alloc)?;
     let table = records(alloc, &clusters)?;
     let desk = Desk::new(&clusters, A, 100, &table);
-    let mut shard = Shard::new(alloc);
+    let home = Home {
+        clusters: &clusters,
+        me: A,
+        limit: 100,
+    };
+    let mut shard = Shard::new(alloc, &home)?;
     let reply = started(&mut shard, &desk, alloc)?;
     assert!(rt; matches!(reply.outcome, Outcome::Written(_)));
     assert_eq!(rt; first_key(&shard)?, Some(KEY));
@@ -130,7 +134,12 @@ fn what_has_arrived_is_read(rt: HostRuntime) -> Result<(), Fail> {
     let clusters = clusters(alloc)?;
     let table = DomainTable::new(alloc);
     let desk = Desk::new(&clusters, A, 100, &table);
-    let mut shard = Shard::new(alloc);
+    let home = Home {
+        clusters: &clusters,
+        me: A,
+        limit: 100,
+    };
+    let mut shard = Shard::new(alloc, &home)?;
     let reply = arrived(&mut shard, &desk, alloc)?;
     assert!(rt; matches!(reply.outcome, Outcome::Arrived(_)));
     assert!(rt; is_read(&shard, alloc)?);

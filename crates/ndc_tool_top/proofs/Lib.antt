@@ -1,5 +1,8 @@
 pub mod Endings
 pub mod ShowEndings
-pub mod Pieces
 pub mod AskingLemmas
 pub mod DemoLemmas
+pub mod FaultLemmas
+pub mod MadeLemmas
+pub mod PlainLemmas
+pub mod ReadLemmas

@@ -1,5 +1,5 @@
 -- What is shown of what becomes of a script.
-use Rattle.std.specs.Prelude.{Bool, List, ◌++◌, codes, decimal, length, if◌then◌else◌, ℕ}
+use Rattle.std.specs.Prelude.{◌≡◌, Bool, List, ◌++◌, codes, decimal, length, if◌then◌else◌, ℕ}
 use Rattle.ndc_script_types.specs.declared.script.Script.{Script}
 use Rattle.ndc_model.specs.Lines.{ran_of}
 use Rattle.ndc_world.specs.Counts.{refused_in}
@@ -21,3 +21,7 @@ summary_line summary =
 -- what is shown of what becomes of a script
 abbrev pub demo_text : Script → List ℕ
 demo_text script = summary_line (summary_with (length (ran_of script)) (refused_in (ran_of script)) (totals_of script.header (last_world script)))
+
+-- it ends by saying that all clusters are the same
+abbrev pub SaysSame : Script → Type 0
+SaysSame script = (front : List ℕ) × (demo_text script ≡ front ++ codes " same yes\n")

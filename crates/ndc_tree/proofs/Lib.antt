@@ -5,6 +5,7 @@ pub mod GrowLemmas
 pub mod EventLemmas
 pub mod FitLemmas
 pub mod TipLemmas
+pub mod NotedLemmas
 pub mod PathLemmas
 pub mod LastLemmas
 pub mod VersionLemmas

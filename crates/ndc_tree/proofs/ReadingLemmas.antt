@@ -1,12 +1,10 @@
 -- Walks upwards in a tree: over its batches, and over its versions.
-use Rattle.std.proofs.Common.{◌≡◌, ℕ, ◌-◌, ◌+◌, ◌<◌, Bool, true, false, ◌&&◌, ◌==◌, nat_lt, List, [], ◌∷◌, ◌++◌, map, reverse, length, drop, get_or, slice_get, Option, Some, None, Ok, refl, sym, ◌∙◌, subst, ap, arith, add-one}
+use Rattle.std.proofs.Common.{◌≡◌, ◌<◌, true, List, [], ◌∷◌, ◌++◌, map, reverse, Option, Some, None, refl, sym, ◌∙◌, subst, ap}
 use Rattle.std.proofs.lemmas.List.{append-nil, append_assoc, reverse-append, map-append}
-use Rattle.std.proofs.Math.Seq.{drop-cons}
-use Rattle.std.proofs.lemmas.Bool.{and_parts, lt-ltb, ltb-true, ne_eqb}
 use Rattle.ndc_event.specs.declared.batch.Batch.{Batch}
 use Rattle.ndc_event.specs.declared.key.RunId.{RunId}
 use Rattle.ndc_history.specs.declared.item.Item.{Item}
-use Rattle.ndc_history.specs.History.{rise_from, rises, added_behind, added}
+use Rattle.ndc_history.specs.History.{rises}
 use Rattle.ndc_model_sets.specs.Sets.{Has}
 use Rattle.ndc_model_sets.specs.Paths.{events_to}
 use Rattle.ndc_model_sets.proofs.HistoryLemmas.{versions-rise}
@@ -83,56 +81,3 @@ pub items-rise : (run : RunId) (batches : List Batch) (b : Batch) → IsTree run
 items-rise run batches b tree has =
     let a : AreEventsTo b (events_to b.key batches) = path-events batches b _ tree.faultless tree.parents (path_is run batches tree b has) in
     (versions-rise 0 0 (events_to b.key batches) a.follow a.climb).0
-
--- the last of items that rise is of a smaller version than what comes behind
-last-less : (first : Item) (zs ys : List Item) (last x : Item) → rise_from first (zs ++ x ∷ ys) ≡ true → slice_get (first ∷ zs) (length zs) ≡ Some last → (last.id < x.id) × (last.version < x.version)
-last-less first [] ys last x h at =
-    let same : first ≡ last = cc in
-    let p = and_parts (nat_lt first.id x.id && nat_lt first.version x.version) (rise_from x ys) h in
-    let q = and_parts (nat_lt first.id x.id) (nat_lt first.version x.version) p.0 in
-    subst (λ (l : Item). (l.id < x.id) × (l.version < x.version)) same (ltb-true first.id x.id q.0, ltb-true first.version x.version q.1)
-last-less first (z ∷ zs) ys last x h at =
-    last-less z zs ys last x (and_parts (nat_lt first.id z.id && nat_lt first.version z.version) (rise_from z (zs ++ x ∷ ys)) h).1 at
-
--- an item that rises goes last
-pub added-last : (xs ys : List Item) (x : Item) (new : List Item) → rises (xs ++ x ∷ ys) ≡ true → added xs x ≡ Ok new → new ≡ xs ++ x ∷ []
-added-last [] ys x new h e = let same : x ∷ [] ≡ new = cc in sym same
-added-last (f ∷ zs) ys x new h e =
-    by (slice_get (f ∷ zs) (length zs)) refl (subst (λ (n : ℕ). added_behind (slice_get (f ∷ zs) n) (f ∷ zs) x ≡ Ok new) place e)
-  where
-    place : length (f ∷ zs) - 1 ≡ length zs
-    place = omega arith
-
-    some : (o : Option Item) → slice_get (f ∷ zs) (length zs) ≡ o → (last : Item) → o ≡ Some last → (last.id < x.id) × (last.version < x.version)
-    some o at last same = last-less f zs ys last x h (at ∙ same)
-
-    goes : (last : Item) → (last.id < x.id) × (last.version < x.version) → added_behind (Some last) (f ∷ zs) x ≡ Ok new → new ≡ f ∷ zs ++ x ∷ []
-    goes last l k =
-        let i : nat_lt last.id x.id ≡ true = lt-ltb last.id x.id l.0 in
-        let j : nat_lt x.version last.version ≡ false = not-less in
-        let n : (x.version == last.version) ≡ false = ne_eqb x.version last.version (λ s. omega (arith, l.1, s)) in
-        let made : added_behind (Some last) (f ∷ zs) x ≡ Ok (f ∷ zs ++ x ∷ []) = rw (i, j, n) refl in cc
-      where
-        not-less : nat_lt x.version last.version ≡ false
-        not-less = lower (nat_lt x.version last.version) refl
-          where
-            lower : (t : Bool) → nat_lt x.version last.version ≡ t → nat_lt x.version last.version ≡ false
-            lower true e = absurd (omega (arith, ltb-true x.version last.version e, l.1))
-            lower false e = e
-
-    by : (o : Option Item) → slice_get (f ∷ zs) (length zs) ≡ o → added_behind o (f ∷ zs) x ≡ Ok new → new ≡ f ∷ zs ++ x ∷ []
-    by (Some last) at k = goes last (some (Some last) at last refl) k
-    by None at k = absurd (there f zs at)
-      where
-        there : (f : Item) (zs : List Item) → slice_get (f ∷ zs) (length zs) ≡ None → ⊥
-        there f [] g = absurd (cc)
-        there f (z ∷ zs) g = there z zs g
-
--- one item more of a history that is built
-pub built : (xs items : List Item) (place : ℕ) (x : Item) (new : List Item) → rises items ≡ true → place < length items → x ≡ get_or items place x → xs ++ drop place items ≡ items → added xs x ≡ Ok new
-    → new ++ drop (place + 1) items ≡ items
-built xs items place x new rise lt at e k =
-    let here : drop place items ≡ x ∷ drop (place + 1) items = rw (drop-cons items place x lt, ← at, add-one place) refl in
-    let whole : xs ++ x ∷ drop (place + 1) items ≡ items = ap (λ l. xs ++ l) (sym here) ∙ e in
-    ap (λ l. l ++ drop (place + 1) items) (added-last xs (drop (place + 1) items) x new (subst (λ (l : List Item). rises l ≡ true) (sym whole) rise) k)
-    ∙ append_assoc xs (x ∷ []) (drop (place + 1) items) ∙ whole

@@ -6,3 +6,4 @@ pub mod Sorted
 pub mod Places
 pub mod Segments
 pub mod TreeFields
+pub mod Noted

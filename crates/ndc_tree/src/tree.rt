@@ -1,7 +1,5 @@
 ghost use Rattle.std.specs.Prelude.{◌≡◌, ◌<◌, ◌↔◌, ◌++◌, [], ◌∷◌, map, IfSome, IfOk, OnOk, IsTrue, Some, Ok};
-ghost use Rattle.ndc_history.specs.History.{rises, added};
 ghost use Rattle.ndc_model_sets.specs.Sets.{Has};
-ghost use Rattle.ndc_model_sets.specs.Paths.{first_id, last_id};
 ghost use Rattle.std.specs.Option.{option_copied, option_map};
 ghost use Rattle.ndc_tree.specs.Fitting.{goes_on, key_behind};
 ghost use Rattle.ndc_model_sets.specs.Reading.{parent_of};
@@ -10,16 +8,28 @@ ghost use Rattle.ndc_tree.specs.Inserting.{end_of};
 use crate::answer::{Inserted, TreeError};
 use crate::batches::Batches;
 use crate::tips::Tips;
-use ndc_event::{Batch, BatchKey, Event, RunId};
+use ndc_event::{Batch, BatchKey, RunId};
 use ndc_history::{Item, VersionHistory};
+use ndc_model_sets::{first_id, is_key, last_id};
 use std::alloc::{AllocError, Global};
 use std::marker::Model;
+
+/// A version history is noted where the tree has more versions than this.
+const NOTED_FROM: usize = 4;
+
+/// What is noted has room for a multiple of so many items, so that a longer one most often goes where the one before was.
+const NOTED_ROOM: usize = 32;
 
 /// The batches of one run. Seen as the run and the list of its batches in key order.
 pub struct Tree {
     run: RunId,
     batches: Batches,
     tips: Tips,
+    /// The batch whose path's version history is noted: the last one of the version before that of the last batch, where
+    /// there are several versions and memory allowed.
+    noted_to: Option<BatchKey>,
+    /// The items of that history.
+    noted: Vec<Item>,
 }
 
 impl Model for Tree {
@@ -40,6 +50,8 @@ impl Drop for Tree {
             run: _run,
             batches: _batches,
             tips: _tips,
+            noted_to: _noted_to,
+            noted: _noted,
         } = self;
     }
 }
@@ -61,6 +73,7 @@ impl Tree {
     ghost use Rattle.ndc_model_sets.specs.Paths.{path_to};
     ghost use Rattle.ndc_history.specs.History.{rises};
     ghost use Rattle.ndc_tree.specs.Inserting.{end_of};
+    ghost use Rattle.ndc_tree.specs.Noted.{IsNoted};
     ghost use Rattle.ndc_model_sets.specs.Reading.{current_key, path_at, path_keys, history_at, elder_of, items_of, named};
 
     /// The tree of a run without a batch.
@@ -71,6 +84,8 @@ impl Tree {
             run,
             batches: Batches::new(alloc),
             tips: Tips::new(alloc),
+            noted_to: None,
+            noted: Vec::new(alloc),
         }
     }
 
@@ -141,8 +156,23 @@ impl Tree {
     }
 
     /// Takes in a batch that joins the tree, as [`Tree::judge`] tells where it neither refuses nor knows it. For want
-    /// of memory the tree is as it was. In time of the logarithm of its batches, and of the batch's copy.
+    /// of memory the tree is as it was. In time of the logarithm of its batches, and of the batch's copy; where it goes on
+    /// from the current branch with a further version, also of the versions on its path.
     pub fn join(&mut self, batch: &Batch) -> Result<(), AllocError>
+        requires { Joins self.old.run self.old.batches batch.now }
+        ensures ok { OnOk result (self.new ≡ record self.old { batches = arrived batch.now self.old.batches }) }
+        ensures err { OnErr result (self.new ≡ self.old) }
+    {
+        let goes_on = batch.parent == self.current();
+        self.take_in(batch)?;
+        if goes_on {
+            self.note();
+        }
+        Ok(())
+    }
+
+    /// Takes in a batch that joins the tree.
+    fn take_in(&mut self, batch: &Batch) -> Result<(), AllocError>
         requires { Joins self.old.run self.old.batches batch.now }
         ensures ok { OnOk result (self.new ≡ record self.old { batches = arrived batch.now self.old.batches }) }
         ensures err { OnErr result (self.new ≡ self.old) }
@@ -158,6 +188,37 @@ impl Tree {
                 self.tips.take(batch.key);
                 Err(error)
             }
+        }
+    }
+
+    /// Notes the version history up to the version of the last batch, where there are several versions, it is not noted,
+    /// and memory allows.
+    fn note(&mut self)
+        ensures { self.new ≡ self.old }
+    {
+        if let Some((key, items)) = self.items_before_last() {
+            self.noted_to = Some(key);
+            self.noted = items;
+        }
+    }
+
+    /// The elder of the last batch, with the items of its path's version history, where there are several versions, they are
+    /// not noted, and memory allows.
+    fn items_before_last(&self) -> Option<(BatchKey, Vec<Item>)>
+        ensures { IfSome result (λ found. IsNoted self.now.batches (Some found.0) found.1.items) }
+    {
+        let place = self.batches.last_place();
+        if place < NOTED_FROM {
+            return None;
+        }
+        let last = self.batches.last()?;
+        let elder = self.elder(last, place)?;
+        if is_key(elder.key, self.noted_to) {
+            return None;
+        }
+        match self.items_to(*self.noted.allocator(), elder, NOTED_ROOM) {
+            Ok(items) => Some((elder.key, items)),
+            Err(_) => None,
         }
     }
 
@@ -205,8 +266,8 @@ impl Tree {
     }
 
     /// The version history of the path to the batch of this key; none exactly where it is not there. In time of the
-    /// versions on the path, with a look-up in each, and one for the version where it is not the one just below in the
-    /// tree.
+    /// versions on the path; with two look-ups for each of them, unless the batch is of the last version and goes on from
+    /// the current branch of before.
     pub fn history_of(
         &self,
         alloc: Global,
@@ -217,8 +278,8 @@ impl Tree {
         match self.get(key) {
             None => Ok(None),
             Some(batch) => {
-                let items = self.items_to(alloc, batch)?;
-                Ok(Some(history_from(alloc, items.as_slice())?))
+                let items = self.items_to(alloc, batch, 1)?;
+                Ok(Some(VersionHistory::of(alloc, items)?))
             }
         }
     }
@@ -238,9 +299,39 @@ impl Tree {
         Ok(path)
     }
 
+    /// The items of the path's version history to this batch, in order: those noted and one more, where those up to its
+    /// version are noted, in room for a multiple of so many, and else by a walk.
+    fn items_to(&self, alloc: Global, batch: &Batch, room: usize) -> Result<Vec<Item>, AllocError>
+        requires has { Has self.now.batches batch.now }
+        requires room { 0 < room }
+        ensures items { IfOk result (λ list. list.items ≡ items_of (Some batch.now) self.now.batches) }
+        ensures rise { IfOk result (λ list. IsTrue (rises list.items)) }
+    {
+        match self.noted_before(batch) {
+            Some(front) => with_end(alloc, front, end_of(Some(batch)), room),
+            None => self.items_by_walk(alloc, batch),
+        }
+    }
+
+    /// The items that are noted, where they are those before the batch's version on its path.
+    fn noted_before(&self, batch: &Batch) -> Option<&[Item]>
+        requires { Has self.now.batches batch.now }
+        ensures items { IfSome result (λ front. items_of (Some batch.now) self.now.batches ≡ front.now ++ end_of (Some batch.now) ∷ []) }
+        ensures rise { IfSome result (λ front. IsTrue (rises (front.now ++ end_of (Some batch.now) ∷ []))) }
+    {
+        let place = self
+            .batches
+            .place_near(batch.key.version, self.batches.last_place());
+        let elder = self.elder(batch, place)?;
+        if !is_key(elder.key, self.noted_to) {
+            return None;
+        }
+        Some(self.noted.as_slice())
+    }
+
     /// The items of the path's version history to this batch, in order: from version to version upwards. The place of
     /// a version's segment is most often that before the last one's.
-    fn items_to(&self, alloc: Global, batch: &Batch) -> Result<Vec<Item>, AllocError>
+    fn items_by_walk(&self, alloc: Global, batch: &Batch) -> Result<Vec<Item>, AllocError>
         requires { Has self.now.batches batch.now }
         ensures items { IfOk result (λ list. list.items ≡ items_of (Some batch.now) self.now.batches) }
         ensures rise { IfOk result (λ list. IsTrue (rises list.items)) }
@@ -368,26 +459,6 @@ fn is_known(batches: &Batches, batch: &Batch) -> bool
     }
 }
 
-/// The id of the last event, 0 where there is none.
-fn last_id(events: &[Event]) -> u64
-    ensures { result ≡ last_id events.now }
-{
-    match events.last() {
-        None => 0,
-        Some(event) => event.id,
-    }
-}
-
-/// The id of the first event, 0 where there is none.
-fn first_id(events: &[Event]) -> u64
-    ensures { result ≡ first_id events.now }
-{
-    match events.first() {
-        None => 0,
-        Some(event) => event.id,
-    }
-}
-
 /// The item of a batch's last event, where there is a batch.
 fn end_of(batch: Option<&Batch>) -> Item
     ensures { result ≡ end_of (option_copied batch.entry) }
@@ -455,27 +526,14 @@ fn keys_of(alloc: Global, batches: &[&Batch]) -> Result<Vec<BatchKey>, AllocErro
     batches.iter().map(|batch| batch.key).collect(alloc)
 }
 
-/// The version history of these items.
-fn history_from(alloc: Global, items: &[Item]) -> Result<VersionHistory, AllocError>
-    requires { IsTrue (rises items.now) }
-    ensures { IfOk result (λ history. history ≡ items.now) }
+/// The items, and one more, in room for a multiple of so many.
+fn with_end(alloc: Global, front: &[Item], end: Item, room: usize) -> Result<Vec<Item>, AllocError>
+    requires { 0 < room }
+    ensures { IfOk result (λ list. list.items ≡ front.now ++ end ∷ []) }
 {
-    let mut history = VersionHistory::new(alloc);
-    for item in items {
-        match add_to(&mut history, item) {
-            Ok(()) => {}
-            Err(error) => return Err(error),
-        }
-    }
-    Ok(history)
-}
-
-/// Adds the item to the history; it is never refused where the items rise.
-fn add_to(history: &mut VersionHistory, item: &Item) -> Result<(), AllocError>
-    ensures { OnOk result (added history.old item.now ≡ Ok history.new) }
-{
-    match history.add(*item) {
-        Ok(()) => Ok(()),
-        Err(_) => Err(AllocError),
-    }
+    let further = room - front.len() % room;
+    let mut items = Vec::with_capacity(alloc, front.len().saturating_add(further))?;
+    items.extend_from_slice(front)?;
+    items.push(end)?;
+    Ok(items)
 }

@@ -8,7 +8,7 @@ use Rattle.ndc_model_cells.specs.declared.job.Job.TheVariants as job
 use Rattle.ndc_model_cells.specs.declared.job.ShardJob.{ShardJob}
 use Rattle.ndc_model_cells.specs.Cells.{Cell}
 use Rattle.ndc_model_cells.specs.Jobs.{cell_for, cells_behind}
-use Rattle.ndc_model_cells.specs.Writing.{Home}
+use Rattle.ndc_model_cells.specs.Writing.{Desk}
 use Rattle.ndc_domain.specs.declared.clusters.ClusterNo.{ClusterNo}
 use Rattle.ndc_laws_jobs.specs.Lines.{LineIsAllowed, job_for, letter_jobs}
 use Rattle.ndc_model.specs.Moves.{Trace, all_reapply, bootstrapped, due_arrived, flights_arrived, from_world, quietly, reapplied_all, settled_once, without_flights}
@@ -17,8 +17,8 @@ use Rattle.ndc_model.specs.Conditions.{EachStep, again_jobs, flight_jobs, MayBoo
 use Rattle.ndc_model_cells.specs.Conditions.{AreAllowed, Condition}
 use Rattle.ndc_model_cells.specs.Allowed.{IsAllowed}
 
-module _ (allows : Condition) (may : (home : Home) (asked : Job) (at : Cell) → IsAllowed home asked at → allows home asked at) where
-  jobs-may : (home : Home) (jobs : List ShardJob) (cells : List Cell) → AreAllowed IsAllowed home jobs cells → AreAllowed allows home jobs cells
+module _ (allows : Condition) (may : (home : Desk) (asked : Job) (at : Cell) → IsAllowed home asked at → allows home asked at) where
+  jobs-may : (home : Desk) (jobs : List ShardJob) (cells : List Cell) → AreAllowed IsAllowed home jobs cells → AreAllowed allows home jobs cells
   jobs-may home [] cells given = tt
   jobs-may home (asked ∷ jobs) cells given = (may home asked.job (cell_for asked.shard cells) given.0, jobs-may home jobs (cells_behind home asked cells) given.1)
 

@@ -10,7 +10,7 @@ use Rattle.ndc_script_types.specs.declared.script.Header.{Header}
 use Rattle.ndc_script_types.specs.declared.script.Line.{Line}
 use Rattle.ndc_model_cells.specs.declared.job.Job.{Job}
 use Rattle.ndc_model_cells.specs.Cells.{Cell}
-use Rattle.ndc_model_cells.specs.Writing.{Home}
+use Rattle.ndc_model_cells.specs.Writing.{Desk}
 use Rattle.ndc_domain.specs.declared.clusters.ClusterNo.{ClusterNo}
 use Rattle.ndc_index.specs.declared.seen.Seen.{Seen}
 use Rattle.ndc_laws_reached.proofs.BringLemmas.{world_after}
@@ -35,16 +35,16 @@ use Rattle.ndc_world.proofs.BurstLemmas.{IsBurst, burst_runs, replies_of}
 
 module _ (header : Header) (lines : ℕ) (w : World) (well : IsWellFormedHeader header) (is : IsReached header lines w) where
   -- a line may be asked of cells that do all that may be asked
-  pub may_line : (allows : Condition) → ((home : Home) (asked : Job) (at : Cell) → IsAllowed home asked at → allows home asked at) → (line : Act) → IsWellFormedAct header line → lines < 100000
+  pub may_line : (allows : Condition) → ((home : Desk) (asked : Job) (at : Cell) → IsAllowed home asked at → allows home asked at) → (line : Act) → IsWellFormedAct header line → lines < 100000
       → LineIsAllowed allows header line w
   may_line allows may line fit below = line_may allows may header line w (line_allowed header lines line w well fit below is)
 
-  pub may_settle : (allows : Condition) → ((home : Home) (asked : Job) (at : Cell) → IsAllowed home asked at → allows home asked at) → lines < 100000 → MaySettle allows header w
+  pub may_settle : (allows : Condition) → ((home : Desk) (asked : Job) (at : Cell) → IsAllowed home asked at → allows home asked at) → lines < 100000 → MaySettle allows header w
   may_settle allows may below = may_line allows may act.Settle tt below
 
   module _ (cluster : ClusterNo) (jobs : List BurstJob) (known : IsCluster header cluster) (fit : All IsWellFormedJob jobs) (few : lines + length jobs ≤ 100000) where
     -- the jobs of a burst may be asked
-    pub may_burst : (allows : Condition) → ((home : Home) (asked : Job) (at : Cell) → IsAllowed home asked at → allows home asked at) → MayDoAll allows header cluster (burst_jobs header jobs) w
+    pub may_burst : (allows : Condition) → ((home : Desk) (asked : Job) (at : Cell) → IsAllowed home asked at → allows home asked at) → MayDoAll allows header cluster (burst_jobs header jobs) w
     may_burst allows may = all_may allows may header cluster (burst_jobs header jobs) w (burst_allowed header lines cluster jobs w well known fit few is)
 
     burst-ran : IsBurst header lines cluster jobs w

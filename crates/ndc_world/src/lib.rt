@@ -3,15 +3,12 @@
 
 mod acting;
 mod answer;
-mod begins;
 mod bursts;
-mod opening;
 mod reporting;
 mod running;
 mod summary;
 mod world;
 
 pub use answer::{Answer, Settled};
-pub use begins::Begins;
 pub use summary::Summary;
 pub use world::World;

@@ -17,7 +17,6 @@ ghost use Rattle.ndc_world.specs.Standing.{IsBehind, IsStanding};
 
 use crate::acting::act;
 use crate::answer::Answer;
-use crate::begins::Begins;
 use crate::bursts::burst;
 use crate::reporting::{is_on_reports, report};
 use ndc_cluster_reads::Reads;
@@ -54,7 +53,7 @@ fn one_answer(alloc: Global, number: u64, step: Step) -> Result<(Answer, u64), A
 }
 
 /// Runs a line that is no burst and not on progress reports.
-fn run_one<R: Threads + Sync, G: Gate, C: Begins + Drop + Send>(
+fn run_one<R: Threads + Sync, G: Gate, C: Reads + Drop + Send>(
     network: &mut Network<C>,
     rt: &R,
     alloc: Global,
@@ -80,7 +79,7 @@ fn run_one<R: Threads + Sync, G: Gate, C: Begins + Drop + Send>(
 }
 
 /// Runs the lines in a burst, side by side.
-fn run_burst<R: Threads + Sync, G: Gate, C: Begins + Drop + Send>(
+fn run_burst<R: Threads + Sync, G: Gate, C: Reads + Drop + Send>(
     network: &mut Network<C>,
     rt: &R,
     alloc: Global,
@@ -104,7 +103,7 @@ fn run_burst<R: Threads + Sync, G: Gate, C: Begins + Drop + Send>(
 }
 
 /// Runs a line that is not on progress reports.
-fn run_other<R: Threads + Sync, G: Gate, C: Begins + Drop + Send>(
+fn run_other<R: Threads + Sync, G: Gate, C: Reads + Drop + Send>(
     network: &mut Network<C>,
     rt: &R,
     alloc: Global,
@@ -159,7 +158,7 @@ fn run_report<C: Reads + Drop>(
 
 /// Runs a line of the text; gives its answer, and how many of its answers are refusals. In each world for which clusters
 /// and reports stand, the line answers this and makes this learned, and behind it they stand for the world that it leaves.
-pub(crate) fn run_line<R: Threads + Sync, G: Gate, C: Begins + Drop + Send>(
+pub(crate) fn run_line<R: Threads + Sync, G: Gate, C: Reads + Drop + Send>(
     network: &mut Network<C>,
     reports: &mut Vec<Progress>,
     rt: &R,

@@ -1,9 +1,8 @@
 use crate::answer::{Answer, Settled};
-use crate::begins::Begins;
-use crate::opening::opening_sites;
 use crate::reporting::no_reports;
 use crate::running::{line_count, run_line};
 use crate::summary::Summary;
+use ndc_cluster_reads::Reads;
 use ndc_port::Gate;
 use ndc_progress::Progress;
 use ndc_script_types::{Header, Line};
@@ -18,7 +17,7 @@ use std::thread::Threads;
 /// activity that each cluster was told or took over. They stand for the world that the lines lead to. It counts the lines
 /// that were run, their answers and how many of these are refusals. After want of memory in a line or a settlement it is
 /// spent, and may only be dropped.
-pub struct World<'a, C: Begins + Drop> {
+pub struct World<'a, C: Reads + Drop> {
     header: &'a Header,
     network: Network<C>,
     reports: Vec<Progress>,
@@ -28,7 +27,7 @@ pub struct World<'a, C: Begins + Drop> {
     spent: bool,
 }
 
-impl<'a, C: Begins + Drop> Model for World<'a, C> {
+impl<'a, C: Reads + Drop> Model for World<'a, C> {
     ghost use Rattle.std.specs.Prelude.{◌≡◌, false};
     ghost use Rattle.ndc_world.specs.Standing.{IsUnspent, WorldValue};
 
@@ -40,7 +39,7 @@ impl<'a, C: Begins + Drop> Model for World<'a, C> {
         → IsUnspent (record { spent = world.spent; header = world.header.now; lines = world.lines; answers = world.answers; refused = world.refused; world = world.network; reports = world.reports.items }) };
 }
 
-impl<'a, C: Begins + Drop> Drop for World<'a, C> {
+impl<'a, C: Reads + Drop> Drop for World<'a, C> {
     fn drop(self) {
         let World {
             header: _header,
@@ -54,7 +53,7 @@ impl<'a, C: Begins + Drop> Drop for World<'a, C> {
     }
 }
 
-impl<'a, C: Begins + Drop> World<'a, C> {
+impl<'a, C: Reads + Drop> World<'a, C> {
     ghost use Rattle.std.specs.Prelude.{◌≡◌, ◌<◌, ◌+◌, ◌≤◌, false, length, true, IfOk, OnErr};
     ghost use Rattle.ndc_script_types.specs.WellFormed.{IsWellFormedAct, IsWellFormedHeader};
     ghost use Rattle.ndc_laws_jobs.specs.Standing.{StandFor};
@@ -74,8 +73,7 @@ impl<'a, C: Begins + Drop> World<'a, C> {
         ensures stands { IfOk result (λ world. StandFor world.world world.reports (opening_world header.now)) }
     {
         let reports = no_reports(alloc, header)?;
-        let sites = opening_sites(alloc, header)?;
-        let network = Network::new(alloc, header, sites)?;
+        let network = Network::new(alloc, header)?;
         Ok(World {
             header,
             network,

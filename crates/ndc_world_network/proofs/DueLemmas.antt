@@ -1,5 +1,5 @@
 -- Links over which nothing is due.
-use Rattle.std.proofs.Common.{◌≡◌, ◌≤◌, ◌<◌, ◌+◌, ℕ, Bool, true, false, [], ◌∷◌, List, ◌++◌, map, take, drop, length, get_or, refl, ap, sym, subst, ◌∙◌, arith}
+use Rattle.std.proofs.Common.{◌≡◌, ◌≤◌, ◌<◌, ◌+◌, ℕ, Bool, true, false, [], List, ◌++◌, map, take, drop, length, get_or, refl, ap, sym, ◌∙◌, arith}
 use Rattle.std.specs.List.{filter}
 use Rattle.std.proofs.lemmas.List.{at_drop_more, drop_all, map-id, take-append-drop}
 use Rattle.ndc_script_types.specs.declared.script.Header.{Header}
@@ -7,7 +7,7 @@ use Rattle.ndc_model_cells.specs.Jobs.{cell_for}
 use Rattle.ndc_model_cells.specs.Writing.{same_cluster}
 use Rattle.ndc_model_cells.specs.declared.message.Message.{Message}
 use Rattle.ndc_domain.specs.declared.clusters.ClusterNo.{ClusterNo}
-use Rattle.ndc_cluster.specs.Sites.{SiteValue}
+use Rattle.ndc_world_network.specs.Sites.{SiteValue}
 use Rattle.ndc_cluster_links.proofs.RestLemmas.{len_kept}
 use Rattle.ndc_cluster_links.specs.Rest.{AreRests, queue_at}
 use Rattle.ndc_graceful.specs.declared.handover.Handover.{Handover}

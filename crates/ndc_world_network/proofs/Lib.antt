@@ -15,3 +15,7 @@ pub mod WorkLemmas
 pub mod QuietLemmas
 pub mod DueLemmas
 pub mod TableLemmas
+pub mod GrowLemmas
+pub mod AlikeLemmas
+pub mod LateLemmas
+pub mod RecordLemmas

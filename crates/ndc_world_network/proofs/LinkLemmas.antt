@@ -26,7 +26,7 @@ use Rattle.ndc_model.specs.World.{Cluster, Link, World, changed_first, cluster_a
 use Rattle.ndc_model.specs.World as world
 use Rattle.ndc_queue.specs.Queues.{QueueValue, new_queue, queue_len}
 use Rattle.ndc_cluster_rounds.proofs.EachLemmas.{all_there}
-use Rattle.ndc_cluster.specs.Sites.{SiteValue}
+use Rattle.ndc_world_network.specs.Sites.{SiteValue}
 use Rattle.ndc_world_network.proofs.PlaceLemmas.{changed_at, found_at, none_changed, none_found}
 use Rattle.ndc_world_network.proofs.ShardLemmas.{cells_there}
 use Rattle.ndc_world_network.specs.Networks.{StandsAt, world_of}

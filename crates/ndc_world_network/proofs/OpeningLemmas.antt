@@ -5,7 +5,7 @@ use Rattle.ndc_script_types.specs.declared.script.Header.{Header}
 use Rattle.ndc_graceful.specs.declared.handover.Handover.{Handover}
 use Rattle.ndc_model.specs.World.{Link, all_clusters, opening_world}
 use Rattle.ndc_world_network.specs.Networks.{links_of, opening_site, world_of}
-use Rattle.ndc_cluster.specs.Sites.{SiteValue}
+use Rattle.ndc_world_network.specs.Sites.{SiteValue}
 
 -- a map over equal sites
 map-same : {X Y Z : Type 0} (f : Y → Z) (y : Y) (xs : List X) → map f (map (λ _. y) xs) ≡ map (λ _. f y) xs

@@ -1,11 +1,10 @@
 -- Worlds that stay orderly.
-use Rattle.std.proofs.Common.{◌≡◌, ◌≤◌, ◌<◌, ℕ, Bool, true, false, List, [], ◌∷◌, ◌++◌, Some, find, length, map, if◌then◌else◌, refl, ap, sym, subst, ◌∙◌, arith, set, slice_index_or}
+use Rattle.std.proofs.Common.{◌≡◌, ◌≤◌, ◌<◌, ℕ, Bool, true, false, List, [], ◌∷◌, ◌++◌, length, map, if◌then◌else◌, refl, sym, subst, ◌∙◌, arith, set, slice_index_or}
 use Rattle.std.proofs.Math.ListN.{get_or-map}
 use Rattle.std.proofs.lemmas.List.{length-map, length-set}
-use Rattle.std.specs.List.{AllByRecursion, fold}
+use Rattle.std.specs.List.{AllByRecursion}
 use Rattle.ndc_script_types.specs.WellFormed.{AreTwoClusters, IsCluster}
 use Rattle.ndc_script_types.specs.declared.script.Header.{Header}
-use Rattle.ndc_model_cells.specs.Cells.{Cell}
 use Rattle.ndc_model_cells.specs.Jobs.{cell_for, cells_after}
 use Rattle.ndc_model_cells.specs.Writing.{same_cluster}
 use Rattle.ndc_model_cells.specs.declared.job.ShardJob.{ShardJob}
@@ -14,14 +13,14 @@ use Rattle.ndc_domain.specs.declared.record.DomainRecord.{DomainRecord}
 use Rattle.ndc_event.specs.declared.name.Name.{Name}
 use Rattle.ndc_model.proofs.LevelLemmas.{renewal_keeps}
 use Rattle.ndc_model.proofs.ListLemmas.{all-changed, all-set, all-weaker, length-map_from, map-alike, map-changed, map_from-at}
-use Rattle.ndc_model.proofs.WorldLemmas.{cells-cases, set-cases}
+use Rattle.ndc_model.proofs.WorldLemmas.{set-cases}
 use Rattle.ndc_model.specs.Fair.{IsShaped, LanesAreTrue, ends_of}
 use Rattle.ndc_model.specs.Moves.{Trace, all_reapply, bootstrapped, due_arrived, flights_arrived, from_world, jobs_done, link_without_flights, map_from, reapplied_all, renewed, renewed_lane, renewed_link, without_flight, without_flights, without_flights_to}
-use Rattle.ndc_model.specs.Queues.{Lane, new_lane}
-use Rattle.ndc_model.specs.World.{Cluster, Link, World, cell_at, changed_first, cluster_at, home_at, is_link, lane_in, new_cluster, newly_naming, queue_at, trimmed_at, with_cells, with_late, with_link, with_table}
+use Rattle.ndc_model.specs.Queues.{new_lane}
+use Rattle.ndc_model.specs.World.{Cluster, Link, World, cell_at, changed_first, cluster_at, home_at, is_link, lane_in, new_cluster, newly_naming, queue_at, with_cells, with_late, with_link, with_table}
 use Rattle.ndc_cluster_rounds.proofs.ShardLemmas.{cells-many}
-use Rattle.ndc_cluster.proofs.GrowLemmas.{written_more}
-use Rattle.ndc_world_network.proofs.ShardLemmas.{cells_there, cluster_there}
+use Rattle.ndc_world_network.proofs.GrowLemmas.{written_more}
+use Rattle.ndc_world_network.proofs.ShardLemmas.{cells_there}
 use Rattle.ndc_model.specs.Conditions.{due_jobs, flight_jobs, late_jobs}
 use Rattle.ndc_world_network.specs.Orderly.{AreLevelsKept, IsOrderly}
 

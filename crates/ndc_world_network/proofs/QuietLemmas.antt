@@ -10,7 +10,6 @@ use Rattle.ndc_model.proofs.ListLemmas.{filter-none}
 use Rattle.ndc_model_cells.specs.Cells.{Cell, is_learned_in, learned_message}
 use Rattle.ndc_model_cells.specs.Domains.{learned_of_domains}
 use Rattle.ndc_model_cells.specs.Writing.{same_cluster}
-use Rattle.ndc_model_cells.specs.declared.job.ShardJob.{ShardJob}
 use Rattle.ndc_model_cells.specs.declared.message.Message.{Message}
 use Rattle.ndc_domain.specs.declared.clusters.ClusterNo.{ClusterNo}
 use Rattle.ndc_model.specs.Moves.{all_arrive, arrives, by_link, in_flight, link_without_flights, without_flight}

@@ -15,6 +15,10 @@ cells-at shards [] i all below = absurd (omega (arith, below))
 cells-at shards (c ∷ clusters) zero all below = all.0
 cells-at shards (c ∷ clusters) (suc i) all below = cells-at shards clusters i all.1 (omega (arith, below))
 
+-- each cluster of the header is there
+pub there : (header : Header) (w : World) → IsShaped header w → (cluster : ClusterNo) → IsCluster header cluster → cluster.number < length w.clusters
+there header w shaped cluster known = omega (arith, known, shaped.clusters)
+
 -- there is a cell for each shard
 pub cells_there : (header : Header) (w : World) (cluster : ClusterNo) → IsShaped header w → IsCluster header cluster → length (cluster_at cluster w).cells ≡ header.shards
 cells_there header w cluster shaped known = cells-at header.shards w.clusters cluster.number shaped.cells (omega (arith, known, shaped.clusters))

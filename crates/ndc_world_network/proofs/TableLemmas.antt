@@ -1,23 +1,21 @@
--- A table that takes its own place.
-use Rattle.std.proofs.Common.{◌≡◌, ℕ, Bool, true, false, [], ◌∷◌, List, ◌++◌, Option, Some, not, ◌&&◌, map, refl, ap, sym, subst, ◌∙◌, if◌then◌else◌}
+-- Records that stay where they are: nobody comes to be named.
+use Rattle.std.proofs.Common.{◌≡◌, Bool, true, false, [], ◌∷◌, List, ◌++◌, Option, Some, not, ◌&&◌, map, refl, ap, sym, ◌∙◌, if◌then◌else◌}
 use Rattle.std.specs.List.{AllByRecursion}
-use Rattle.std.specs.Str.{bytes_eq}
 use Rattle.std.specs.declared.cmp.Ordering.TheVariants.{Less}
-use Rattle.std.proofs.lemmas.List.{append-nil, map-id, set-get_or}
+use Rattle.std.proofs.lemmas.List.{append-nil}
 use Rattle.std.proofs.lemmas.Slice.Eq.{bytes_eq-Decides}
 use Rattle.ndc_domain.proofs.Order.{eq_by_cmp}
 use Rattle.ndc_domain.proofs.Tables.{find_cases}
-use Rattle.ndc_domain.specs.Merge.{merged}
-use Rattle.ndc_domain.specs.Records.{AllLater, IsTable, Rise, record_of}
+use Rattle.ndc_domain.specs.Records.{AllLater, Rise, record_of}
 use Rattle.ndc_domain.specs.declared.clusters.ClusterNo.{ClusterNo}
 use Rattle.ndc_domain.specs.declared.record.DomainRecord.{DomainRecord}
 use Rattle.ndc_event.specs.declared.name.Name.{Name}
 use Rattle.ndc_model_cells.specs.Writing.{same_cluster}
 use Rattle.ndc_model.specs.Queues.{names_cluster}
-use Rattle.ndc_model.specs.World.{Cluster, Link, World, cluster_at, new_cluster, newly_naming, with_late, with_table}
+use Rattle.ndc_model.specs.World.{Link, newly_naming, with_late}
 
 -- each record of a table is found by its name
-found_each : (records : List DomainRecord) → Rise records → AllByRecursion (λ (one : DomainRecord). record_of records one.name ≡ Some one) records
+pub found_each : (records : List DomainRecord) → Rise records → AllByRecursion (λ (one : DomainRecord). record_of records one.name ≡ Some one) records
 found_each [] rise = tt
 found_each (first ∷ records) rise = (
   find_cases (λ (o : Option DomainRecord). o ≡ Some first) first records first.name (λ same. refl)
@@ -61,23 +59,7 @@ late-same source table link rise = by (same_cluster link.source source) refl
     by true own = rw own (ap (λ (names : List Name). record link { late = names }) (ap (λ (names : List Name). link.late ++ names) none ∙ append-nil link.late))
     by false other = rw other refl
 
-links-same : (source : ClusterNo) (table : List DomainRecord) (links : List Link) → Rise table → map (with_late source table table) links ≡ links
+pub links-same : (source : ClusterNo) (table : List DomainRecord) (links : List Link) → Rise table → map (with_late source table table) links ≡ links
 links-same source table [] rise = refl
 links-same source table (link ∷ links) rise =
     ap (λ (l : Link). l ∷ map (with_late source table table) links) (late-same source table link rise) ∙ ap (λ (ls : List Link). link ∷ ls) (links-same source table links rise)
-
--- and the world
-own-table : (cluster : ClusterNo) (w : World) → Rise (cluster_at cluster w).table → with_table cluster (cluster_at cluster w).table w ≡ w
-unfolding with_table
-own-table cluster w rise =
-    ap (λ (clusters : List Cluster). record w { clusters = clusters; links = map (with_late cluster (cluster_at cluster w).table (cluster_at cluster w).table) w.links }) (set-get_or w.clusters cluster.number (new_cluster 0))
-    ∙ ap (λ (links : List Link). record w { links = links }) (links-same cluster (cluster_at cluster w).table w.links rise)
-
--- a cluster that knows all of another's table merges it without a change
-pub known_table : (cluster other : ClusterNo) (w : World) (ours theirs : List DomainRecord) → ours ≡ (cluster_at cluster w).table → theirs ≡ (cluster_at other w).table → IsTable ours → merged ours theirs ≡ ours
-    → w ≡ with_table cluster (merged (cluster_at cluster w).table (cluster_at other w).table) w
-known_table cluster other w ours theirs own their table same =
-    let kept : merged (cluster_at cluster w).table (cluster_at other w).table ≡ (cluster_at cluster w).table =
-    ap (λ (records : List DomainRecord). merged records (cluster_at other w).table) (sym own) ∙ ap (merged ours) (sym their) ∙ same ∙ own in
-    let rise : Rise (cluster_at cluster w).table = subst Rise own table.ordered in
-    sym (ap (λ (records : List DomainRecord). with_table cluster records w) kept ∙ own-table cluster w rise)

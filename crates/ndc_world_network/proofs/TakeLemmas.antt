@@ -10,7 +10,7 @@ use Rattle.ndc_model_cells.specs.declared.job.ShardJob.{ShardJob}
 use Rattle.ndc_model_cells.specs.declared.message.Message.{Message}
 use Rattle.ndc_domain.specs.declared.clusters.ClusterNo.{ClusterNo}
 use Rattle.ndc_cluster_links.proofs.PlaceLemmas.{still}
-use Rattle.ndc_cluster_links.specs.Links.{flight_in, with_flight_in}
+use Rattle.ndc_cluster_links.specs.Links.{with_flight_in}
 use Rattle.ndc_model.specs.Moves.{all_arrive, arrives, by_link, in_flight, without_flight}
 use Rattle.ndc_model.specs.Queues.{Lane, new_lane}
 use Rattle.ndc_model.specs.World.{Link}

@@ -1,5 +1,5 @@
 -- Steps over lists, and traces that grow by what was done.
-use Rattle.std.proofs.Common.{◌≡◌, ◌<◌, ◌≤◌, ℕ, zero, suc, ◌+◌, List, [], ◌∷◌, ◌++◌, drop, length, slice_index_or, not, map, refl, ap, sym, subst, ◌∙◌, arith}
+use Rattle.std.proofs.Common.{◌≡◌, ◌<◌, ◌≤◌, ℕ, zero, suc, ◌+◌, List, [], ◌∷◌, ◌++◌, drop, length, slice_index_or, not, ap, sym, subst, ◌∙◌, arith, ◌≢◌, true, false, eq-eqb}
 use Rattle.std.proofs.lemmas.List.{append-nil, at_drop_more, drop_all}
 use Rattle.std.proofs.lemmas.Grind.{flat_map-append}
 use Rattle.std.specs.List.{AllByRecursion, flat_map, fold}
@@ -11,7 +11,7 @@ use Rattle.ndc_domain.specs.Clusters.{count_of}
 use Rattle.ndc_domain.specs.declared.clusters.ClusterNo.{ClusterNo}
 use Rattle.ndc_model.specs.Moves.{Note, Trace, after_settlement, bootstrapped, due_arrived, flights_arrived, from_world, jobs_done, quietly, reapplied_all, renewed, settled_once, without_flights, worked}
 use Rattle.ndc_model.proofs.FairLemmas.{clusters-among}
-use Rattle.ndc_model.proofs.ListLemmas.{all-filter}
+use Rattle.ndc_model.proofs.ListLemmas.{all-filter, filter-passes}
 use Rattle.ndc_model.specs.World.{World, all_clusters, others_of, with_link}
 use Rattle.ndc_cluster_rounds.proofs.EachLemmas.{all_there}
 use Rattle.ndc_model_sets.proofs.Lists.{all-from}
@@ -127,3 +127,12 @@ other_in header reader others i all below =
     all_there (IsCluster header) others i (record { number = 0 }) below
     (subst (AllByRecursion (IsCluster header)) (sym all)
     (all-filter (IsCluster header) (λ other. not (same_cluster reader other)) (all_clusters header) (all-from (IsCluster header) (all_clusters header) (λ c among. clusters-among (count_of header.clusters) c among))))
+
+-- and is another than the reader
+pub other_apart : (header : Header) (reader : ClusterNo) (others : List ClusterNo) (i : ℕ) → others ≡ others_of header reader → i < length others → reader.number ≢ (nth_cluster others i).number
+other_apart header reader others i all below same =
+    let passes : not (same_cluster reader (nth_cluster others i)) ≡ true =
+    all_there (λ (other : ClusterNo). not (same_cluster reader other) ≡ true) others i (record { number = 0 }) below
+    (subst (AllByRecursion (λ (other : ClusterNo). not (same_cluster reader other) ≡ true)) (sym all) (filter-passes (λ other. not (same_cluster reader other)) (all_clusters header))) in
+    let clash : false ≡ true = sym (ap not (eq-eqb reader.number (nth_cluster others i).number same)) ∙ passes in
+    absurd (cc)

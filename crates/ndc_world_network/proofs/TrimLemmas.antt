@@ -1,8 +1,7 @@
 -- Queues trimmed up to where all readers are done.
 use Rattle.std.proofs.Common.{◌≡◌, ◌≤◌, ◌<◌, ◌+◌, ◌-◌, ℕ, zero, suc, drop, take, length-take, Bool, true, false, List, [], ◌∷◌, ◌++◌, if◌then◌else◌, map, max, min, length, get_or, set, slice_index_or, slice_set, sum, refl, ap, sym, subst, ◌∙◌, arith}
-use Rattle.std.proofs.Math.ListN.{get_or-map}
 use Rattle.std.proofs.Math.Seq.{map-set_same}
-use Rattle.std.proofs.lemmas.List.{drop_at, get_or_default, length-map, map-set}
+use Rattle.std.proofs.lemmas.List.{drop_at, get_or_default, map-set}
 use Rattle.std.specs.List.{AllByRecursion, fold, range_with_len}
 use Rattle.ndc_script_types.specs.WellFormed.{IsCluster}
 use Rattle.ndc_script_types.specs.declared.script.Header.{Header}
@@ -17,16 +16,15 @@ use Rattle.ndc_cluster_links.proofs.PlaceLemmas.{changed_front, changed_more, co
 use Rattle.ndc_cluster_links.proofs.RestLemmas.{len_kept, rest_there}
 use Rattle.ndc_cluster_links.specs.Rest.{AreRests}
 use Rattle.ndc_model.proofs.ListLemmas.{length-map_from}
-use Rattle.ndc_model.specs.Fair.{EachLane}
 use Rattle.ndc_model.specs.Moves.{done_levels, map_from, trimmed_all, trimmed_level}
 use Rattle.ndc_model.specs.World.{Cluster, Link, World, cluster_at, lane_in, new_cluster, shards_of, trimmed_at}
 use Rattle.ndc_model.specs.World as world
 use Rattle.ndc_queue.specs.Levels.{trim_level}
 use Rattle.ndc_queue.specs.Queues.{QueueValue, queue_len}
 use Rattle.ndc_cluster_rounds.proofs.EachLemmas.{all_there}
-use Rattle.ndc_cluster.specs.Sites.{SiteValue}
+use Rattle.ndc_world_network.specs.Sites.{SiteValue}
 use Rattle.ndc_world_network.proofs.LinkLemmas.{stands_by}
-use Rattle.ndc_world_network.proofs.ShardLemmas.{cells_there, cluster_there}
+use Rattle.ndc_world_network.proofs.ShardLemmas.{cells_there}
 use Rattle.ndc_world_network.specs.Networks.{StandsAt, world_of}
 use Rattle.ndc_world_network.specs.Orderly.{AreLevelsKept, IsOrderly}
 use Rattle.ndc_world_network.specs.Trims.{dropped_now, raised_level, with_trimmed}

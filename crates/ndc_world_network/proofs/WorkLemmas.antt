@@ -6,7 +6,7 @@ use Rattle.ndc_model_cells.specs.Cells.{Cell}
 use Rattle.ndc_model_cells.specs.Jobs.{cells_after, replies_to}
 use Rattle.ndc_model_cells.specs.declared.job.JobReply.{JobReply}
 use Rattle.ndc_model_cells.specs.declared.job.ShardJob.{ShardJob}
-use Rattle.ndc_model_cells.specs.Writing.{Home, same_cluster}
+use Rattle.ndc_model_cells.specs.Writing.{Desk, same_cluster}
 use Rattle.ndc_domain.specs.declared.clusters.ClusterNo.{ClusterNo}
 use Rattle.ndc_domain.specs.declared.record.DomainRecord.{DomainRecord}
 use Rattle.ndc_graceful.specs.declared.handover.Handover.{Handover}
@@ -15,16 +15,16 @@ use Rattle.ndc_model.specs.Letters.{with_letters}
 use Rattle.ndc_model.specs.World.{Cluster, Link, World, cluster_at, new_cluster, newly_naming, with_cells, with_cluster, with_late, with_table}
 use Rattle.ndc_world_network.proofs.LinkLemmas.{stands}
 use Rattle.ndc_world_network.specs.Networks.{StandsAt, world_of}
-use Rattle.ndc_cluster.specs.Sites.{SiteValue, with_site_cells}
+use Rattle.ndc_world_network.specs.Sites.{SiteValue, with_site_cells}
 
 -- where there is no job, a cluster's cells stay, and none is replied to
-pub no_job_done : (home : Home) (jobs : List ShardJob) (cluster : ClusterNo) (w : World) → jobs ≡ [] → w ≡ with_cells cluster (cells_after home jobs (cluster_at cluster w).cells) w
+pub no_job_done : (home : Desk) (jobs : List ShardJob) (cluster : ClusterNo) (w : World) → jobs ≡ [] → w ≡ with_cells cluster (cells_after home jobs (cluster_at cluster w).cells) w
 unfolding cells_after
 no_job_done home jobs cluster w none =
     sym (ap (λ (list : List ShardJob). with_cells cluster (cells_after home list (cluster_at cluster w).cells) w) none
     ∙ ap (λ (clusters : List Cluster). record w { clusters = clusters }) (set-get_or w.clusters cluster.number (new_cluster 0)))
 
-pub no_job_replied : (home : Home) (jobs : List ShardJob) (cells : List Cell) (replies : List JobReply) → jobs ≡ [] → replies ≡ [] → replies ≡ replies_to home jobs cells
+pub no_job_replied : (home : Desk) (jobs : List ShardJob) (cells : List Cell) (replies : List JobReply) → jobs ≡ [] → replies ≡ [] → replies ≡ replies_to home jobs cells
 unfolding replies_to
 no_job_replied home jobs cells replies none empty = empty ∙ sym (ap (λ (list : List ShardJob). replies_to home list cells) none)
 

@@ -4,3 +4,5 @@ pub mod Found
 pub mod Networks
 pub mod Orderly
 pub mod Trims
+pub mod Sites
+pub mod Tables

@@ -6,7 +6,7 @@ use Rattle.ndc_model_cells.specs.Writing.{same_cluster}
 use Rattle.ndc_domain.specs.declared.clusters.ClusterNo.{ClusterNo}
 use Rattle.ndc_graceful.specs.declared.handover.Handover.{Handover}
 use Rattle.ndc_model.specs.World.{Link, World, cluster_at, new_cluster, new_link}
-use Rattle.ndc_cluster.specs.Sites.{SiteValue}
+use Rattle.ndc_world_network.specs.Sites.{SiteValue}
 
 -- the world of these clusters, links and handovers
 abbrev pub world_of : List SiteValue → List Link → List Handover → World

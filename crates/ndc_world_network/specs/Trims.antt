@@ -6,7 +6,7 @@ use Rattle.ndc_model_cells.specs.Jobs.{cell_for}
 use Rattle.ndc_domain.specs.declared.clusters.ClusterNo.{ClusterNo}
 use Rattle.ndc_model.specs.Moves.{done_levels}
 use Rattle.ndc_model.specs.World.{Link}
-use Rattle.ndc_cluster.specs.Sites.{SiteValue}
+use Rattle.ndc_world_network.specs.Sites.{SiteValue}
 
 -- a site whose queues are trimmed so far
 abbrev pub with_trimmed : List ℕ → SiteValue → SiteValue

@@ -14,7 +14,8 @@ use crate::network::Network;
 use crate::pulling::link_place;
 use crate::taking::add_jobs;
 use crate::working::Done;
-use ndc_cluster_links::{Link, Serves};
+use ndc_cluster_links::Link;
+use ndc_cluster_rounds::Cell;
 use ndc_domain::ClusterNo;
 use ndc_event::Name;
 use ndc_model_cells::ShardJob;
@@ -25,7 +26,7 @@ use std::thread::Threads;
 
 /// Jobs in which all arrives that cells have learned of some domains, by shard and then by place. Where there is no domain,
 /// no cell is asked.
-fn learned_jobs<C: Serves>(
+fn learned_jobs<C: Cell>(
     alloc: Global,
     cells: &[C],
     domains: &[Name],
@@ -55,7 +56,7 @@ fn late_of(links: &[Link], reader: ClusterNo, source: ClusterNo) -> &[Name]
     links[place].late()
 }
 
-impl<C: Serves + Drop> Network<C> {
+impl<C: Cell + Drop> Network<C> {
     /// Jobs in which all arrives that a source has learned of the domains of which a reader is a member late, by shard and
     /// then by place.
     fn late_jobs(

@@ -8,7 +8,7 @@ ghost use Rattle.ndc_world_network.specs.Orderly.{IsOrderly};
 use crate::network::Network;
 use crate::taking::add_jobs;
 use crate::working::Done;
-use ndc_cluster_links::Writes;
+use ndc_cluster_rounds::Cell;
 use ndc_domain::ClusterNo;
 use ndc_model_cells::ShardJob;
 use ndc_port::Gate;
@@ -16,9 +16,9 @@ use ndc_script_types::Header;
 use std::alloc::{AllocError, Global};
 use std::thread::Threads;
 
-impl<C: Writes + Drop> Network<C> {
-    /// Adds jobs in which all arrives that is due to a reader for a shard, link by link. Of each queue the entries are
-    /// looked at that are not done.
+impl<C: Cell + Drop> Network<C> {
+    /// Adds jobs in which all arrives that is due to a reader for a shard, link by link. Links over which all is done are passed
+    /// by; of each other queue the entries are looked at that are not done.
     fn add_due(
         &self,
         alloc: Global,
@@ -34,9 +34,11 @@ impl<C: Writes + Drop> Network<C> {
         for link in self.links.as_slice() {
             if link.reader().number == reader.number {
                 let source = &self.sites[link.source().number as usize];
-                let queue = &source.queues().as_slice()[shard as usize];
-                let messages = link.due(alloc, source.table(), shard as usize, queue)?;
-                add_jobs(jobs, shard, messages)?;
+                if !link.is_done(source.queues()) {
+                    let queue = &source.queues().as_slice()[shard as usize];
+                    let messages = link.due(alloc, source.table(), shard as usize, queue)?;
+                    add_jobs(jobs, shard, messages)?;
+                }
             }
         }
         Ok(())

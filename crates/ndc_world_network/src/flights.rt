@@ -7,11 +7,11 @@ ghost use Rattle.ndc_queue.specs.declared.flight.FlightError.TheVariants as erro
 
 use crate::network::Network;
 use crate::pulling::link_place;
-use ndc_cluster_links::Writes;
+use ndc_cluster_rounds::Cell;
 use ndc_domain::ClusterNo;
 use ndc_queue::{FlightError, NoSuchPlace};
 
-impl<C: Writes + Drop> Network<C> {
+impl<C: Cell + Drop> Network<C> {
     /// Loses the message at a place in flight from a source to a reader, for a shard. Refused exactly where there is none,
     /// and then all stays as it was. Takes no memory.
     pub fn lose(

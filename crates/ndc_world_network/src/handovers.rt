@@ -3,7 +3,7 @@ ghost use Rattle.std.specs.List.{filter};
 ghost use Rattle.ndc_model.specs.Handovers.{is_handover_of, with_handover, without_handover};
 
 use crate::network::Network;
-use ndc_cluster_links::Writes;
+use ndc_cluster_rounds::Cell;
 use ndc_event::Name;
 use ndc_graceful::Handover;
 use std::alloc::AllocError;
@@ -15,7 +15,7 @@ fn take_out(handovers: &mut Vec<Handover>, domain: &Name)
     handovers.retain(|handover| handover.domain != *domain);
 }
 
-impl<C: Writes + Drop> Network<C> {
+impl<C: Cell + Drop> Network<C> {
     /// Opens a handover. Where memory runs out, all stays as it was.
     pub fn open_handover(&mut self, handover: Handover) -> Result<(), AllocError>
         ensures opened { OnOk result (self.new ≡ with_handover handover self.old) }

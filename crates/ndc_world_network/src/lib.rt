@@ -13,6 +13,7 @@ mod records;
 mod renewing;
 mod resending;
 mod settling;
+mod site;
 pub mod sites;
 mod taking;
 mod trimming;
@@ -20,4 +21,5 @@ mod working;
 
 pub use key_set::KeySet;
 pub use network::Network;
+pub use site::Site;
 pub use working::{Done, Worked};

@@ -1,16 +1,17 @@
-use ndc_cluster::Site;
-use ndc_cluster_links::{Link, Writes};
+use crate::site::Site;
+use ndc_cluster_links::Link;
+use ndc_cluster_rounds::Cell;
 use ndc_graceful::Handover;
 use std::marker::Model;
 
 /// All clusters in header order, what each reader has of each source, and the open handovers. Seen as a world.
-pub struct Network<C: Writes + Drop> {
+pub struct Network<C: Cell + Drop> {
     pub(crate) sites: Vec<Site<C>>,
     pub(crate) links: Vec<Link>,
     pub(crate) handovers: Vec<Handover>,
 }
 
-impl<C: Writes + Drop> Model for Network<C> {
+impl<C: Cell + Drop> Model for Network<C> {
     ghost use Rattle.ndc_model.specs.World.{World};
     ghost use Rattle.ndc_world_network.specs.Networks.{world_of};
 
@@ -19,7 +20,7 @@ impl<C: Writes + Drop> Model for Network<C> {
     ghost view = { λ network. world_of network.sites.items network.links.items network.handovers.items };
 }
 
-impl<C: Writes + Drop> Drop for Network<C> {
+impl<C: Cell + Drop> Drop for Network<C> {
     fn drop(self) {
         let Network {
             sites: _sites,
@@ -29,9 +30,9 @@ impl<C: Writes + Drop> Drop for Network<C> {
     }
 }
 
-impl<C: Writes + Drop> Network<C> {
+impl<C: Cell + Drop> Network<C> {
     ghost use Rattle.std.specs.Prelude.{◌≡◌, map};
-    ghost use Rattle.ndc_cluster.specs.Sites.{SiteValue};
+    ghost use Rattle.ndc_world_network.specs.Sites.{SiteValue};
 
     /// The clusters, in header order. Takes no memory.
     pub fn sites(&self) -> &[Site<C>]

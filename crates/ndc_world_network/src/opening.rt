@@ -6,8 +6,9 @@ ghost use Rattle.ndc_model.specs.World.{all_clusters, opening_world};
 ghost use Rattle.ndc_world_network.specs.Networks.{links_of, opening_site};
 
 use crate::network::Network;
-use ndc_cluster::Site;
-use ndc_cluster_links::{Link, Writes};
+use crate::site::{Site, home_in};
+use ndc_cluster_links::Link;
+use ndc_cluster_rounds::Cell;
 use ndc_domain::ClusterNo;
 use ndc_script_types::{Header, clusters_below};
 use std::alloc::{AllocError, Global};
@@ -47,19 +48,33 @@ fn opening_links(
     Ok(links)
 }
 
-impl<C: Writes + Drop> Network<C> {
-    /// The clusters of a header in the beginning, from one for each in which nothing has happened.
-    pub fn new(
-        alloc: Global,
-        header: &Header,
-        sites: Vec<Site<C>>,
-    ) -> Result<Network<C>, AllocError>
-        requires few { header.now.shards ≤ 64 }
-        requires sites { sites.items ≡ map (λ _. opening_site header.now.shards) (all_clusters header.now) }
+/// These clusters in the beginning: nothing is registered or written.
+fn opening_sites<C: Cell + Drop>(
+    alloc: Global,
+    header: &Header,
+    clusters: &[ClusterNo],
+) -> Result<Vec<Site<C>>, AllocError>
+    requires { header.now.shards ≤ 64 }
+    ensures { IfOk result (λ sites. sites.items ≡ map (λ _. opening_site header.now.shards) clusters.now) }
+{
+    let mut sites = Vec::new(alloc);
+    for &cluster in clusters {
+        let home = home_in(header, cluster);
+        sites.push(Site::new(alloc, &home, header.shards)?)?;
+    }
+    Ok(sites)
+}
+
+impl<C: Cell + Drop> Network<C> {
+    /// The clusters of a header in the beginning: nothing is registered, written or sent.
+    pub fn new(alloc: Global, header: &Header) -> Result<Network<C>, AllocError>
+        requires { header.now.shards ≤ 64 }
         ensures { IfOk result (λ network. network ≡ opening_world header.now) }
     {
         let clusters = clusters_below(alloc, header.clusters.count())?;
-        let links = opening_links(alloc, header, clusters.as_slice())?;
+        let clusters = clusters.as_slice();
+        let sites = opening_sites(alloc, header, clusters)?;
+        let links = opening_links(alloc, header, clusters)?;
         Ok(Network {
             sites,
             links,

@@ -6,7 +6,8 @@ ghost use Rattle.ndc_model.specs.World.{is_link, lane_at, link_at};
 ghost use Rattle.ndc_world_network.specs.Orderly.{IsOrderly};
 
 use crate::network::Network;
-use ndc_cluster_links::{Link, Writes};
+use ndc_cluster_links::Link;
+use ndc_cluster_rounds::Cell;
 use ndc_domain::ClusterNo;
 use ndc_script_types::Header;
 use std::alloc::{AllocError, Global};
@@ -18,7 +19,7 @@ pub(crate) fn link_place(links: &[Link], reader: ClusterNo, source: ClusterNo) -
     links.iter().position(|link| link.is(reader, source))
 }
 
-impl<C: Writes + Drop> Network<C> {
+impl<C: Cell + Drop> Network<C> {
     /// A reader takes all entries of each queue of a source from `read` on; those that are addressed to it go last in
     /// flight, and are counted. After want of memory some shards were pulled.
     pub fn pull(

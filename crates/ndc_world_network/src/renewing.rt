@@ -5,12 +5,13 @@ ghost use Rattle.ndc_model.specs.World.{World};
 ghost use Rattle.ndc_world_network.specs.Orderly.{IsOrderly};
 
 use crate::network::Network;
-use ndc_cluster::Site;
-use ndc_cluster_links::{Link, Writes};
+use crate::site::Site;
+use ndc_cluster_links::Link;
+use ndc_cluster_rounds::Cell;
 use ndc_domain::ClusterNo;
 use ndc_script_types::Header;
 
-impl<C: Writes + Drop> Network<C> {
+impl<C: Cell + Drop> Network<C> {
     /// Renews the levels of a reader, of each source and shard. Takes no memory.
     pub fn renew(&mut self, header: &Header, reader: ClusterNo)
         requires reader { IsCluster header.now reader }

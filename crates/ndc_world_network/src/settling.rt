@@ -1,18 +1,17 @@
-ghost use Rattle.std.specs.Prelude.{◌≡◌, ◌<◌, map, IsTrue, IfOk, OnOk};
+ghost use Rattle.std.specs.Prelude.{◌≡◌, ◌<◌, map, IfOk, OnOk};
 ghost use Rattle.std.specs.List.{flat_map, fold};
 ghost use Rattle.ndc_script_types.specs.WellFormed.{IsCluster};
-ghost use Rattle.ndc_domain.specs.Merge.{merged};
-ghost use Rattle.ndc_domain.specs.Records.{IsTable};
 ghost use Rattle.ndc_model.specs.Moves.{after_settlement, all_reapply, bootstrapped, due_arrived, link_without_flights, merged_all, reapplied_all, renewed, settled_once, without_flights};
-ghost use Rattle.ndc_model.specs.World.{all_clusters, cluster_at, others_of, with_table};
+ghost use Rattle.ndc_model.specs.World.{all_clusters, others_of};
 ghost use Rattle.ndc_model.specs.Conditions.{EachStep, MayBootstrap, MayDoAll, MaySettle, MaySettleOnce, all_bootstrapped, all_due_arrived, due_jobs, late_jobs, reader_bootstrapped, tables_merged};
 ghost use Rattle.ndc_world_network.specs.Dones.{notes_in, trace_of};
 ghost use Rattle.ndc_world_network.specs.Orderly.{IsOrderly};
 
 use crate::network::Network;
 use crate::working::Done;
-use ndc_cluster_links::{Link, Serves, Writes};
-use ndc_domain::{ClusterNo, DomainTable};
+use ndc_cluster_links::Link;
+use ndc_cluster_rounds::Cell;
+use ndc_domain::ClusterNo;
 use ndc_port::Gate;
 use ndc_script_types::{Header, clusters_below};
 use std::alloc::{AllocError, Global};
@@ -46,40 +45,7 @@ fn empty_all(links: &mut Vec<Link>)
     }
 }
 
-/// Whether all that a table has is known to another one, so that merging it changes nothing.
-fn is_known(ours: &DomainTable, theirs: &DomainTable) -> bool
-    ensures known { IsTrue result → merged ours.now theirs.now ≡ ours.now }
-    ensures table { IsTable ours.now }
-{
-    let _ordered = ours.records();
-    !ours.lacks(theirs)
-}
-
-impl<C: Writes + Drop> Network<C> {
-    /// A cluster merges the table of another one. Where this has nothing that its own lacks, no memory is taken.
-    fn merge_table(
-        &mut self,
-        alloc: Global,
-        header: &Header,
-        to: ClusterNo,
-        from: ClusterNo,
-    ) -> Result<(), AllocError>
-        requires to { IsCluster header.now to }
-        requires from { IsCluster header.now from }
-        requires orderly { IsOrderly header.now self.old }
-        ensures { OnOk result (self.new ≡ with_table to (merged (cluster_at to self.old).table (cluster_at from self.old).table) self.old) }
-    {
-        let ours = self.sites[to.number as usize].table();
-        let theirs = self.sites[from.number as usize].table();
-        if is_known(ours, theirs) {
-            return Ok(());
-        }
-        let mut table = ours.try_copy()?;
-        table.merge(theirs)?;
-        self.replace_table(alloc, to, table)?;
-        Ok(())
-    }
-
+impl<C: Cell + Drop> Network<C> {
     /// A cluster merges the tables of these others, one after the other.
     fn merge_others(
         &mut self,
@@ -95,7 +61,7 @@ impl<C: Writes + Drop> Network<C> {
         ensures orderly { OnOk result (IsOrderly header.now self.new) }
     {
         for &other in others {
-            self.merge_table(alloc, header, cluster, other)?;
+            self.merge(alloc, cluster, other)?;
         }
         Ok(())
     }
@@ -192,7 +158,7 @@ impl<C: Writes + Drop> Network<C> {
     }
 }
 
-impl<C: Serves + Drop> Network<C> {
+impl<C: Cell + Drop> Network<C> {
     /// A reader takes from each of these sources what it lacks, one after the other.
     fn bootstrap_reader<R: Threads + Sync, G: Gate>(
         &mut self,

@@ -8,8 +8,9 @@ ghost use Rattle.ndc_world_network.specs.Found.{batches_or_none};
 ghost use Rattle.ndc_queue.specs.Queues.{queue_len};
 
 use crate::network::Network;
-use ndc_cluster::Site;
-use ndc_cluster_links::{Link, Writes};
+use crate::site::Site;
+use ndc_cluster_links::Link;
+use ndc_cluster_rounds::Cell;
 use ndc_cluster_reads::Reads;
 use ndc_domain::{ClusterNo, DomainTable};
 use ndc_event::Name;
@@ -19,7 +20,7 @@ use ndc_script_types::Header;
 use ndc_shard_runs::Runs;
 
 /// A cluster.
-pub fn site_of<C: Writes + Drop>(network: &Network<C>, cluster: ClusterNo) -> &Site<C>
+pub fn site_of<C: Cell + Drop>(network: &Network<C>, cluster: ClusterNo) -> &Site<C>
     requires { cluster.number < length network.now.clusters }
     ensures cluster { result.now.cluster ≡ cluster_at cluster network.now }
     ensures trimmed { result.now.trimmed ≡ slice_index_or network.now.trimmed cluster.number [] }
@@ -28,7 +29,7 @@ pub fn site_of<C: Writes + Drop>(network: &Network<C>, cluster: ClusterNo) -> &S
 }
 
 /// Its domain records.
-pub fn table_of<C: Writes + Drop>(network: &Network<C>, cluster: ClusterNo) -> &DomainTable
+pub fn table_of<C: Cell + Drop>(network: &Network<C>, cluster: ClusterNo) -> &DomainTable
     requires { cluster.number < length network.now.clusters }
     ensures { result.now ≡ (cluster_at cluster network.now).table }
 {
@@ -36,7 +37,7 @@ pub fn table_of<C: Writes + Drop>(network: &Network<C>, cluster: ClusterNo) -> &
 }
 
 /// Its cell for a shard.
-pub fn cell_of<C: Writes + Drop>(network: &Network<C>, cluster: ClusterNo, shard: u32) -> &C
+pub fn cell_of<C: Cell + Drop>(network: &Network<C>, cluster: ClusterNo, shard: u32) -> &C
     requires cluster { cluster.number < length network.now.clusters }
     requires shard { shard < length (cluster_at cluster network.now).cells }
     ensures { C.cell result.now ≡ cell_for shard (cluster_at cluster network.now).cells }
@@ -63,7 +64,7 @@ fn find_link(links: &[Link], reader: ClusterNo, source: ClusterNo) -> Option<&Li
 }
 
 /// What a reader has of a source, where it has anything.
-pub fn link_of<C: Writes + Drop>(
+pub fn link_of<C: Cell + Drop>(
     network: &Network<C>,
     reader: ClusterNo,
     source: ClusterNo,
@@ -74,7 +75,7 @@ pub fn link_of<C: Writes + Drop>(
 }
 
 /// What is in flight from a source to a reader for a shard.
-pub fn flight_of<C: Writes + Drop>(
+pub fn flight_of<C: Cell + Drop>(
     network: &Network<C>,
     reader: ClusterNo,
     source: ClusterNo,
@@ -92,7 +93,7 @@ pub fn flight_of<C: Writes + Drop>(
 }
 
 /// How far a reader has read the queue of a source for a shard, and how far all of it is done.
-pub fn levels_of<C: Writes + Drop>(
+pub fn levels_of<C: Cell + Drop>(
     network: &Network<C>,
     reader: ClusterNo,
     source: ClusterNo,
@@ -110,7 +111,7 @@ pub fn levels_of<C: Writes + Drop>(
 }
 
 /// What is kept of the queue of a source for a shard.
-pub fn queue_of<C: Writes + Drop>(network: &Network<C>, source: ClusterNo, shard: u32) -> &Queue
+pub fn queue_of<C: Cell + Drop>(network: &Network<C>, source: ClusterNo, shard: u32) -> &Queue
     requires source { source.number < length network.now.clusters }
     requires shard { shard < length (cluster_at source network.now).cells }
     ensures len { queue_len result.now ≡ length (queue_at source shard network.now) }

@@ -7,8 +7,9 @@ ghost use Rattle.ndc_world_network.specs.Trims.{dropped_now, raised_level, with_
 ghost use Rattle.ndc_world_network.specs.Orderly.{IsOrderly};
 
 use crate::network::Network;
-use ndc_cluster::Site;
-use ndc_cluster_links::{Link, Writes};
+use crate::site::Site;
+use ndc_cluster_links::Link;
+use ndc_cluster_rounds::Cell;
 use ndc_domain::ClusterNo;
 use ndc_script_types::Header;
 
@@ -28,7 +29,7 @@ fn done_level(links: &[Link], source: ClusterNo, shard: usize, most: u64) -> u64
 }
 
 /// Trims the queues of a source up to where all of its readers are done, and counts the entries that are dropped now.
-fn trim_site<C: Writes + Drop>(site: &mut Site<C>, links: &[Link], source: ClusterNo) -> u64
+fn trim_site<C: Cell + Drop>(site: &mut Site<C>, links: &[Link], source: ClusterNo) -> u64
     requires { AllByRecursion (λ link. length link.lanes ≡ length site.old.cluster.cells) links.now }
     ensures trimmed { site.new ≡ with_trimmed (map_from (raised_level source links.now site.old.cluster.cells) 0 site.old.trimmed) site.old }
     ensures count { result ≡ sum (map_from (dropped_now source links.now site.old.cluster.cells) 0 site.old.trimmed) }
@@ -42,7 +43,7 @@ fn trim_site<C: Writes + Drop>(site: &mut Site<C>, links: &[Link], source: Clust
     count
 }
 
-impl<C: Writes + Drop> Network<C> {
+impl<C: Cell + Drop> Network<C> {
     /// Drops all entries of each queue of a source that all readers are done with, and counts those that are dropped now.
     /// Takes no memory.
     pub fn trim(&mut self, header: &Header, source: ClusterNo) -> u64

@@ -12,8 +12,9 @@ ghost use Rattle.ndc_world_network.specs.Orderly.{IsOrderly};
 ghost use Rattle.ndc_model_cells.specs.Conditions.{AreAllowed};
 
 use crate::network::Network;
+use crate::site::home_in;
 use crate::taking::take_all;
-use ndc_cluster_links::Writes;
+use ndc_cluster_rounds::Cell;
 use ndc_domain::ClusterNo;
 use ndc_model_cells::{Job, JobReply, ShardJob};
 use ndc_port::Gate;
@@ -50,7 +51,7 @@ fn reapply_jobs(alloc: Global, shards: u32) -> Result<Vec<ShardJob>, AllocError>
     Ok(jobs)
 }
 
-impl<C: Writes + Drop> Network<C> {
+impl<C: Cell + Drop> Network<C> {
     /// The cells of a cluster do jobs side by side, on so many workers at most, behind the gate; where there is no job, no
     /// worker enters it. The cells and the replies are those of the jobs done one after the other. The shard of each job is that of a cell, and each job may be done
     /// by the cell that the jobs before it leave. After want of memory the cluster has no cells.
@@ -77,17 +78,8 @@ impl<C: Writes + Drop> Network<C> {
             return Ok(Vec::new(alloc));
         }
         let site = &mut self.sites[cluster.number as usize];
-        let limit = header.limit;
-        site.round(
-            rt,
-            alloc,
-            gate,
-            workers,
-            &header.clusters,
-            cluster,
-            limit,
-            jobs,
-        )
+        let home = home_in(header, cluster);
+        site.round(rt, alloc, gate, workers, &home, jobs)
     }
 
     /// The same, of jobs that are given back with the replies.

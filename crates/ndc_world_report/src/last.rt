@@ -5,15 +5,16 @@ ghost use Rattle.ndc_model.specs.Lines.{ran_of};
 ghost use Rattle.ndc_world.specs.Counts.{refused_in};
 ghost use Rattle.ndc_world_report.specs.Left.{last_world};
 
+use ndc_cluster_reads::Reads;
 use ndc_port::Gate;
 use ndc_script_types::Script;
-use ndc_world::{Begins, World};
+use ndc_world::World;
 use std::alloc::{AllocError, Global};
 use std::thread::Threads;
 
 /// Runs a script on so many workers at most, behind the gate, and writes nothing; gives the world that its last line
 /// leaves.
-pub fn last_world<'a, R: Threads + Sync, G: Gate, C: Begins + Drop + Send>(
+pub fn last_world<'a, R: Threads + Sync, G: Gate, C: Reads + Drop + Send>(
     rt: &R,
     alloc: Global,
     gate: &G,

@@ -13,15 +13,16 @@ ghost use Rattle.ndc_world_report.specs.declared.error.RunError.TheVariants as r
 ghost use Rattle.ndc_world.specs.Running.{ran_at};
 
 use crate::error::RunError;
+use ndc_cluster_reads::Reads;
 use ndc_index::{Indexers, Seen};
 use ndc_port::{Gate, Sink, write_all};
 use ndc_script_types::{Line, Script};
-use ndc_world::{Answer, Begins, World};
+use ndc_world::{Answer, World};
 use std::alloc::{AllocError, Global};
 use std::thread::Threads;
 
 /// Runs a line and writes its answers in one piece; gives what it made learned.
-fn run_line<R: Threads + Sync, G: Gate, K: Sink, C: Begins + Drop + Send>(
+fn run_line<R: Threads + Sync, G: Gate, K: Sink, C: Reads + Drop + Send>(
     rt: &R,
     alloc: Global,
     gate: &G,
@@ -74,7 +75,7 @@ fn keep_where(keeps: bool, told: &mut Vec<Seen>, seen: Vec<Seen>) -> Result<(), 
 /// last line the late ones are told of all of it, and the lines of all indexers are written in one piece.
 /// [`RunError::Write`] where a write failed, and only there, [`RunError::Memory`] where memory ran out: then a front of
 /// this was written.
-pub fn run_script<R: Threads + Sync, G: Gate, K: Sink, C: Begins + Drop + Send>(
+pub fn run_script<R: Threads + Sync, G: Gate, K: Sink, C: Reads + Drop + Send>(
     rt: &R,
     alloc: Global,
     gate: &G,

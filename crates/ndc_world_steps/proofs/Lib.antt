@@ -4,3 +4,4 @@ pub mod DamageLemmas
 pub mod HandoverLemmas
 pub mod MergeLemmas
 pub mod TellLemmas
+pub mod JoinLemmas

@@ -1,6 +1,6 @@
 -- Activities that a cluster may tell of, and the versions of events.
 use Rattle.std.specs.Prelude.{ℕ, ◌==◌, List, [], ◌∷◌, Option, Some, None, Result, Ok, if◌then◌else◌}
-use Rattle.ndc_model_cells.specs.Writing.{Home, as_command_error, may_write_by}
+use Rattle.ndc_model_cells.specs.Writing.{Desk, as_command_error, may_write_by}
 use Rattle.ndc_command.specs.declared.refusal.CommandError.{CommandError}
 use Rattle.ndc_domain.specs.Records.{record_of}
 use Rattle.ndc_event.specs.Outcome.{◌>>=◌}
@@ -17,7 +17,7 @@ version_found id [] = None
 version_found id (event ∷ events) = if event.id == id then Some event.version else version_found id events
 
 -- the version with which a cluster may tell of an activity, and the activity, where this is learned of its workflow
-abbrev pub told_from : Home → Name → Name → Name → List Batch → Result (ℕ × ActivityRef) CommandError
+abbrev pub told_from : Desk → Name → Name → Name → List Batch → Result (ℕ × ActivityRef) CommandError
 told_from home domain workflow id batches =
     as_command_error (may_write_by home (record_of home.table domain) batches)
     >>= λ version. started_activity domain workflow id batches (workflow_tip batches)

@@ -1,39 +1,22 @@
-ghost use Rattle.std.specs.Prelude.{◌≡◌, ◌<◌, ◌^◌, [], ◌∷◌, All, decimal, length, IfOk, IfSome};
+ghost use Rattle.std.specs.Prelude.{◌≡◌, ◌≢◌, ◌<◌, ◌^◌, All, length, IfOk, IfSome};
 ghost use Rattle.std.specs.List.{AllByRecursion};
 ghost use Rattle.ndc_domain.specs.Clusters.{count_of};
 ghost use Rattle.ndc_domain.specs.Records.{failover_of, join_of, record_of, register_of, retain_of};
 ghost use Rattle.ndc_model.specs.Tables.{domain_answer, domains_step, failover_words, join_step, members_answer, register_words, retain_words, table_step};
-ghost use Rattle.ndc_model.specs.World.{cluster_at, with_table};
-ghost use Rattle.ndc_model.specs.Steps.{answered};
-ghost use Rattle.ndc_model.specs.Texts.{ok};
+ghost use Rattle.ndc_model.specs.World.{cluster_at};
 ghost use Rattle.ndc_world_steps.specs.Told.{leaving};
 
 use crate::step::{Step, answered};
-use ndc_cluster_links::Writes;
-use ndc_domain::{ClusterNo, DomainError, DomainTable, Members};
+use ndc_cluster_rounds::Cell;
+use ndc_domain::{ClusterNo, DomainError, Members};
 use ndc_event::Name;
 use ndc_script_types::Header;
 use ndc_world_network::Network;
 use ndc_world_network::sites::table_of;
 use std::alloc::{AllocError, Global};
 
-/// A cluster gets another table, and the line answers a number.
-fn with_table<C: Writes + Drop>(
-    network: &mut Network<C>,
-    alloc: Global,
-    cluster: ClusterNo,
-    table: DomainTable,
-    number: u64,
-) -> Result<Step, AllocError>
-    requires { cluster.number < length network.old.clusters }
-    ensures { IfOk result (λ step. leaving network.new step ≡ answered (with_table cluster table network.old) (ok (decimal number ∷ []))) }
-{
-    network.replace_table(alloc, cluster, table)?;
-    Ok(answered(alloc, ndc_world_answers::counted(alloc, number)?))
-}
-
 /// `register`.
-pub fn register<C: Writes + Drop>(
+pub fn register<C: Cell + Drop>(
     network: &mut Network<C>,
     alloc: Global,
     header: &Header,
@@ -48,16 +31,15 @@ pub fn register<C: Writes + Drop>(
     ensures { IfOk result (λ step. leaving network.new step
         ≡ table_step register_words at network.old (register_of header.now.clusters at domain.now target days members (cluster_at at network.old).table)) }
 {
-    let mut table = table_of(network, at).try_copy()?;
-    match table.register(&header.clusters, at, domain, target, days, members) {
-        Ok(version) => with_table(network, alloc, at, table, version),
+    match network.register(header, at, domain, target, days, members) {
+        Ok(version) => Ok(answered(alloc, ndc_world_answers::counted(alloc, version)?)),
         Err(DomainError::Memory) => Err(AllocError),
         Err(error) => Ok(answered(alloc, ndc_world_answers::register_refused(alloc, error)?)),
     }
 }
 
 /// `retain`.
-pub fn retain<C: Writes + Drop>(
+pub fn retain<C: Cell + Drop>(
     network: &mut Network<C>,
     alloc: Global,
     at: ClusterNo,
@@ -68,15 +50,14 @@ pub fn retain<C: Writes + Drop>(
     requires config { IfSome (record_of (cluster_at at network.old).table domain.now) (λ old. old.config < 10 ^ 12) }
     ensures { IfOk result (λ step. leaving network.new step ≡ table_step retain_words at network.old (retain_of at domain.now days (cluster_at at network.old).table)) }
 {
-    let mut table = table_of(network, at).try_copy()?;
-    match table.retain(at, domain, days) {
-        Ok(config) => with_table(network, alloc, at, table, config),
+    match network.retain(at, domain, days) {
+        Ok(config) => Ok(answered(alloc, ndc_world_answers::counted(alloc, config)?)),
         Err(error) => Ok(answered(alloc, ndc_world_answers::retain_refused(alloc, error)?)),
     }
 }
 
 /// `failover`.
-pub fn failover<C: Writes + Drop>(
+pub fn failover<C: Cell + Drop>(
     network: &mut Network<C>,
     alloc: Global,
     header: &Header,
@@ -87,15 +68,14 @@ pub fn failover<C: Writes + Drop>(
     requires at { at.number < length network.old.clusters }
     ensures { IfOk result (λ step. leaving network.new step ≡ table_step failover_words at network.old (failover_of header.now.clusters domain.now target (cluster_at at network.old).table)) }
 {
-    let mut table = table_of(network, at).try_copy()?;
-    match table.failover(&header.clusters, domain, target) {
-        Ok(version) => with_table(network, alloc, at, table, version),
+    match network.fail_over(header, at, domain, target) {
+        Ok(version) => Ok(answered(alloc, ndc_world_answers::counted(alloc, version)?)),
         Err(error) => Ok(answered(alloc, ndc_world_answers::failover_refused(alloc, error)?)),
     }
 }
 
 /// `join`.
-pub fn join<C: Writes + Drop>(
+pub fn join<C: Cell + Drop>(
     network: &mut Network<C>,
     alloc: Global,
     at: ClusterNo,
@@ -106,18 +86,14 @@ pub fn join<C: Writes + Drop>(
     requires member { member.number < 8 }
     ensures { IfOk result (λ step. leaving network.new step ≡ join_step at network.old (join_of at domain.now member (cluster_at at network.old).table)) }
 {
-    let mut table = table_of(network, at).try_copy()?;
-    match table.join(at, domain, member) {
-        Ok(()) => {
-            network.replace_table(alloc, at, table)?;
-            Ok(answered(alloc, ndc_world_answers::done(alloc)?))
-        }
+    match network.join(at, domain, member)? {
+        Ok(()) => Ok(answered(alloc, ndc_world_answers::done(alloc)?)),
         Err(error) => Ok(answered(alloc, ndc_world_answers::join_refused(alloc, error)?)),
     }
 }
 
 /// `domains`.
-pub fn domains<C: Writes + Drop>(
+pub fn domains<C: Cell + Drop>(
     network: &mut Network<C>,
     alloc: Global,
     to: ClusterNo,
@@ -125,15 +101,15 @@ pub fn domains<C: Writes + Drop>(
 ) -> Result<Step, AllocError>
     requires to { to.number < length network.old.clusters }
     requires from { from.number < length network.old.clusters }
+    requires apart { to.number ≢ from.number }
     ensures { IfOk result (λ step. leaving network.new step ≡ domains_step to from network.old) }
 {
-    let mut table = table_of(network, to).try_copy()?;
-    let count = table.merge(table_of(network, from))?;
-    with_table(network, alloc, to, table, count)
+    let count = network.merge(alloc, to, from)?;
+    Ok(answered(alloc, ndc_world_answers::counted(alloc, count)?))
 }
 
 /// `domain`.
-pub fn domain<C: Writes + Drop>(
+pub fn domain<C: Cell + Drop>(
     network: &Network<C>,
     alloc: Global,
     header: &Header,
@@ -148,7 +124,7 @@ pub fn domain<C: Writes + Drop>(
 }
 
 /// `members`.
-pub fn members<C: Writes + Drop>(
+pub fn members<C: Cell + Drop>(
     network: &Network<C>,
     alloc: Global,
     header: &Header,

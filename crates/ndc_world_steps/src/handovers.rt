@@ -1,4 +1,4 @@
-ghost use Rattle.std.specs.Prelude.{◌≡◌, ◌<◌, ◌≤◌, length, is_some, find, option_copied, position, IfOk, OnOk, Ok};
+ghost use Rattle.std.specs.Prelude.{◌≡◌, ◌<◌, ◌≤◌, [], ◌∷◌, decimal, length, is_some, find, option_copied, position, IfOk, OnOk};
 ghost use Rattle.std.specs.List.{AllByRecursion, list_any};
 ghost use Rattle.std.specs.Str.{bytes_eq};
 ghost use Rattle.ndc_script_types.specs.WellFormed.{IsCluster};
@@ -6,13 +6,16 @@ ghost use Rattle.ndc_graceful.specs.Begin.{begin_of};
 ghost use Rattle.ndc_graceful.specs.Ready.{ready_of};
 ghost use Rattle.ndc_domain.specs.Records.{record_of};
 ghost use Rattle.ndc_model.specs.Fair.{IsShaped};
-ghost use Rattle.ndc_model.specs.Handovers.{complete_by, complete_step, handed_over, handover_begun, handover_step, is_handover_of, open_handover, queue_ends, ready_in, version_or_zero};
+ghost use Rattle.ndc_model.specs.Handovers.{complete_by, complete_step, handed_over, handover_begun, handover_step, is_handover_of, open_handover, queue_ends, ready_in, version_or_zero, with_handover};
+ghost use Rattle.ndc_model.specs.Steps.{answered};
+ghost use Rattle.ndc_model.specs.Texts.{ok};
 ghost use Rattle.ndc_model.specs.World.{cluster_at, link_at};
 ghost use Rattle.ndc_world_steps.specs.Links.{IsBetween, is_handover_to, is_late_by, levels_by};
 ghost use Rattle.ndc_world_steps.specs.Told.{leaving};
 
 use crate::step::{Step, answered};
-use ndc_cluster_links::{Link, Writes};
+use ndc_cluster_links::Link;
+use ndc_cluster_rounds::Cell;
 use ndc_domain::{ClusterNo, DomainTable};
 use ndc_event::Name;
 use ndc_graceful::{BeginError, Handover, ReadyError};
@@ -31,14 +34,14 @@ fn has_handover(handovers: &[Handover], domain: &Name) -> bool
 
 /// Whether a handover of a domain is open.
 #[tactic(auto, using(ndc_world_network::proofs::FindLemmas::any_found))]
-fn is_open<C: Writes + Drop>(network: &Network<C>, domain: &Name) -> bool
+fn is_open<C: Cell + Drop>(network: &Network<C>, domain: &Name) -> bool
     ensures { result ≡ is_some (open_handover domain.now network.now) }
 {
     has_handover(network.handovers(), domain)
 }
 
 /// Where the queues of a cluster end, by shard.
-fn queue_ends<C: Writes + Drop>(
+fn queue_ends<C: Cell + Drop>(
     network: &Network<C>,
     alloc: Global,
     header: &Header,
@@ -56,7 +59,7 @@ fn queue_ends<C: Writes + Drop>(
 }
 
 /// A handover begins, where none of the domain is open.
-fn begin<C: Writes + Drop>(
+fn begin<C: Cell + Drop>(
     network: &mut Network<C>,
     alloc: Global,
     header: &Header,
@@ -70,33 +73,28 @@ fn begin<C: Writes + Drop>(
         ≡ handover_begun at network.old (begin_of header.now.clusters at domain.now target (queue_ends header.now at network.old) (cluster_at at network.old).table)) }
 {
     let places = queue_ends(network, alloc, header, at)?;
-    let mut table = table_of(network, at).try_copy()?;
-    match Handover::begin(&mut table, &header.clusters, at, domain, target, places) {
-        Ok(begun) => open(network, alloc, at, table, begun),
+    match network.begin_handover(header, at, domain, target, places) {
+        Ok(begun) => open(network, alloc, begun),
         Err(BeginError::Memory) => Err(AllocError),
         Err(error) => Ok(answered(alloc, ndc_world_answers::begin_refused(alloc, error)?)),
     }
 }
 
-/// A cluster gets another table, and a handover is opened.
-fn open<C: Writes + Drop>(
+/// A handover that has begun is opened.
+fn open<C: Cell + Drop>(
     network: &mut Network<C>,
     alloc: Global,
-    at: ClusterNo,
-    table: DomainTable,
     begun: Handover,
 ) -> Result<Step, AllocError>
-    requires { at.number < length network.old.clusters }
-    ensures { IfOk result (λ step. leaving network.new step ≡ handover_begun at network.old (Ok (begun, table))) }
+    ensures { IfOk result (λ step. leaving network.new step ≡ answered (with_handover begun network.old) (ok (decimal begun.new ∷ []))) }
 {
     let new = begun.new;
-    network.replace_table(alloc, at, table)?;
     network.open_handover(begun)?;
     Ok(answered(alloc, ndc_world_answers::counted(alloc, new)?))
 }
 
 /// `handover`.
-pub fn handover<C: Writes + Drop>(
+pub fn handover<C: Cell + Drop>(
     network: &mut Network<C>,
     alloc: Global,
     header: &Header,
@@ -201,7 +199,7 @@ fn ready_by(
 }
 
 /// Whether a handover is ready, or what keeps it.
-fn ready_in<C: Writes + Drop>(
+fn ready_in<C: Cell + Drop>(
     network: &Network<C>,
     alloc: Global,
     handover: &Handover,
@@ -219,7 +217,7 @@ fn ready_in<C: Writes + Drop>(
 }
 
 /// The target merges the one record, and the handover ends.
-fn hand_over<C: Writes + Drop>(
+fn hand_over<C: Cell + Drop>(
     network: &mut Network<C>,
     alloc: Global,
     handover: &Handover,
@@ -228,10 +226,7 @@ fn hand_over<C: Writes + Drop>(
     requires from { handover.now.from.number < length network.old.clusters }
     ensures { OnOk result (network.new ≡ handed_over handover.now network.old) }
 {
-    let only = table_of(network, handover.from).only(&handover.domain)?;
-    let mut table = table_of(network, handover.to).try_copy()?;
-    table.merge(&only)?;
-    network.replace_table(alloc, handover.to, table)?;
+    network.merge_record(alloc, handover.to, handover.from, &handover.domain)?;
     network.close_handover(&handover.domain);
     Ok(())
 }
@@ -247,7 +242,7 @@ fn version_of(table: &DomainTable, domain: &Name) -> u64
 }
 
 /// A handover is completed where it is ready.
-fn complete_by<C: Writes + Drop>(
+fn complete_by<C: Cell + Drop>(
     network: &mut Network<C>,
     alloc: Global,
     handover: &Handover,
@@ -273,7 +268,7 @@ fn complete_by<C: Writes + Drop>(
 }
 
 /// The target completes a handover to it, which is between clusters of the header and has a place for each shard.
-fn complete_one<C: Writes + Drop>(
+fn complete_one<C: Cell + Drop>(
     network: &mut Network<C>,
     alloc: Global,
     header: &Header,
@@ -291,7 +286,7 @@ fn complete_one<C: Writes + Drop>(
 /// `complete`. Each open handover is between clusters of the header and has a place for each shard. That the target has
 /// learned all of the old version by then is
 /// `ndc_laws::handover_laws::at_the_end_of_a_handover_all_of_the_old_version_is_learned`.
-pub fn complete<C: Writes + Drop>(
+pub fn complete<C: Cell + Drop>(
     network: &mut Network<C>,
     alloc: Global,
     header: &Header,

@@ -8,7 +8,7 @@ ghost use Rattle.ndc_world_network.specs.Orderly.{IsOrderly};
 ghost use Rattle.ndc_world_steps.specs.Told.{leaving};
 
 use crate::step::{Step, answered};
-use ndc_cluster_links::Writes;
+use ndc_cluster_rounds::Cell;
 use ndc_domain::ClusterNo;
 use ndc_queue::FlightError;
 use ndc_script_types::Header;
@@ -17,7 +17,7 @@ use ndc_world_network::sites::{flight_of, levels_of, queue_of};
 use std::alloc::{AllocError, Global};
 
 /// `pull` for every shard.
-pub fn pull<C: Writes + Drop>(
+pub fn pull<C: Cell + Drop>(
     network: &mut Network<C>,
     alloc: Global,
     header: &Header,
@@ -33,7 +33,7 @@ pub fn pull<C: Writes + Drop>(
 }
 
 /// `pull` for one shard.
-pub fn pull_some<C: Writes + Drop>(
+pub fn pull_some<C: Cell + Drop>(
     network: &mut Network<C>,
     alloc: Global,
     header: &Header,
@@ -52,7 +52,7 @@ pub fn pull_some<C: Writes + Drop>(
 }
 
 /// `lose`.
-pub fn lose<C: Writes + Drop>(
+pub fn lose<C: Cell + Drop>(
     network: &mut Network<C>,
     alloc: Global,
     reader: ClusterNo,
@@ -70,7 +70,7 @@ pub fn lose<C: Writes + Drop>(
 }
 
 /// `repeat`.
-pub fn repeat<C: Writes + Drop>(
+pub fn repeat<C: Cell + Drop>(
     network: &mut Network<C>,
     alloc: Global,
     reader: ClusterNo,
@@ -89,7 +89,7 @@ pub fn repeat<C: Writes + Drop>(
 }
 
 /// `move`.
-pub fn move_to<C: Writes + Drop>(
+pub fn move_to<C: Cell + Drop>(
     network: &mut Network<C>,
     alloc: Global,
     reader: ClusterNo,
@@ -108,7 +108,7 @@ pub fn move_to<C: Writes + Drop>(
 }
 
 /// `rewind`.
-pub fn rewind<C: Writes + Drop>(
+pub fn rewind<C: Cell + Drop>(
     network: &mut Network<C>,
     alloc: Global,
     reader: ClusterNo,
@@ -121,7 +121,7 @@ pub fn rewind<C: Writes + Drop>(
 }
 
 /// `trim`.
-pub fn trim<C: Writes + Drop>(
+pub fn trim<C: Cell + Drop>(
     network: &mut Network<C>,
     alloc: Global,
     header: &Header,
@@ -136,7 +136,7 @@ pub fn trim<C: Writes + Drop>(
 }
 
 /// `levels`.
-pub fn levels<C: Writes + Drop>(
+pub fn levels<C: Cell + Drop>(
     network: &Network<C>,
     alloc: Global,
     header: &Header,

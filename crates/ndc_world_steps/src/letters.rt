@@ -16,7 +16,7 @@ ghost use Rattle.ndc_world_steps.specs.Told.{leaving};
 
 use crate::moving::{Telling, tell_all};
 use crate::step::{Step, answered};
-use ndc_cluster_links::Writes;
+use ndc_cluster_rounds::Cell;
 use ndc_cluster_reads::Reads;
 use ndc_domain::ClusterNo;
 use ndc_event::Batch;
@@ -31,7 +31,7 @@ use std::alloc::{AllocError, Global};
 use std::thread::Threads;
 
 /// `letters`.
-pub fn letters<C: Writes + Drop>(
+pub fn letters<C: Cell + Drop>(
     network: &Network<C>,
     alloc: Global,
     header: &Header,
@@ -46,7 +46,7 @@ pub fn letters<C: Writes + Drop>(
 }
 
 /// `purge`.
-pub fn purge<C: Writes + Drop>(
+pub fn purge<C: Cell + Drop>(
     network: &mut Network<C>,
     alloc: Global,
     reader: ClusterNo,
@@ -80,7 +80,7 @@ fn letter_of(
 }
 
 /// What comes of the message at a place in flight, where there is one and so many bytes of it arrive.
-fn letter_at<C: Writes + Drop>(
+fn letter_at<C: Cell + Drop>(
     network: &Network<C>,
     alloc: Global,
     reader: ClusterNo,
@@ -99,7 +99,7 @@ fn letter_at<C: Writes + Drop>(
 }
 
 /// A letter is taken by a reader, and it is told whether it is whole; else it goes last among those that are set aside.
-fn take<C: Writes + Drop>(
+fn take<C: Cell + Drop>(
     network: &mut Network<C>,
     alloc: Global,
     reader: ClusterNo,
@@ -116,7 +116,7 @@ fn take<C: Writes + Drop>(
 }
 
 /// A message that comes damaged leaves the flight and is set aside, where its bytes are not read as the batch that it was.
-fn set_aside<C: Writes + Drop>(
+fn set_aside<C: Cell + Drop>(
     network: &mut Network<C>,
     alloc: Global,
     reader: ClusterNo,
@@ -139,7 +139,7 @@ fn set_aside<C: Writes + Drop>(
 }
 
 /// `damage`.
-pub fn damage<C: Writes + Drop>(
+pub fn damage<C: Cell + Drop>(
     network: &mut Network<C>,
     alloc: Global,
     reader: ClusterNo,

@@ -14,7 +14,7 @@ ghost use Rattle.ndc_world_network.specs.Orderly.{IsOrderly};
 ghost use Rattle.ndc_world_steps.specs.Told.{leaving};
 
 use crate::step::Step;
-use ndc_cluster_links::{Serves, Writes};
+use ndc_cluster_rounds::Cell;
 use ndc_cluster_reads::Reads;
 use ndc_domain::ClusterNo;
 use ndc_index::Seen;
@@ -72,7 +72,7 @@ fn in_turn(alloc: Global, first: Done, second: Done) -> Result<Vec<Done>, AllocE
 }
 
 /// `work`.
-pub fn work<R: Threads + Sync, G: Gate, C: Writes + Drop + Send>(
+pub fn work<R: Threads + Sync, G: Gate, C: Cell + Drop + Send>(
     network: &mut Network<C>,
     rt: &R,
     alloc: Global,
@@ -119,7 +119,7 @@ pub fn resend<R: Threads + Sync, G: Gate, C: Reads + Drop + Send>(
 }
 
 /// `bootstrap`.
-pub fn bootstrap<R: Threads + Sync, G: Gate, C: Serves + Drop + Send>(
+pub fn bootstrap<R: Threads + Sync, G: Gate, C: Cell + Drop + Send>(
     network: &mut Network<C>,
     rt: &R,
     alloc: Global,
@@ -166,7 +166,7 @@ pub fn settlement<R: Threads + Sync, G: Gate, C: Serves + Drop + Send>(
 }
 
 /// `settle`.
-pub fn settle<R: Threads + Sync, G: Gate, C: Serves + Drop + Send>(
+pub fn settle<R: Threads + Sync, G: Gate, C: Cell + Drop + Send>(
     network: &mut Network<C>,
     rt: &R,
     alloc: Global,
@@ -185,7 +185,7 @@ pub fn settle<R: Threads + Sync, G: Gate, C: Serves + Drop + Send>(
 }
 
 /// Of how many domains a reader is a member late, as to a source.
-fn late_count<C: Writes + Drop>(network: &Network<C>, reader: ClusterNo, source: ClusterNo) -> u64
+fn late_count<C: Cell + Drop>(network: &Network<C>, reader: ClusterNo, source: ClusterNo) -> u64
     ensures { result ≡ length (link_at reader source network.now).late }
 {
     match link_of(network, reader, source) {

@@ -8,7 +8,7 @@ ghost use Rattle.ndc_model.specs.Conditions.{MayDoAll};
 ghost use Rattle.ndc_world_steps.specs.Told.{first_answer, leaving};
 
 use crate::step::Step;
-use ndc_cluster_links::Writes;
+use ndc_cluster_rounds::Cell;
 use ndc_command::Command;
 use ndc_domain::ClusterNo;
 use ndc_event::Name;
@@ -31,7 +31,7 @@ fn first_answer(alloc: Global, replies: &[JobReply]) -> Result<Vec<u8>, AllocErr
 }
 
 /// A cluster does one job that writes.
-fn ask<R: Threads + Sync, G: Gate, C: Writes + Drop + Send>(
+fn ask<R: Threads + Sync, G: Gate, C: Cell + Drop + Send>(
     network: &mut Network<C>,
     rt: &R,
     alloc: Global,
@@ -59,7 +59,7 @@ fn ask<R: Threads + Sync, G: Gate, C: Writes + Drop + Send>(
 }
 
 /// A command line.
-pub fn command<R: Threads + Sync, G: Gate, C: Writes + Drop + Send>(
+pub fn command<R: Threads + Sync, G: Gate, C: Cell + Drop + Send>(
     network: &mut Network<C>,
     rt: &R,
     alloc: Global,
@@ -90,7 +90,7 @@ pub fn command<R: Threads + Sync, G: Gate, C: Writes + Drop + Send>(
 }
 
 /// `reset`.
-pub fn reset<R: Threads + Sync, G: Gate, C: Writes + Drop + Send>(
+pub fn reset<R: Threads + Sync, G: Gate, C: Cell + Drop + Send>(
     network: &mut Network<C>,
     rt: &R,
     alloc: Global,

@@ -8,7 +8,7 @@ use Rattle.ndc_script_types.specs.declared.script.Header.{Header}
 use Rattle.ndc_model_cells.specs.Jobs.{cell_for}
 use Rattle.ndc_model.specs.Fair.{IsShaped}
 use Rattle.ndc_model.specs.World.{Cluster, World}
-use Rattle.ndc_cluster.specs.Sites.{SiteValue}
+use Rattle.ndc_world_network.specs.Sites.{SiteValue}
 use Rattle.ndc_world_summary.specs.Summaries.{added, cells_of}
 use Rattle.ndc_world_summary.specs.declared.parts.Totals.{Totals}
 

@@ -2,20 +2,20 @@ ghost use Rattle.std.specs.Prelude.{◌≡◌, ◌<◌, length, map, IfOk};
 ghost use Rattle.std.specs.List.{AllByRecursion};
 ghost use Rattle.ndc_model_cells.specs.Jobs.{cell_for};
 ghost use Rattle.ndc_model.specs.Fair.{IsShaped};
-ghost use Rattle.ndc_cluster.specs.Sites.{SiteValue};
+ghost use Rattle.ndc_world_network.specs.Sites.{SiteValue};
 ghost use Rattle.ndc_world_summary.specs.Summaries.{cells_of, totals_in, totals_of};
 
 use crate::parts::{Totals, added, totals_in};
 use crate::tables::have_one_table;
-use ndc_cluster::Site;
-use ndc_cluster_links::Writes;
+use ndc_world_network::Site;
+use ndc_cluster_rounds::Cell;
 use ndc_cluster_reads::Reads;
 use ndc_script_types::Header;
 use ndc_world_network::Network;
 use std::alloc::{AllocError, Global};
 
 /// The cell of a cluster for a shard.
-fn cell_of<C: Writes + Drop>(site: &Site<C>, shard: u32) -> &C
+fn cell_of<C: Cell + Drop>(site: &Site<C>, shard: u32) -> &C
     requires { shard < length site.now.cluster.cells }
     ensures { C.cell result.now ≡ cell_for shard site.now.cluster.cells }
 {
@@ -23,7 +23,7 @@ fn cell_of<C: Writes + Drop>(site: &Site<C>, shard: u32) -> &C
 }
 
 /// The cells of clusters for a shard.
-fn cells_of<C: Writes + Drop>(
+fn cells_of<C: Cell + Drop>(
     alloc: Global,
     sites: &[Site<C>],
     shard: u32,

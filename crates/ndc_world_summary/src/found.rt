@@ -4,7 +4,7 @@ ghost use Rattle.ndc_model_cells.specs.Cells.{both};
 ghost use Rattle.ndc_model_cells.specs.Places.{is_of};
 ghost use Rattle.ndc_world_summary.specs.Summaries.{messages_of, with_workflow, workflows_in};
 
-use ndc_cluster_links::Writes;
+use ndc_cluster_rounds::Cell;
 use ndc_event::Batch;
 use ndc_model_cells::Message;
 use std::alloc::{AllocError, Global};
@@ -54,7 +54,7 @@ fn add_workflow(found: &mut Vec<Batch>, batch: Batch) -> Result<(), AllocError>
 }
 
 /// Adds the workflows to which a cell has written, and counts the batches.
-fn add_written<C: Writes>(found: &mut Vec<Batch>, cell: &C) -> Result<u64, AllocError>
+fn add_written<C: Cell>(found: &mut Vec<Batch>, cell: &C) -> Result<u64, AllocError>
     ensures workflows { OnOk result (found.new.items ≡ fold with_workflow found.old.items (map (λ sent. sent.batch) (C.cell cell.now).written)) }
     ensures batches { IfOk result (λ count. count ≡ length (flat_map both (C.cell cell.now).written)) }
 {
@@ -73,7 +73,7 @@ fn add_written<C: Writes>(found: &mut Vec<Batch>, cell: &C) -> Result<u64, Alloc
 }
 
 /// What cells have written.
-pub(crate) fn found_in<C: Writes>(alloc: Global, cells: &[&C]) -> Result<Found, AllocError>
+pub(crate) fn found_in<C: Cell>(alloc: Global, cells: &[&C]) -> Result<Found, AllocError>
     ensures batches { IfOk result (λ found. found.batches ≡ length (flat_map both (messages_of (map (λ cell. C.cell cell.now) cells.now)))) }
     ensures workflows { IfOk result (λ found. found.workflows.items ≡ workflows_in (map (λ cell. C.cell cell.now) cells.now)) }
 {

@@ -1,9 +1,9 @@
 ghost use Rattle.std.specs.Prelude.{◌≡◌, map};
-ghost use Rattle.ndc_cluster.specs.Sites.{SiteValue};
+ghost use Rattle.ndc_world_network.specs.Sites.{SiteValue};
 ghost use Rattle.ndc_world_summary.specs.Summaries.{are_one_table, same_table};
 
-use ndc_cluster::Site;
-use ndc_cluster_links::Writes;
+use ndc_world_network::Site;
+use ndc_cluster_rounds::Cell;
 use ndc_domain::DomainTable;
 
 /// Whether two tables hold the same records.
@@ -14,7 +14,7 @@ fn is_same(one: &DomainTable, two: &DomainTable) -> bool
 }
 
 /// Whether all clusters hold one table.
-pub(crate) fn have_one_table<C: Writes + Drop>(sites: &[Site<C>]) -> bool
+pub(crate) fn have_one_table<C: Cell + Drop>(sites: &[Site<C>]) -> bool
     ensures { result ≡ are_one_table (map (λ (site : SiteValue). site.cluster.table) sites.now) }
 {
     let Some((first, others)) = sites.split_first() else {

@@ -6,4 +6,4 @@ use Rattle.ndc_cluster_links.proofs.addressed.settled_front.Given as goal
 abbrev pub invariant-loop-entry : goal.invariant-loop-entry
 invariant-loop-entry g l =
     (l.count ≡ l.entry-index)
-    × (l.count + prefix_len (needs_nothing l.reader l.table (g.C.Works.cell l.cell)) (drop l.entry-index l.entries) ≡ prefix_len (needs_nothing l.reader l.table (g.C.Works.cell l.cell)) l.entries)
+    × (l.count + prefix_len (needs_nothing l.reader l.table (g.C.Cell.cell l.cell)) (drop l.entry-index l.entries) ≡ prefix_len (needs_nothing l.reader l.table (g.C.Cell.cell l.cell)) l.entries)

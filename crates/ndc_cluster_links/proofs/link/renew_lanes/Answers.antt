@@ -32,7 +32,7 @@ loop-shard-preserved g c = record {
       (c.loop-shard.invariant.renewed whole rests) c.index_mut-lane.ensures.value
       (c.renew-done.ensures.renewed (whole c.loop-shard.shard) (rest_there c.args.queues.now whole c.loop-shard.shard c.index-queues-shard.result rests (omega arith) c.index-queues-shard.is)
       ∙ ap (λ (cell : Cell). after_renewal c.args.reader c.args.table.now cell (whole c.loop-shard.shard) c.index_mut-lane.result.now)
-      (cell_there g.C.Works.cell c.args.cells.now c.loop-shard.shard c.index-cells-shard.result (omega arith) c.index-cells-shard.is));
+      (cell_there g.C.Cell.cell c.args.cells.now c.loop-shard.shard c.index-cells-shard.result (omega arith) c.index-cells-shard.is));
 }
 
 pub returns-clause-renewed : goal.returns-clause-renewed

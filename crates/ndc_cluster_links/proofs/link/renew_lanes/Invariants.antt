@@ -15,5 +15,5 @@ invariant-loop-shard g l = record {
   done : l.done ≡ done_of (take l.shard l.lanes.items);
   most : l.done ≤ l.shard * 10 ^ 12;
   renewed : (whole : ℕ → List Message) → AreRests l.queues whole
-      → l.lanes.items ≡ changed_front (λ shard lane. after_renewal l.reader l.table (cell_for shard (map g.C.Works.cell l.cells)) (whole shard) lane) 0 l.shard l.initial.lanes.items;
+      → l.lanes.items ≡ changed_front (λ shard lane. after_renewal l.reader l.table (cell_for shard (map g.C.Cell.cell l.cells)) (whole shard) lane) 0 l.shard l.initial.lanes.items;
 }

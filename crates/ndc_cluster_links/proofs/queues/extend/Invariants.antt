@@ -5,9 +5,9 @@ use Rattle.ndc_cluster_links.proofs.queues.extend.Given as goal
 
 abbrev pub invariant-loop-queue : goal.invariant-loop-queue
 invariant-loop-queue g l = record {
-  front : IsFrontOf l.queue (g.C.Works.cell l.cell).written;
+  front : IsFrontOf l.queue (g.C.Cell.cell l.cell).written;
   first : l.queue.first ≡ l.initial.queue.first;
 }
 
 abbrev pub decreases-loop-queue : goal.decreases-loop-queue
-decreases-loop-queue g l = length (g.C.Works.cell l.cell).written - queue_len l.queue
+decreases-loop-queue g l = length (g.C.Cell.cell l.cell).written - queue_len l.queue

@@ -22,9 +22,9 @@ loop-shard-preserved g c = record {
   firsts = map-set_same (λ (queue : QueueValue). queue.first) c.loop-shard.queues.items c.loop-shard.shard c.extend.new.queue c.index_mut-queue.result.now
       (c.extend.ensures.first ∙ ap (λ (queue : QueueValue). queue.first) c.index_mut-queue.ensures.value) ∙ c.loop-shard.invariant.firsts;
   fronts = fronts_more c.loop-shard.queues.items c.loop-shard.shard (length c.args.queues.now.items) c.extend.new.queue
-      (λ k. (cell_for k (map g.C.Works.cell c.args.cells.now)).written) c.loop-shard.invariant.fronts;
+      (λ k. (cell_for k (map g.C.Cell.cell c.args.cells.now)).written) c.loop-shard.invariant.fronts;
   rests = rests_more c.loop-shard.queues.items c.loop-shard.shard c.extend.new.queue
-      (λ k. (cell_for k (map g.C.Works.cell c.args.cells.now)).written) (omega arith) c.loop-shard.invariant.rests
+      (λ k. (cell_for k (map g.C.Cell.cell c.args.cells.now)).written) (omega arith) c.loop-shard.invariant.rests
       (subst (λ (cell : Cell). IsRestOf c.extend.new.queue cell.written)
-      (cell_there g.C.Works.cell c.args.cells.now c.loop-shard.shard c.index-cells-shard.result (omega arith) c.index-cells-shard.is) c.in_ok-written.ensures.rest);
+      (cell_there g.C.Cell.cell c.args.cells.now c.loop-shard.shard c.index-cells-shard.result (omega arith) c.index-cells-shard.is) c.in_ok-written.ensures.rest);
 }

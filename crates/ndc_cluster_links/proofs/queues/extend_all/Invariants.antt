@@ -10,6 +10,6 @@ invariant-loop-shard g l = record {
   most : l.written ≤ l.shard * 10 ^ 12;
   written : l.written ≡ sum_by queue_len (take l.shard l.queues.items);
   firsts : map (λ (queue : QueueValue). queue.first) l.queues.items ≡ map (λ (queue : QueueValue). queue.first) l.initial.queues.items;
-  fronts : (k : ℕ) → l.shard ≤ k → k < length l.initial.queues.items → IsFrontOf (queue_at l.queues.items k) (cell_for k (map g.C.Works.cell l.cells)).written;
-  rests : (k : ℕ) → k < l.shard → IsRestOf (queue_at l.queues.items k) (cell_for k (map g.C.Works.cell l.cells)).written;
+  fronts : (k : ℕ) → l.shard ≤ k → k < length l.initial.queues.items → IsFrontOf (queue_at l.queues.items k) (cell_for k (map g.C.Cell.cell l.cells)).written;
+  rests : (k : ℕ) → k < l.shard → IsRestOf (queue_at l.queues.items k) (cell_for k (map g.C.Cell.cell l.cells)).written;
 }

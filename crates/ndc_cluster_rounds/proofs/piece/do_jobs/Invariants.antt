@@ -6,7 +6,7 @@ use Rattle.ndc_cluster_rounds.proofs.piece.do_jobs.Given as goal
 abbrev pub invariant-loop-place : goal.invariant-loop-place
 invariant-loop-place g l =
     (l.slot.jobs ≡ l.initial.slot.jobs)
-    × MayDo g.C.Works.allows l.desk (map (λ job. job.now) (drop l.place l.slot.jobs.items)) (g.C.Works.cell l.slot.cell)
-    × (cell_after l.desk (map (λ job. job.now) (drop l.place l.slot.jobs.items)) (g.C.Works.cell l.slot.cell) ≡ cell_after l.desk (map (λ job. job.now) l.initial.slot.jobs.items) (g.C.Works.cell l.initial.slot.cell))
-    × (l.slot.replies.items ++ cell_replies l.desk (map (λ job. job.now) (drop l.place l.slot.jobs.items)) (g.C.Works.cell l.slot.cell)
-    ≡ l.initial.slot.replies.items ++ cell_replies l.desk (map (λ job. job.now) l.initial.slot.jobs.items) (g.C.Works.cell l.initial.slot.cell))
+    × MayDo g.C.Cell.allows l.desk (map (λ job. job.now) (drop l.place l.slot.jobs.items)) (g.C.Cell.cell l.slot.cell)
+    × (cell_after l.desk (map (λ job. job.now) (drop l.place l.slot.jobs.items)) (g.C.Cell.cell l.slot.cell) ≡ cell_after l.desk (map (λ job. job.now) l.initial.slot.jobs.items) (g.C.Cell.cell l.initial.slot.cell))
+    × (l.slot.replies.items ++ cell_replies l.desk (map (λ job. job.now) (drop l.place l.slot.jobs.items)) (g.C.Cell.cell l.slot.cell)
+    ≡ l.initial.slot.replies.items ++ cell_replies l.desk (map (λ job. job.now) l.initial.slot.jobs.items) (g.C.Cell.cell l.initial.slot.cell))

@@ -3,4 +3,4 @@ use Rattle.ndc_cluster_rounds.proofs.rounds.cells_of.Given as goal
 
 abbrev pub invariant-loop-slot : goal.invariant-loop-slot
 invariant-loop-slot g l =
-    map g.C.Works.cell l.cells.items ++ map (λ slot. g.C.Works.cell slot.cell) l.slot-iterator.rest.items ≡ map (λ slot. g.C.Works.cell slot.cell) l.fn.slots.items
+    map g.C.Cell.cell l.cells.items ++ map (λ slot. g.C.Cell.cell slot.cell) l.slot-iterator.rest.items ≡ map (λ slot. g.C.Cell.cell slot.cell) l.fn.slots.items

@@ -6,5 +6,5 @@ use Rattle.ndc_cluster_rounds.proofs.rounds.collect.Given as goal
 abbrev pub invariant-loop-asked : goal.invariant-loop-asked
 invariant-loop-asked g l =
     (length l.slots.items ≡ length l.initial.slots.items)
-    × (map (λ slot. g.C.Works.cell slot.cell) l.slots.items ≡ map (λ slot. g.C.Works.cell slot.cell) l.initial.slots.items)
+    × (map (λ slot. g.C.Cell.cell slot.cell) l.slots.items ≡ map (λ slot. g.C.Cell.cell slot.cell) l.initial.slots.items)
     × (option_map (λ more. l.replies.items ++ more) (taken (drop l.asked-index l.jobs) (map (λ slot. slot.replies.items) l.slots.items)) ≡ taken l.jobs (map (λ slot. slot.replies.items) l.initial.slots.items))

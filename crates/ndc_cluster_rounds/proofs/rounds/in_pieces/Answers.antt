@@ -10,8 +10,8 @@ use Rattle.ndc_cluster_rounds.proofs.rounds.in_pieces.Goals as goal
 pub work_list-requires-after_bounds : goal.work_list-requires-after_bounds
 work_list-requires-after_bounds g c =
     let cut = c.in_ok-pieces.ensures.slots ∙ c.in_ok-deal.ensures ∙ ap (dealt c.args.jobs.now) c.in_ok-slots.ensures in
-    let may = slots_may c.args.desk.now c.args.jobs.now (map g.C.Works.cell c.args.cells.items) g.C.Works.allows c.requires.allowed in
-    λ κs bounds. (ready_all _ _ c.args.desk.now g.C.Works.allows c.in_ok-pieces.pieces.items (subst (AllByRecursion (SlotMay g.C.Works.allows c.args.desk.now)) (sym cut) may) c.in_ok-pieces.ensures.desks)
+    let may = slots_may c.args.desk.now c.args.jobs.now (map g.C.Cell.cell c.args.cells.items) g.C.Cell.allows c.requires.allowed in
+    λ κs bounds. (ready_all _ _ c.args.desk.now g.C.Cell.allows c.in_ok-pieces.pieces.items (subst (AllByRecursion (SlotMay g.C.Cell.allows c.args.desk.now)) (sym cut) may) c.in_ok-pieces.ensures.desks)
 
 pub collect-requires : goal.collect-requires
 collect-requires g c =
@@ -19,7 +19,7 @@ collect-requires g c =
     let done =
     whole_done _ _ _ _ c.args.desk.now c.in_ok-pieces.pieces.items c.in_ok-pieces.pieces.items c.work_list.new.pieces.items _ c.in_ok-slots-2.slots.items cut refl c.in_ok-pieces.ensures.desks c.work_list.ensures
     c.in_ok-slots-2.ensures.whole c.in_ok-slots-2.ensures.slots in
-    subst (λ n. AreBelow n c.args.jobs.now) (sym (slots_many _ c.args.desk.now c.args.jobs.now (map g.C.Works.cell c.args.cells.items) c.in_ok-slots-2.slots.items done ∙ length-map c.args.cells.items g.C.Works.cell)) c.requires.shards
+    subst (λ n. AreBelow n c.args.jobs.now) (sym (slots_many _ c.args.desk.now c.args.jobs.now (map g.C.Cell.cell c.args.cells.items) c.in_ok-slots-2.slots.items done ∙ length-map c.args.cells.items g.C.Cell.cell)) c.requires.shards
 
 pub unreachable-requires : goal.unreachable-requires
 unreachable-requires g c =
@@ -27,8 +27,8 @@ unreachable-requires g c =
     let done =
     whole_done _ _ _ _ c.args.desk.now c.in_ok-pieces.pieces.items c.in_ok-pieces.pieces.items c.work_list.new.pieces.items _ c.in_ok-slots-2.slots.items cut refl c.in_ok-pieces.ensures.desks c.work_list.ensures
     c.in_ok-slots-2.ensures.whole c.in_ok-slots-2.ensures.slots in
-    let below = subst (λ n. AreBelow n c.args.jobs.now) (sym (length-map c.args.cells.items g.C.Works.cell)) c.requires.shards in
-    none_found _ c.in_ok-replies.field-0 _ c.in_default.is (c.in_ok-replies.ensures.replies ∙ slots_replies _ c.args.desk.now c.args.jobs.now (map g.C.Works.cell c.args.cells.items) c.in_ok-slots-2.slots.items done below)
+    let below = subst (λ n. AreBelow n c.args.jobs.now) (sym (length-map c.args.cells.items g.C.Cell.cell)) c.requires.shards in
+    none_found _ c.in_ok-replies.field-0 _ c.in_default.is (c.in_ok-replies.ensures.replies ∙ slots_replies _ c.args.desk.now c.args.jobs.now (map g.C.Cell.cell c.args.cells.items) c.in_ok-slots-2.slots.items done below)
 
 pub returns-clause-cells : goal.returns-clause-cells
 returns-clause-cells g c =
@@ -36,7 +36,7 @@ returns-clause-cells g c =
     let done =
     whole_done _ _ _ _ c.args.desk.now c.in_ok-pieces.pieces.items c.in_ok-pieces.pieces.items c.work_list.new.pieces.items _ c.in_ok-slots-2.slots.items cut refl c.in_ok-pieces.ensures.desks c.work_list.ensures
     c.in_ok-slots-2.ensures.whole c.in_ok-slots-2.ensures.slots in
-    c.in_ok-cells.ensures ∙ c.in_ok-replies.ensures.cells ∙ slots_cells _ c.args.desk.now c.args.jobs.now (map g.C.Works.cell c.args.cells.items) c.in_ok-slots-2.slots.items done
+    c.in_ok-cells.ensures ∙ c.in_ok-replies.ensures.cells ∙ slots_cells _ c.args.desk.now c.args.jobs.now (map g.C.Cell.cell c.args.cells.items) c.in_ok-slots-2.slots.items done
 
 pub returns-clause-replies : goal.returns-clause-replies
 returns-clause-replies g c =
@@ -44,5 +44,5 @@ returns-clause-replies g c =
     let done =
     whole_done _ _ _ _ c.args.desk.now c.in_ok-pieces.pieces.items c.in_ok-pieces.pieces.items c.work_list.new.pieces.items _ c.in_ok-slots-2.slots.items cut refl c.in_ok-pieces.ensures.desks c.work_list.ensures
     c.in_ok-slots-2.ensures.whole c.in_ok-slots-2.ensures.slots in
-    let below = subst (λ n. AreBelow n c.args.jobs.now) (sym (length-map c.args.cells.items g.C.Works.cell)) c.requires.shards in
-    found_is _ _ (ap (option_map (λ replies. replies.items)) (sym c.in-Some.is) ∙ c.in_ok-replies.ensures.replies ∙ slots_replies _ c.args.desk.now c.args.jobs.now (map g.C.Works.cell c.args.cells.items) c.in_ok-slots-2.slots.items done below)
+    let below = subst (λ n. AreBelow n c.args.jobs.now) (sym (length-map c.args.cells.items g.C.Cell.cell)) c.requires.shards in
+    found_is _ _ (ap (option_map (λ replies. replies.items)) (sym c.in-Some.is) ∙ c.in_ok-replies.ensures.replies ∙ slots_replies _ c.args.desk.now c.args.jobs.now (map g.C.Cell.cell c.args.cells.items) c.in_ok-slots-2.slots.items done below)

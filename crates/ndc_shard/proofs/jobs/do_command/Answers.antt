@@ -7,10 +7,10 @@ use Rattle.ndc_shard.proofs.jobs.do_command.Goals as goal
 pub returns-clause-cell : goal.returns-clause-cell
 unfolding after_job
 returns-clause-cell c =
-    cell-same (command_of c.args.desk.now c.args.domain.now c.args.workflow.now c.args.command.now c.args.shard.now) c.command-written.result c.args.shard.now c.command-written.new.self
-    c.command-written.ensures.batches c.in_ok-reply.ensures.calm c.command-written.ensures.cell c.command-written.ensures.refused
+    cell-same (command_of c.args.desk.now c.args.domain.now c.args.workflow.now c.args.command.now c.args.shard.now) c.write_command-written.result c.args.shard.now c.write_command-written.new.self
+    c.write_command-written.ensures.batches c.in_ok-reply.ensures.calm c.write_command-written.ensures.cell c.write_command-written.ensures.refused
 
 pub returns-clause-reply : goal.returns-clause-reply
 unfolding outcome_of learned_in
 returns-clause-reply c =
-    c.in_ok-reply.ensures.reply ∙ reply-same (command_of c.args.desk.now c.args.domain.now c.args.workflow.now c.args.command.now c.args.shard.now) c.command-written.result c.command-written.ensures.batches c.in_ok-reply.ensures.calm
+    c.in_ok-reply.ensures.reply ∙ reply-same (command_of c.args.desk.now c.args.domain.now c.args.workflow.now c.args.command.now c.args.shard.now) c.write_command-written.result c.write_command-written.ensures.batches c.in_ok-reply.ensures.calm

@@ -2,12 +2,12 @@ use Rattle.std.proofs.Common.{List, [], ◌∷◌}
 use Rattle.ndc_model_cells.specs.Cells.{Cell}
 use Rattle.ndc_model_cells.specs.Conditions.{AreAllowed}
 use Rattle.ndc_model_cells.specs.Jobs.{cells_behind}
-use Rattle.ndc_model_cells.specs.Writing.{Home}
+use Rattle.ndc_model_cells.specs.Writing.{Desk}
 use Rattle.ndc_model_cells.specs.declared.job.ShardJob.{ShardJob}
 use Rattle.ndc_tests_workflow.proofs.rounds.is_spent.Goals as goal
 
 -- cells that ask for nothing may do any jobs
-any-allowed : (home : Home) (jobs : List ShardJob) (cells : List Cell) → AreAllowed (λ _ _ _. Unit {0}) home jobs cells
+any-allowed : (home : Desk) (jobs : List ShardJob) (cells : List Cell) → AreAllowed (λ _ _ _. Unit {0}) home jobs cells
 any-allowed home [] cells = tt
 any-allowed home (asked ∷ jobs) cells = (tt, any-allowed home jobs (cells_behind home asked cells))
 

@@ -3,8 +3,8 @@ use Rattle.ndc_world.proofs.running.run_burst.Goals as goal
 
 pub burst-requires-clause-allowed : goal.burst-requires-clause-allowed
 burst-requires-clause-allowed g c κs within =
-    may_burst c.args.header.now c.args.lines c.args.network.now c.requires.header c.requires.reached c.args.cluster c.args.jobs.now c.requires.cluster c.requires.jobs c.requires.lines g.C.Works.allows
-    (g.met.C.Begins g.world.𝓛 g.world.𝓜 g.world.𝓡 ((λ s x. x), (λ x. x), (λ x. x), λ x. x)).may
+    may_burst c.args.header.now c.args.lines c.args.network.now c.requires.header c.requires.reached c.args.cluster c.args.jobs.now c.requires.cluster c.requires.jobs c.requires.lines g.C.Cell.allows
+    (g.met.C.Cell g.world.𝓛 g.world.𝓜 g.world.𝓡 ((λ s x. x), (λ x. x), (λ x. x), λ x. x)).may
 
 pub returns : goal.returns
 returns g c =

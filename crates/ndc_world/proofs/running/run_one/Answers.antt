@@ -3,8 +3,8 @@ use Rattle.ndc_world.proofs.running.run_one.Goals as goal
 
 pub act-requires-clause-allowed : goal.act-requires-clause-allowed
 act-requires-clause-allowed g c κs within =
-    may_line c.args.header.now c.args.lines c.args.network.now c.requires.header c.requires.reached g.C.Works.allows
-    (g.met.C.Begins g.world.𝓛 g.world.𝓜 g.world.𝓡 ((λ s x. x), (λ x. x), (λ x. x), λ x. x)).may c.args.asked.now c.requires.act c.requires.lines
+    may_line c.args.header.now c.args.lines c.args.network.now c.requires.header c.requires.reached g.C.Cell.allows
+    (g.met.C.Cell g.world.𝓛 g.world.𝓜 g.world.𝓡 ((λ s x. x), (λ x. x), (λ x. x), λ x. x)).may c.args.asked.now c.requires.act c.requires.lines
 
 pub returns : goal.returns
 returns g c =

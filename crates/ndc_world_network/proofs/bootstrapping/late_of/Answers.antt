@@ -1,4 +1,4 @@
-use Rattle.std.proofs.Common.{Option, find, ap, sym, ◌∙◌}
+use Rattle.std.proofs.Common.{Option, ap, sym, ◌∙◌}
 use Rattle.ndc_model.specs.World.{Link, is_link, link_found}
 use Rattle.ndc_world_network.proofs.LinkLemmas.{IsFound, found_there}
 use Rattle.ndc_world_network.proofs.PlaceLemmas.{found_at, none_found}

@@ -6,4 +6,4 @@ use Rattle.ndc_model_cells.specs.Domains.{learned_of_domains}
 use Rattle.ndc_world_network.proofs.bootstrapping.learned_jobs.Given as goal
 
 abbrev pub invariant-loop-shard : goal.invariant-loop-shard
-invariant-loop-shard g l = l.jobs.items ≡ all_arrive (λ shard. learned_of_domains l.fn.domains (cell_for shard (map g.C.Works.cell l.fn.cells))) (range_with_len 0 l.shard)
+invariant-loop-shard g l = l.jobs.items ≡ all_arrive (λ shard. learned_of_domains l.fn.domains (cell_for shard (map g.C.Cell.cell l.fn.cells))) (range_with_len 0 l.shard)

@@ -1,10 +1,10 @@
-use Rattle.std.proofs.Common.{◌≡◌, ◌≤◌, ◌<◌, ℕ, ◌+◌, List, get_or, length, map, min, ap, ◌∙◌, arith}
+use Rattle.std.proofs.Common.{◌≡◌, ◌<◌, ℕ, ◌+◌, List, get_or, length, min, ap, ◌∙◌, arith}
 use Rattle.std.proofs.lemmas.List.{length-map}
 use Rattle.std.specs.List.{fold}
 use Rattle.ndc_model_cells.specs.Jobs.{cell_for}
 use Rattle.ndc_model.specs.Moves.{done_levels}
 use Rattle.ndc_queue.specs.Queues.{QueueValue}
-use Rattle.ndc_cluster.specs.Sites.{SiteValue}
+use Rattle.ndc_world_network.specs.Sites.{SiteValue}
 use Rattle.ndc_world_network.proofs.TrimLemmas.{drop_step, len_there, trim_step}
 use Rattle.ndc_world_network.proofs.trimming.trim_site.Goals as goal
 

@@ -5,5 +5,5 @@ use Rattle.ndc_world_summary.proofs.alike.are_alike.Given as goal
 
 abbrev pub invariant-loop-cell : goal.invariant-loop-cell
 invariant-loop-cell g l =
-    list_all (same_keys (map (λ b. b.now) l.learned.items)) (map (learned_with l.batch) (map (λ cell. g.C.Works.cell cell.now) (drop l.cell-index l.others)))
-    ≡ are_alike (map (learned_with l.batch) (map (λ cell. g.C.Works.cell cell.now) l.cells))
+    list_all (same_keys (map (λ b. b.now) l.learned.items)) (map (learned_with l.batch) (map (λ cell. g.C.Cell.cell cell.now) (drop l.cell-index l.others)))
+    ≡ are_alike (map (learned_with l.batch) (map (λ cell. g.C.Cell.cell cell.now) l.cells))

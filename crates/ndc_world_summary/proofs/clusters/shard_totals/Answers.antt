@@ -11,5 +11,5 @@ cells_of-requires g c = cells_there c.args.header.now c.args.network.now c.args.
 pub returns : goal.returns
 returns g c =
     subst (λ (part : Totals). IfOk c.totals_in.result (λ whole. whole ≡ part))
-    (ap totals_in (ap (map (λ cell. g.C.Works.cell cell.now)) c.as_slice.ensures.value ∙ c.in_ok-cells.ensures ∙ cells_same c.args.network.now c.args.shard c.sites.result.now c.sites.ensures.clusters))
+    (ap totals_in (ap (map (λ cell. g.C.Cell.cell cell.now)) c.as_slice.ensures.value ∙ c.in_ok-cells.ensures ∙ cells_same c.args.network.now c.args.shard c.sites.result.now c.sites.ensures.clusters))
     c.totals_in.ensures

@@ -7,6 +7,6 @@ use Rattle.ndc_world_summary.proofs.found.add_written.Given as goal
 
 abbrev pub invariant-loop-place : goal.invariant-loop-place
 invariant-loop-place g l = record {
-  workflows : l.found.items ≡ fold with_workflow l.initial.found.items (map (λ (sent : Message). sent.batch) (take l.place (g.C.Works.cell l.cell).written));
-  batches : l.count ≡ length (flat_map both (take l.place (g.C.Works.cell l.cell).written));
+  workflows : l.found.items ≡ fold with_workflow l.initial.found.items (map (λ (sent : Message). sent.batch) (take l.place (g.C.Cell.cell l.cell).written));
+  batches : l.count ≡ length (flat_map both (take l.place (g.C.Cell.cell l.cell).written));
 }

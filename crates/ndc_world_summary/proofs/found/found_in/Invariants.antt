@@ -7,8 +7,8 @@ use Rattle.ndc_world_summary.proofs.found.found_in.Given as goal
 
 abbrev pub invariant-loop-cell : goal.invariant-loop-cell
 invariant-loop-cell g l = record {
-  workflows : fold with_workflow l.workflows.items (map (λ (sent : Message). sent.batch) (messages_of (map (λ cell. g.C.Works.cell cell.now) (drop l.cell-index l.cells))))
-      ≡ workflows_in (map (λ cell. g.C.Works.cell cell.now) l.cells);
-  batches : l.batches + length (flat_map both (messages_of (map (λ cell. g.C.Works.cell cell.now) (drop l.cell-index l.cells))))
-      ≡ length (flat_map both (messages_of (map (λ cell. g.C.Works.cell cell.now) l.cells)));
+  workflows : fold with_workflow l.workflows.items (map (λ (sent : Message). sent.batch) (messages_of (map (λ cell. g.C.Cell.cell cell.now) (drop l.cell-index l.cells))))
+      ≡ workflows_in (map (λ cell. g.C.Cell.cell cell.now) l.cells);
+  batches : l.batches + length (flat_map both (messages_of (map (λ cell. g.C.Cell.cell cell.now) (drop l.cell-index l.cells))))
+      ≡ length (flat_map both (messages_of (map (λ cell. g.C.Cell.cell cell.now) l.cells)));
 }

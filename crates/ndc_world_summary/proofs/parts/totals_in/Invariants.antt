@@ -5,4 +5,4 @@ use Rattle.ndc_world_summary.proofs.parts.totals_in.Given as goal
 
 abbrev pub invariant-loop-batch : goal.invariant-loop-batch
 invariant-loop-batch g l =
-    fold added l.whole (map (part_of (map (λ cell. g.C.Works.cell cell.now) l.cells)) (drop l.batch-index l.batch-items)) ≡ totals_in (map (λ cell. g.C.Works.cell cell.now) l.cells)
+    fold added l.whole (map (part_of (map (λ cell. g.C.Cell.cell cell.now) l.cells)) (drop l.batch-index l.batch-items)) ≡ totals_in (map (λ cell. g.C.Cell.cell cell.now) l.cells)

@@ -1,6 +1,6 @@
 use Rattle.std.proofs.Common.{◌≡◌, drop, map}
 use Rattle.std.specs.List.{list_all}
-use Rattle.ndc_cluster.specs.Sites.{SiteValue}
+use Rattle.ndc_world_network.specs.Sites.{SiteValue}
 use Rattle.ndc_world_summary.specs.Summaries.{are_one_table, same_table}
 use Rattle.ndc_world_summary.proofs.tables.have_one_table.Given as goal
 

@@ -13,7 +13,7 @@ returns-then-self-written g c = λ whole rests.
     let all : done_of c.args.self.now.lanes ≡ sum_by queue_len c.args.queues.now =
     ap (λ (link : Link). done_of link.lanes) (sym c.self.view_is) ∙ sym c.self.invariant.done ∙ c.if-self-written.true ∙ c.written.ensures in
     ap (λ (lanes : List Lane). record c.args.self.now { lanes = lanes })
-    (sym (idle_lanes c.args.self.now.reader c.args.table.now (λ shard. cell_for shard (map g.C.Works.cell c.args.cells.now)) c.args.queues.now whole c.args.self.now.lanes
+    (sym (idle_lanes c.args.self.now.reader c.args.table.now (λ shard. cell_for shard (map g.C.Cell.cell c.args.cells.now)) c.args.queues.now whole c.args.self.now.lanes
     c.requires.alike c.requires.within rests all))
 
 pub returns : goal.returns

@@ -17,7 +17,7 @@ pub settlement-requires-clause-allowed : goal.settlement-requires-clause-allowed
 settlement-requires-clause-allowed g c κs within =
     let is = c.self.invariant (ap (λ (v : WorldValue). v.spent) c.self.view_is ∙ c.requires.unspent) in
     may_settle c.self.inside.header.now c.self.inside.lines c.self.inside.network is.standing.fit (clusters_reached c.self.inside.header.now c.self.inside.lines c.self.inside.network c.self.inside.reports.items is.standing)
-    g.C.Works.allows (g.met.C.Begins g.world.𝓛 g.world.𝓜 g.world.𝓡 ((λ s x. x), (λ x. x), (λ x. x), λ x. x)).may (subst (λ (v : WorldValue). v.lines < 100000) (sym c.self.view_is) c.requires.lines)
+    g.C.Cell.allows (g.met.C.Cell g.world.𝓛 g.world.𝓜 g.world.𝓡 ((λ s x. x), (λ x. x), (λ x. x), λ x. x)).may (subst (λ (v : WorldValue). v.lines < 100000) (sym c.self.view_is) c.requires.lines)
 
 pub invariant_of-self-2 : goal.invariant_of-self-2
 invariant_of-self-2 g c = λ unspent.

@@ -1,7 +1,7 @@
-use Rattle.std.proofs.Common.{◌≡◌, ◌<◌, List, length, ap, sym, subst, ◌∙◌}
+use Rattle.std.proofs.Common.{◌<◌, List, length, ap, sym, subst, ◌∙◌}
 use Rattle.std.specs.List.{AllByRecursion}
 use Rattle.ndc_model_cells.specs.declared.job.ShardJob.{ShardJob}
-use Rattle.ndc_model.specs.Moves.{Trace, by_link, flights_arrived, from_world, in_flight, jobs_done, without_flights_to}
+use Rattle.ndc_model.specs.Moves.{by_link, flights_arrived, from_world, in_flight, jobs_done, without_flights_to}
 use Rattle.ndc_model.specs.World.{World, cluster_at}
 use Rattle.ndc_world_network.proofs.ShardLemmas.{arriving_there}
 use Rattle.ndc_model.specs.Conditions.{MayDoAll}
@@ -15,8 +15,8 @@ do_all-requires-clause-shards g c κs within =
 
 pub do_all-requires-clause-allowed : goal.do_all-requires-clause-allowed
 do_all-requires-clause-allowed g c κs within =
-    subst (λ (w : World). MayDoAll g.C.Works.allows c.args.header.now c.args.reader c.in_ok-jobs.jobs.items w) (sym c.in_ok-jobs.ensures.taken)
-    (subst (λ (jobs : List ShardJob). MayDoAll g.C.Works.allows c.args.header.now c.args.reader jobs c.args.self.now) (sym c.in_ok-jobs.ensures.jobs) c.requires.allowed)
+    subst (λ (w : World). MayDoAll g.C.Cell.allows c.args.header.now c.args.reader c.in_ok-jobs.jobs.items w) (sym c.in_ok-jobs.ensures.taken)
+    (subst (λ (jobs : List ShardJob). MayDoAll g.C.Cell.allows c.args.header.now c.args.reader jobs c.args.self.now) (sym c.in_ok-jobs.ensures.jobs) c.requires.allowed)
 
 pub returns-clause-arrived : goal.returns-clause-arrived
 unfolding flights_arrived

@@ -1,6 +1,5 @@
-use Rattle.std.proofs.Common.{refl, sym, subst, ap, ◌≡◌, ◌∙◌, ◌<◌, length, drop, arith}
+use Rattle.std.proofs.Common.{refl, sym, subst, ap, ◌≡◌, ◌∙◌, arith}
 use Rattle.std.specs.List.{fold}
-use Rattle.ndc_script_types.specs.WellFormed.{IsCluster}
 use Rattle.ndc_model.specs.Moves.{due_arrived, from_world}
 use Rattle.ndc_world_network.proofs.OrderlyLemmas.{orderly_due}
 use Rattle.ndc_world_network.proofs.TraceLemmas.{cluster_in, each_here, each_more, due_more, step_all, step_more, nth_cluster}
@@ -14,13 +13,13 @@ arrive_due-requires-clause-reader g c κs within = cluster_in c.args.header.now 
 
 pub arrive_due-requires-clause-allowed : goal.arrive_due-requires-clause-allowed
 arrive_due-requires-clause-allowed g c κs within =
-    each_here (λ v reader. MayDoAll g.C.Works.allows c.args.header.now reader (due_jobs c.args.header.now reader v.world) v.world) (due_arrived c.args.header.now) (trace_of c.loop-reader.self c.loop-reader.dones.items) c.args.clusters.now c.loop-reader.reader-index c.loop-reader-test.true c.loop-reader.invariant.allowed
+    each_here (λ v reader. MayDoAll g.C.Cell.allows c.args.header.now reader (due_jobs c.args.header.now reader v.world) v.world) (due_arrived c.args.header.now) (trace_of c.loop-reader.self c.loop-reader.dones.items) c.args.clusters.now c.loop-reader.reader-index c.loop-reader-test.true c.loop-reader.invariant.allowed
 
 pub loop-reader-init : goal.loop-reader-init
 loop-reader-init g c = record {
   orderly = c.requires.orderly;
   trace = refl;
-  allowed = subst (EachStep (λ v reader. MayDoAll g.C.Works.allows c.args.header.now reader (due_jobs c.args.header.now reader v.world) v.world) (due_arrived c.args.header.now) (trace_of c.args.self.now c.args.dones.now.items)) (sym c.requires.clusters) c.requires.allowed;
+  allowed = subst (EachStep (λ v reader. MayDoAll g.C.Cell.allows c.args.header.now reader (due_jobs c.args.header.now reader v.world) v.world) (due_arrived c.args.header.now) (trace_of c.args.self.now c.args.dones.now.items)) (sym c.requires.clusters) c.requires.allowed;
 }
 
 pub loop-reader-preserved : goal.loop-reader-preserved
@@ -32,7 +31,7 @@ loop-reader-preserved g c =
       orderly = subst (IsOrderly c.args.header.now) (sym c.in_ok-done.ensures.arrived) (orderly_due c.args.header.now (from_world c.loop-reader.self) c.loop-reader.invariant.orderly (nth_cluster c.args.clusters.now c.loop-reader.reader-index) (cluster_in c.args.header.now c.args.clusters.now c.loop-reader.reader-index c.requires.clusters c.loop-reader-test.true));
       trace = step_more (due_arrived c.args.header.now) (trace_of c.loop-reader.self c.loop-reader.dones.items) (trace_of c.arrive_due.new.self c.push.new.self.items) c.args.clusters.now c.loop-reader.reader-index c.loop-reader-test.true now
           ∙ c.loop-reader.invariant.trace;
-      allowed = each_more (λ v reader. MayDoAll g.C.Works.allows c.args.header.now reader (due_jobs c.args.header.now reader v.world) v.world) (due_arrived c.args.header.now) (trace_of c.loop-reader.self c.loop-reader.dones.items) (trace_of c.arrive_due.new.self c.push.new.self.items) c.args.clusters.now c.loop-reader.reader-index c.loop-reader-test.true now
+      allowed = each_more (λ v reader. MayDoAll g.C.Cell.allows c.args.header.now reader (due_jobs c.args.header.now reader v.world) v.world) (due_arrived c.args.header.now) (trace_of c.loop-reader.self c.loop-reader.dones.items) (trace_of c.arrive_due.new.self c.push.new.self.items) c.args.clusters.now c.loop-reader.reader-index c.loop-reader-test.true now
           c.loop-reader.invariant.allowed;
     }
 

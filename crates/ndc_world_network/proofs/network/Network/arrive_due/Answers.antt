@@ -14,7 +14,7 @@ do_all-requires-clause-shards g c κs within =
 
 pub do_all-requires-clause-allowed : goal.do_all-requires-clause-allowed
 do_all-requires-clause-allowed g c κs within =
-    subst (λ (jobs : List ShardJob). MayDoAll g.C.Works.allows c.args.header.now c.args.reader jobs c.args.self.now) (sym c.in_ok-jobs.ensures) c.requires.allowed
+    subst (λ (jobs : List ShardJob). MayDoAll g.C.Cell.allows c.args.header.now c.args.reader jobs c.args.self.now) (sym c.in_ok-jobs.ensures) c.requires.allowed
 
 pub returns-clause-arrived : goal.returns-clause-arrived
 unfolding due_arrived

@@ -1,4 +1,4 @@
-use Rattle.std.proofs.Common.{◌<◌, [], List, length, ap, sym, subst, ◌∙◌}
+use Rattle.std.proofs.Common.{◌<◌, List, length, sym, subst, ◌∙◌}
 use Rattle.std.specs.List.{AllByRecursion}
 use Rattle.ndc_model_cells.specs.declared.job.ShardJob.{ShardJob}
 use Rattle.ndc_model.specs.Moves.{from_world}
@@ -20,7 +20,7 @@ do_all-requires-clause-shards g c κs within =
 
 pub do_all-requires-clause-allowed : goal.do_all-requires-clause-allowed
 do_all-requires-clause-allowed g c κs within =
-    subst (λ (jobs : List ShardJob). MayDoAll g.C.Works.allows c.args.header.now c.args.reader jobs c.args.self.now) (sym c.in_ok-jobs.ensures) c.requires.allowed
+    subst (λ (jobs : List ShardJob). MayDoAll g.C.Cell.allows c.args.header.now c.args.reader jobs c.args.self.now) (sym c.in_ok-jobs.ensures) c.requires.allowed
 
 pub renew-requires-clause-orderly : goal.renew-requires-clause-orderly
 renew-requires-clause-orderly g c =

@@ -1,4 +1,4 @@
-use Rattle.std.proofs.Common.{refl, sym, subst, ap, ◌≡◌, ◌∙◌, arith}
+use Rattle.std.proofs.Common.{refl, sym, subst, ap, ◌∙◌, arith}
 use Rattle.std.specs.List.{fold}
 use Rattle.ndc_world_network.proofs.TraceLemmas.{cluster_in, each_here, each_more, step_all, step_more}
 use Rattle.ndc_model.specs.Conditions.{EachStep, MayBootstrap, reader_bootstrapped}
@@ -10,14 +10,14 @@ bootstrap_reader-requires-clause-reader g c κs within = cluster_in c.args.heade
 
 pub bootstrap_reader-requires-clause-allowed : goal.bootstrap_reader-requires-clause-allowed
 bootstrap_reader-requires-clause-allowed g c κs within =
-    each_here (MayBootstrap g.C.Works.allows c.args.header.now) (reader_bootstrapped c.args.header.now) (trace_of c.loop-reader.self c.loop-reader.dones.items) c.args.clusters.now c.loop-reader.reader-index c.loop-reader-test.true
+    each_here (MayBootstrap g.C.Cell.allows c.args.header.now) (reader_bootstrapped c.args.header.now) (trace_of c.loop-reader.self c.loop-reader.dones.items) c.args.clusters.now c.loop-reader.reader-index c.loop-reader-test.true
     c.loop-reader.invariant.allowed
 
 pub loop-reader-init : goal.loop-reader-init
 loop-reader-init g c = record {
   orderly = c.requires.orderly;
   trace = refl;
-  allowed = subst (EachStep (MayBootstrap g.C.Works.allows c.args.header.now) (reader_bootstrapped c.args.header.now) (trace_of c.args.self.now c.args.dones.now.items)) (sym c.requires.clusters) c.requires.allowed;
+  allowed = subst (EachStep (MayBootstrap g.C.Cell.allows c.args.header.now) (reader_bootstrapped c.args.header.now) (trace_of c.args.self.now c.args.dones.now.items)) (sym c.requires.clusters) c.requires.allowed;
 }
 
 pub loop-reader-preserved : goal.loop-reader-preserved
@@ -26,7 +26,7 @@ loop-reader-preserved g c = record {
   trace = step_more (reader_bootstrapped c.args.header.now) (trace_of c.loop-reader.self c.loop-reader.dones.items) (trace_of c.bootstrap_reader.new.self c.bootstrap_reader.new.dones.items) c.args.clusters.now c.loop-reader.reader-index
       c.loop-reader-test.true c.in_ok-bootstrap_reader.ensures.bootstrapped
       ∙ c.loop-reader.invariant.trace;
-  allowed = each_more (MayBootstrap g.C.Works.allows c.args.header.now) (reader_bootstrapped c.args.header.now) (trace_of c.loop-reader.self c.loop-reader.dones.items) (trace_of c.bootstrap_reader.new.self c.bootstrap_reader.new.dones.items) c.args.clusters.now
+  allowed = each_more (MayBootstrap g.C.Cell.allows c.args.header.now) (reader_bootstrapped c.args.header.now) (trace_of c.loop-reader.self c.loop-reader.dones.items) (trace_of c.bootstrap_reader.new.self c.bootstrap_reader.new.dones.items) c.args.clusters.now
       c.loop-reader.reader-index c.loop-reader-test.true c.in_ok-bootstrap_reader.ensures.bootstrapped c.loop-reader.invariant.allowed;
 }
 

@@ -9,5 +9,5 @@ abbrev pub invariant-loop-reader : goal.invariant-loop-reader
 invariant-loop-reader g l = record {
   orderly : IsOrderly l.header l.self;
   trace : fold (reader_bootstrapped l.header) (trace_of l.self l.dones.items) (drop l.reader-index l.clusters) ≡ fold (reader_bootstrapped l.header) (trace_of l.fn.self l.initial.dones.items) l.clusters;
-  allowed : EachStep (MayBootstrap g.C.Works.allows l.header) (reader_bootstrapped l.header) (trace_of l.self l.dones.items) (drop l.reader-index l.clusters);
+  allowed : EachStep (MayBootstrap g.C.Cell.allows l.header) (reader_bootstrapped l.header) (trace_of l.self l.dones.items) (drop l.reader-index l.clusters);
 }

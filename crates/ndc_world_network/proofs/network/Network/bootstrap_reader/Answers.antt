@@ -1,6 +1,5 @@
-use Rattle.std.proofs.Common.{refl, sym, subst, ap, ◌≡◌, ◌∙◌, ◌<◌, length, drop, arith}
+use Rattle.std.proofs.Common.{refl, sym, subst, ap, ◌≡◌, ◌∙◌, arith}
 use Rattle.std.specs.List.{fold}
-use Rattle.ndc_script_types.specs.WellFormed.{IsCluster}
 use Rattle.ndc_model.specs.Moves.{bootstrapped, from_world}
 use Rattle.ndc_world_network.proofs.OrderlyLemmas.{orderly_bootstrapped}
 use Rattle.ndc_world_network.proofs.TraceLemmas.{other_in, each_here, each_more, bootstrapped_more, step_all, step_more, nth_cluster}
@@ -14,13 +13,13 @@ bootstrap-requires-clause-source g c κs within = other_in c.args.header.now c.a
 
 pub bootstrap-requires-clause-allowed : goal.bootstrap-requires-clause-allowed
 bootstrap-requires-clause-allowed g c κs within =
-    each_here (λ v source. MayDoAll g.C.Works.allows c.args.header.now c.args.reader (late_jobs c.args.header.now c.args.reader source v.world) v.world) (bootstrapped c.args.header.now c.args.reader) (trace_of c.loop-source.self c.loop-source.dones.items) c.args.sources.now c.loop-source.source-index c.loop-source-test.true c.loop-source.invariant.allowed
+    each_here (λ v source. MayDoAll g.C.Cell.allows c.args.header.now c.args.reader (late_jobs c.args.header.now c.args.reader source v.world) v.world) (bootstrapped c.args.header.now c.args.reader) (trace_of c.loop-source.self c.loop-source.dones.items) c.args.sources.now c.loop-source.source-index c.loop-source-test.true c.loop-source.invariant.allowed
 
 pub loop-source-init : goal.loop-source-init
 loop-source-init g c = record {
   orderly = c.requires.orderly;
   trace = refl;
-  allowed = subst (EachStep (λ v source. MayDoAll g.C.Works.allows c.args.header.now c.args.reader (late_jobs c.args.header.now c.args.reader source v.world) v.world) (bootstrapped c.args.header.now c.args.reader) (trace_of c.args.self.now c.args.dones.now.items)) (sym c.requires.sources) c.requires.allowed;
+  allowed = subst (EachStep (λ v source. MayDoAll g.C.Cell.allows c.args.header.now c.args.reader (late_jobs c.args.header.now c.args.reader source v.world) v.world) (bootstrapped c.args.header.now c.args.reader) (trace_of c.args.self.now c.args.dones.now.items)) (sym c.requires.sources) c.requires.allowed;
 }
 
 pub loop-source-preserved : goal.loop-source-preserved
@@ -32,7 +31,7 @@ loop-source-preserved g c =
       orderly = subst (IsOrderly c.args.header.now) (sym c.in_ok-done.ensures.bootstrapped) (orderly_bootstrapped c.args.header.now (from_world c.loop-source.self) c.loop-source.invariant.orderly c.args.reader (nth_cluster c.args.sources.now c.loop-source.source-index) c.requires.reader);
       trace = step_more (bootstrapped c.args.header.now c.args.reader) (trace_of c.loop-source.self c.loop-source.dones.items) (trace_of c.bootstrap.new.self c.push.new.self.items) c.args.sources.now c.loop-source.source-index c.loop-source-test.true now
           ∙ c.loop-source.invariant.trace;
-      allowed = each_more (λ v source. MayDoAll g.C.Works.allows c.args.header.now c.args.reader (late_jobs c.args.header.now c.args.reader source v.world) v.world) (bootstrapped c.args.header.now c.args.reader) (trace_of c.loop-source.self c.loop-source.dones.items) (trace_of c.bootstrap.new.self c.push.new.self.items) c.args.sources.now c.loop-source.source-index c.loop-source-test.true now
+      allowed = each_more (λ v source. MayDoAll g.C.Cell.allows c.args.header.now c.args.reader (late_jobs c.args.header.now c.args.reader source v.world) v.world) (bootstrapped c.args.header.now c.args.reader) (trace_of c.loop-source.self c.loop-source.dones.items) (trace_of c.bootstrap.new.self c.push.new.self.items) c.args.sources.now c.loop-source.source-index c.loop-source-test.true now
           c.loop-source.invariant.allowed;
     }
 

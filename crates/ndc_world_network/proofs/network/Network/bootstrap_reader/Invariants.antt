@@ -10,5 +10,5 @@ abbrev pub invariant-loop-source : goal.invariant-loop-source
 invariant-loop-source g l = record {
   orderly : IsOrderly l.header l.self;
   trace : fold (bootstrapped l.header l.reader) (trace_of l.self l.dones.items) (drop l.source-index l.sources) ≡ fold (bootstrapped l.header l.reader) (trace_of l.fn.self l.initial.dones.items) l.sources;
-  allowed : EachStep (λ v source. MayDoAll g.C.Works.allows l.header l.reader (late_jobs l.header l.reader source v.world) v.world) (bootstrapped l.header l.reader) (trace_of l.self l.dones.items) (drop l.source-index l.sources);
+  allowed : EachStep (λ v source. MayDoAll g.C.Cell.allows l.header l.reader (late_jobs l.header l.reader source v.world) v.world) (bootstrapped l.header l.reader) (trace_of l.self l.dones.items) (drop l.source-index l.sources);
 }

@@ -13,7 +13,7 @@ do_jobs-requires-clause-shards g c κs within =
 
 pub do_jobs-requires-clause-allowed : goal.do_jobs-requires-clause-allowed
 do_jobs-requires-clause-allowed g c κs within =
-    subst (λ (jobs : List ShardJob). MayDoAll g.C.Works.allows c.args.header.now c.args.cluster jobs c.args.self.now) (sym c.as_slice-asked.ensures.value) c.requires.allowed
+    subst (λ (jobs : List ShardJob). MayDoAll g.C.Cell.allows c.args.header.now c.args.cluster jobs c.args.self.now) (sym c.as_slice-asked.ensures.value) c.requires.allowed
 
 pub returns-clause-done : goal.returns-clause-done
 unfolding jobs_done

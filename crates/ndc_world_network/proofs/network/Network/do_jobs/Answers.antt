@@ -3,13 +3,14 @@ use Rattle.std.proofs.lemmas.List.{length-map}
 use Rattle.std.specs.List.{AllByRecursion}
 use Rattle.std.proofs.lemmas.Result.{on_ok_weaker}
 use Rattle.ndc_model_cells.specs.declared.job.ShardJob.{ShardJob}
+use Rattle.ndc_cluster_rounds.specs.Homes.{HomeValue, desk_of}
 use Rattle.ndc_model_cells.specs.Jobs.{cells_after}
 use Rattle.ndc_model.specs.World.{Cluster, World, cluster_at, home_at, with_cells}
 use Rattle.ndc_world_network.proofs.LinkLemmas.{stands}
 use Rattle.ndc_world_network.proofs.QuietLemmas.{no_item}
 use Rattle.ndc_world_network.proofs.WorkLemmas.{cells_change, no_job_done, no_job_replied}
 use Rattle.ndc_world_network.specs.Networks.{StandsAt, world_of}
-use Rattle.ndc_cluster.specs.Sites.{SiteValue, with_site_cells}
+use Rattle.ndc_world_network.specs.Sites.{SiteValue, with_site_cells}
 use Rattle.ndc_world_network.proofs.network.Network.do_jobs.Goals as goal
 
 pub returns-clause-done : goal.returns-clause-done
@@ -20,7 +21,9 @@ returns-clause-done g c =
     let own : StandsAt w c.args.cluster c.index_mut-site.result.now = stands c.self.inside.sites.items c.self.inside.links.items c.self.inside.handovers.items c.args.cluster c.index_mut-site.result.now below c.index_mut-site.ensures.value in
     on_ok_weaker c.round.result (λ done.
     ap (λ site. world_of (set c.self.inside.sites.items c.args.cluster.number site) c.self.inside.links.items c.self.inside.handovers.items)
-    (done ∙ ap (λ (cluster : Cluster). with_site_cells (cells_after (record { clusters = c.args.header.now.clusters; me = c.args.cluster; limit = c.args.header.now.limit; table = cluster.table }) c.args.jobs.now cluster.cells) c.index_mut-site.result.now) (sym own.cluster_is))
+    (done
+    ∙ ap (λ (home : HomeValue). with_site_cells (cells_after (desk_of home c.index_mut-site.result.now.cluster.table) c.args.jobs.now c.index_mut-site.result.now.cluster.cells) c.index_mut-site.result.now) c.home_in-home.ensures
+    ∙ ap (λ (cluster : Cluster). with_site_cells (cells_after (record { clusters = c.args.header.now.clusters; me = c.args.cluster; limit = c.args.header.now.limit; table = cluster.table }) c.args.jobs.now cluster.cells) c.index_mut-site.result.now) (sym own.cluster_is))
     ∙ cells_change c.self.inside.sites.items c.self.inside.links.items c.self.inside.handovers.items c.args.cluster c.index_mut-site.result.now below c.index_mut-site.ensures.value
     (cells_after (home_at c.args.header.now c.args.cluster w) c.args.jobs.now (cluster_at c.args.cluster w).cells)
     ∙ ap (λ (v : World). with_cells c.args.cluster (cells_after (home_at c.args.header.now c.args.cluster v) c.args.jobs.now (cluster_at c.args.cluster v).cells) v) c.self.view_is)

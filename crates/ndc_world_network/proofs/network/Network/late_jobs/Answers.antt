@@ -13,7 +13,7 @@ use Rattle.ndc_world_network.proofs.network.Network.late_jobs.Goals as goal
 
 pub learned_jobs-requires : goal.learned_jobs-requires
 learned_jobs-requires g c =
-    sym (length-map c.cells-cells.result.now g.C.Works.cell) ∙ ap length c.cells-cells.ensures
+    sym (length-map c.cells-cells.result.now g.C.Cell.cell) ∙ ap length c.cells-cells.ensures
     ∙ cells_many c.args.header.now c.args.self.now c.args.source c.index.result.now c.requires.shaped c.requires.source
     (stands_by c.args.header.now c.args.self.now c.self.inside.sites.items c.self.inside.links.items c.self.inside.handovers.items c.args.source c.index.result.now c.self.view_is c.requires.shaped c.requires.source c.index.ensures)
 
@@ -22,7 +22,7 @@ returns g c =
     let own : StandsAt c.args.self.now c.args.source c.index.result.now =
     stands_by c.args.header.now c.args.self.now c.self.inside.sites.items c.self.inside.links.items c.self.inside.handovers.items c.args.source c.index.result.now c.self.view_is c.requires.shaped c.requires.source c.index.ensures in
     c.in_ok-jobs.ensures
-    ∙ ap (λ (names : List Name). all_arrive (λ shard. learned_of_domains names (cell_for shard (map g.C.Works.cell c.cells-cells.result.now))) (range_with_len 0 c.args.header.now.shards))
+    ∙ ap (λ (names : List Name). all_arrive (λ shard. learned_of_domains names (cell_for shard (map g.C.Cell.cell c.cells-cells.result.now))) (range_with_len 0 c.args.header.now.shards))
     (c.late_of-domains.ensures
     ∙ ap (λ (links : List Link). (link_found c.args.reader c.args.source (find (is_link c.args.reader c.args.source) links)).late) (c.as_slice.ensures.value ∙ ap (λ (v : World). v.links) c.self.view_is))
     ∙ ap (λ (cells : List Cell). all_arrive (λ shard. learned_of_domains (link_at c.args.reader c.args.source c.args.self.now).late (cell_for shard cells)) (range_with_len 0 c.args.header.now.shards))

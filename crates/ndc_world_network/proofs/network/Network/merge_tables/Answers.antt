@@ -1,7 +1,6 @@
-use Rattle.std.proofs.Common.{refl, sym, subst, ap, ◌≡◌, ◌∙◌, arith}
+use Rattle.std.proofs.Common.{ap, ◌∙◌, arith}
 use Rattle.std.specs.List.{fold}
 use Rattle.ndc_model.specs.Moves.{merged_all}
-use Rattle.ndc_model.specs.World.{others_of}
 use Rattle.ndc_world_network.proofs.TraceLemmas.{cluster_in, step_all, step_more}
 use Rattle.ndc_world_network.proofs.network.Network.merge_tables.Goals as goal
 

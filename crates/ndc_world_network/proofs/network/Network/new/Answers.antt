@@ -1,14 +1,16 @@
-use Rattle.std.proofs.Common.{List, ap, ◌∙◌}
+use Rattle.std.proofs.Common.{◌≡◌, List, map, ap, ◌∙◌}
 use Rattle.std.specs.List.{flat_map}
 use Rattle.ndc_script_types.specs.Below.{clusters_below}
 use Rattle.ndc_domain.specs.declared.clusters.ClusterNo.{ClusterNo}
-use Rattle.ndc_world_network.specs.Networks.{links_of}
+use Rattle.ndc_model.specs.World.{all_clusters}
+use Rattle.ndc_world_network.specs.Networks.{links_of, opening_site}
 use Rattle.ndc_world_network.proofs.OpeningLemmas.{opening}
 use Rattle.ndc_world_network.proofs.network.Network.new.Goals as goal
 
 pub returns : goal.returns
 returns g c =
-    opening c.args.header.now c.args.sites.items c.in_ok-links.links.items c.new.result.items c.requires.sites
-    (c.in_ok-links.ensures ∙ ap (λ (clusters : List ClusterNo). flat_map (links_of c.args.header.now clusters) clusters)
-    (c.as_slice.ensures.value ∙ c.in_ok-clusters.ensures.answer ∙ ap clusters_below c.count.ensures.count))
+    let all : c.as_slice-clusters.result.now ≡ all_clusters c.args.header.now = c.as_slice-clusters.ensures.value ∙ c.in_ok-clusters.ensures.answer ∙ ap clusters_below c.count.ensures.count in
+    opening c.args.header.now c.in_ok-sites.sites.items c.in_ok-links.links.items c.new.result.items
+    (c.in_ok-sites.ensures ∙ ap (λ (clusters : List ClusterNo). map (λ _. opening_site c.args.header.now.shards) clusters) all)
+    (c.in_ok-links.ensures ∙ ap (λ (clusters : List ClusterNo). flat_map (links_of c.args.header.now clusters) clusters) all)
     c.new.ensures.items

@@ -5,6 +5,6 @@ use Rattle.ndc_world_network.proofs.network.Network.reader_cell.Goals as goal
 
 pub cell_of-requires-clause-cells : goal.cell_of-requires-clause-cells
 cell_of-requires-clause-cells g c =
-    sym (length-map c.cells-cells.result.now g.C.Works.cell) ∙ ap length c.cells-cells.ensures
+    sym (length-map c.cells-cells.result.now g.C.Cell.cell) ∙ ap length c.cells-cells.ensures
     ∙ cells_many c.args.header.now c.args.self.now c.args.reader c.index.result.now c.requires.shaped c.requires.reader
     (stands_by c.args.header.now c.args.self.now c.self.inside.sites.items c.self.inside.links.items c.self.inside.handovers.items c.args.reader c.index.result.now c.self.view_is c.requires.shaped c.requires.reader c.index.ensures)

@@ -1,6 +1,5 @@
-use Rattle.std.proofs.Common.{refl, sym, subst, ap, ◌≡◌, ◌∙◌, ◌<◌, length, drop, arith}
+use Rattle.std.proofs.Common.{refl, sym, subst, ap, ◌≡◌, ◌∙◌, arith}
 use Rattle.std.specs.List.{fold}
-use Rattle.ndc_script_types.specs.WellFormed.{IsCluster}
 use Rattle.ndc_model.specs.Moves.{all_reapply, from_world, reapplied_all}
 use Rattle.ndc_world_network.proofs.OrderlyLemmas.{orderly_reapplied}
 use Rattle.ndc_world_network.proofs.TraceLemmas.{cluster_in, each_here, each_more, reapplied_more, step_all, step_more, nth_cluster}
@@ -14,13 +13,13 @@ reapply-requires-clause-cluster g c κs within = cluster_in c.args.header.now c.
 
 pub reapply-requires-clause-allowed : goal.reapply-requires-clause-allowed
 reapply-requires-clause-allowed g c κs within =
-    each_here (λ v cluster. MayDoAll g.C.Works.allows c.args.header.now cluster (all_reapply c.args.header.now) v.world) (reapplied_all c.args.header.now) (trace_of c.loop-cluster.self c.loop-cluster.dones.items) c.args.clusters.now c.loop-cluster.cluster-index c.loop-cluster-test.true c.loop-cluster.invariant.allowed
+    each_here (λ v cluster. MayDoAll g.C.Cell.allows c.args.header.now cluster (all_reapply c.args.header.now) v.world) (reapplied_all c.args.header.now) (trace_of c.loop-cluster.self c.loop-cluster.dones.items) c.args.clusters.now c.loop-cluster.cluster-index c.loop-cluster-test.true c.loop-cluster.invariant.allowed
 
 pub loop-cluster-init : goal.loop-cluster-init
 loop-cluster-init g c = record {
   orderly = c.requires.orderly;
   trace = refl;
-  allowed = subst (EachStep (λ v cluster. MayDoAll g.C.Works.allows c.args.header.now cluster (all_reapply c.args.header.now) v.world) (reapplied_all c.args.header.now) (trace_of c.args.self.now c.args.dones.now.items)) (sym c.requires.clusters) c.requires.allowed;
+  allowed = subst (EachStep (λ v cluster. MayDoAll g.C.Cell.allows c.args.header.now cluster (all_reapply c.args.header.now) v.world) (reapplied_all c.args.header.now) (trace_of c.args.self.now c.args.dones.now.items)) (sym c.requires.clusters) c.requires.allowed;
 }
 
 pub loop-cluster-preserved : goal.loop-cluster-preserved
@@ -32,7 +31,7 @@ loop-cluster-preserved g c =
       orderly = subst (IsOrderly c.args.header.now) (sym c.in_ok-done.ensures.reapplied) (orderly_reapplied c.args.header.now (from_world c.loop-cluster.self) c.loop-cluster.invariant.orderly (nth_cluster c.args.clusters.now c.loop-cluster.cluster-index) (cluster_in c.args.header.now c.args.clusters.now c.loop-cluster.cluster-index c.requires.clusters c.loop-cluster-test.true));
       trace = step_more (reapplied_all c.args.header.now) (trace_of c.loop-cluster.self c.loop-cluster.dones.items) (trace_of c.reapply.new.self c.push.new.self.items) c.args.clusters.now c.loop-cluster.cluster-index c.loop-cluster-test.true now
           ∙ c.loop-cluster.invariant.trace;
-      allowed = each_more (λ v cluster. MayDoAll g.C.Works.allows c.args.header.now cluster (all_reapply c.args.header.now) v.world) (reapplied_all c.args.header.now) (trace_of c.loop-cluster.self c.loop-cluster.dones.items) (trace_of c.reapply.new.self c.push.new.self.items) c.args.clusters.now c.loop-cluster.cluster-index c.loop-cluster-test.true now
+      allowed = each_more (λ v cluster. MayDoAll g.C.Cell.allows c.args.header.now cluster (all_reapply c.args.header.now) v.world) (reapplied_all c.args.header.now) (trace_of c.loop-cluster.self c.loop-cluster.dones.items) (trace_of c.reapply.new.self c.push.new.self.items) c.args.clusters.now c.loop-cluster.cluster-index c.loop-cluster-test.true now
           c.loop-cluster.invariant.allowed;
     }
 

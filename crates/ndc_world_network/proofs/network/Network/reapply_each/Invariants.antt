@@ -10,5 +10,5 @@ abbrev pub invariant-loop-cluster : goal.invariant-loop-cluster
 invariant-loop-cluster g l = record {
   orderly : IsOrderly l.header l.self;
   trace : fold (reapplied_all l.header) (trace_of l.self l.dones.items) (drop l.cluster-index l.clusters) ≡ fold (reapplied_all l.header) (trace_of l.fn.self l.initial.dones.items) l.clusters;
-  allowed : EachStep (λ v cluster. MayDoAll g.C.Works.allows l.header cluster (all_reapply l.header) v.world) (reapplied_all l.header) (trace_of l.self l.dones.items) (drop l.cluster-index l.clusters);
+  allowed : EachStep (λ v cluster. MayDoAll g.C.Cell.allows l.header cluster (all_reapply l.header) v.world) (reapplied_all l.header) (trace_of l.self l.dones.items) (drop l.cluster-index l.clusters);
 }

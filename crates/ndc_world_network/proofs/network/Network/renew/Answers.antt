@@ -14,7 +14,7 @@ use Rattle.ndc_world_network.proofs.network.Network.renew.Goals.{then-reader, el
 pub renew-requires-clause-cells : goal.renew-requires-clause-cells
 renew-requires-clause-cells g c =
     let below : c.loop-place.place < length c.args.self.now.links = omega (arith, c.loop-place-test.true, ap (λ (v : World). length v.links) c.self.view_is) in
-    sym (length-map c.cells.result.now g.C.Works.cell) ∙ ap length c.cells.ensures ∙ cells_many c.args.header.now c.args.self.now c.args.reader c.index-own.result.now c.requires.orderly.shaped c.requires.reader (stands_in c.args.header.now c.args.self.now c.loop-place.self-inside.sites.items c.loop-place.self-inside.handovers.items c.args.reader c.index-own.result.now c.loop-place.invariant.seen c.requires.orderly.shaped c.requires.reader c.index-own.ensures)
+    sym (length-map c.cells.result.now g.C.Cell.cell) ∙ ap length c.cells.ensures ∙ cells_many c.args.header.now c.args.self.now c.args.reader c.index-own.result.now c.requires.orderly.shaped c.requires.reader (stands_in c.args.header.now c.args.self.now c.loop-place.self-inside.sites.items c.loop-place.self-inside.handovers.items c.args.reader c.index-own.result.now c.loop-place.invariant.seen c.requires.orderly.shaped c.requires.reader c.index-own.ensures)
     ∙ sym (lanes_many c.args.header.now c.args.self.now c.loop-place.place c.index_mut-link.result.now c.index-source.result.now c.queues.result.now (held_there c.args.header.now c.args.self.now c.loop-place.self-inside.sites.items c.loop-place.self-inside.handovers.items (renewed_link c.args.self.now c.args.reader) c.loop-place.self-inside.links.items c.loop-place.place
     c.index_mut-link.result.now c.index-source.result.now c.queues.result.now c.loop-place.invariant.seen c.requires.orderly.shaped c.requires.orderly.lanes c.loop-place.invariant.links below
     c.index_mut-link.ensures.value (c.index-source.ensures ∙ ap (λ (number : ClusterNo). get_or c.loop-place.self-inside.sites.items number.number c.index-source.result.now) c.source.ensures)
@@ -52,7 +52,7 @@ loop-place-preserved g c =
           c.index_mut-link.result.now w.index-source.result.now w.queues.result.now c.loop-place.invariant.seen c.requires.orderly.shaped c.requires.orderly.lanes c.loop-place.invariant.links below
           c.index_mut-link.ensures.value (w.index-source.ensures ∙ ap (λ (number : ClusterNo). get_or c.loop-place.self-inside.sites.items number.number w.index-source.result.now) w.source.ensures)
           w.queues.ensures.alike w.queues.ensures.rests w.queues.ensures.trimmed)
-          c.args.reader w.index-own.result.now w.table.result.now (map g.C.Works.cell w.cells.result.now) own (stands_in c.args.header.now c.args.self.now c.loop-place.self-inside.sites.items c.loop-place.self-inside.handovers.items c.args.reader w.index-own.result.now c.loop-place.invariant.seen c.requires.orderly.shaped c.requires.reader w.index-own.ensures) w.table.ensures w.cells.ensures in
+          c.args.reader w.index-own.result.now w.table.result.now (map g.C.Cell.cell w.cells.result.now) own (stands_in c.args.header.now c.args.self.now c.loop-place.self-inside.sites.items c.loop-place.self-inside.handovers.items c.args.reader w.index-own.result.now c.loop-place.invariant.seen c.requires.orderly.shaped c.requires.reader w.index-own.ensures) w.table.ensures w.cells.ensures in
           record {
             seen = ap (λ inside. world_of inside.sites.items c.args.self.now.links inside.handovers.items) w.self-inside-is ∙ c.loop-place.invariant.seen;
             links = ap (λ inside. inside.links.items) w.self-inside-is ∙ ap (set c.loop-place.self-inside.links.items c.loop-place.place) step

@@ -1,4 +1,4 @@
-use Rattle.std.proofs.Common.{refl, sym, subst, ap, ◌≡◌, ◌∙◌, arith}
+use Rattle.std.proofs.Common.{sym, subst, ap, ◌∙◌, arith}
 use Rattle.std.specs.List.{fold}
 use Rattle.ndc_model.specs.Moves.{renewed}
 use Rattle.ndc_world_network.proofs.OrderlyLemmas.{orderly_renewed}

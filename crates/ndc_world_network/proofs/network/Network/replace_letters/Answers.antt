@@ -4,7 +4,7 @@ use Rattle.ndc_model.specs.Letters.{with_letters}
 use Rattle.ndc_model.specs.World.{World}
 use Rattle.ndc_world_network.proofs.WorkLemmas.{letters_change}
 use Rattle.ndc_world_network.specs.Networks.{world_of}
-use Rattle.ndc_cluster.specs.Sites.{SiteValue}
+use Rattle.ndc_world_network.specs.Sites.{SiteValue}
 use Rattle.ndc_world_network.proofs.network.Network.replace_letters.Goals as goal
 
 pub returns-clause-replaced : goal.returns-clause-replaced

@@ -1,6 +1,5 @@
-use Rattle.std.proofs.Common.{List, sym, subst, ◌∙◌}
+use Rattle.std.proofs.Common.{sym, subst, ◌∙◌}
 use Rattle.ndc_laws_jobs.specs.Again.{AreGatheredFor}
-use Rattle.ndc_event.specs.declared.key.BatchKey.{BatchKey}
 use Rattle.ndc_model.specs.Moves.{all_written}
 use Rattle.ndc_model.specs.World.{cell_at}
 use Rattle.ndc_world_network.proofs.AgainLemmas.{sent_at}

@@ -1,7 +1,6 @@
 use Rattle.std.proofs.Common.{sym, subst, ◌∙◌}
 use Rattle.ndc_model.specs.Fair.{IsShaped}
-use Rattle.ndc_model.specs.Moves.{all_reapply, flights_arrived, from_world, reapplied_all}
-use Rattle.ndc_model.specs.World.{World}
+use Rattle.ndc_model.specs.Moves.{all_reapply, from_world}
 use Rattle.ndc_world_network.proofs.OrderlyLemmas.{orderly_arrived, orderly_reapplied}
 use Rattle.ndc_world_network.proofs.TraceLemmas.{worked_notes, worked_world}
 use Rattle.ndc_model.specs.Conditions.{MayDoAll}
@@ -15,7 +14,7 @@ reapply-requires-clause-shaped g c κs within =
 
 pub reapply-requires-clause-allowed : goal.reapply-requires-clause-allowed
 reapply-requires-clause-allowed g c κs within =
-    subst (MayDoAll g.C.Works.allows c.args.header.now c.args.reader (all_reapply c.args.header.now)) (sym c.in_ok-arrived.ensures.arrived) c.requires.allowed.reapply
+    subst (MayDoAll g.C.Cell.allows c.args.header.now c.args.reader (all_reapply c.args.header.now)) (sym c.in_ok-arrived.ensures.arrived) c.requires.allowed.reapply
 
 pub renew-requires-clause-orderly : goal.renew-requires-clause-orderly
 renew-requires-clause-orderly g c =

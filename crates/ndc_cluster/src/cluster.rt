@@ -1,0 +1,130 @@
+ghost use Rattle.std.specs.Prelude.{◌≡◌, map, replicate, IfOk};
+ghost use Rattle.ndc_model_cells.specs.Cells.{empty_cell};
+
+use ndc_cluster_rounds::{Cell, Desk, Home, round};
+use ndc_domain::DomainTable;
+use ndc_model_cells::{JobReply, ShardJob};
+use ndc_port::Gate;
+use std::alloc::{AllocError, Global};
+use std::marker::Model;
+use std::mem;
+use std::thread::Threads;
+
+/// A cluster: its domain records, and its cells by shard. Nothing but [`Cluster::round`] changes a cell.
+pub struct Cluster<C: Cell + Drop> {
+    table: DomainTable,
+    cells: Vec<C>,
+}
+
+impl<C: Cell + Drop> Model for Cluster<C> {
+    ghost use Rattle.std.specs.Prelude.{map};
+    ghost use Rattle.ndc_cluster.specs.Clusters.{ClusterValue};
+
+    ghost Value = { ClusterValue };
+
+    ghost view = { λ cluster. record { table = cluster.table; cells = map C.cell cluster.cells.items } };
+}
+
+impl<C: Cell + Drop> Drop for Cluster<C> {
+    fn drop(self) {
+        let Cluster {
+            table: _table,
+            cells: _cells,
+        } = self;
+    }
+}
+
+/// So many cells in which nothing has happened.
+fn empty_cells<C: Cell + Drop>(
+    alloc: Global,
+    home: &Home,
+    shards: u32,
+) -> Result<Vec<C>, AllocError>
+    ensures { IfOk result (λ cells. map C.cell cells.items ≡ replicate shards empty_cell) }
+{
+    let mut cells = Vec::new(alloc);
+    while cells.len() < shards as usize {
+        cells.push(C::new(alloc, home)?)?;
+    }
+    Ok(cells)
+}
+
+impl<C: Cell + Drop> Cluster<C> {
+    ghost use Rattle.std.specs.Borrow.{sem};
+    ghost use Rattle.std.specs.Prelude.{◌≡◌, ◌<◌, length, map, IfOk, OnOk};
+    ghost use Rattle.std.specs.List.{AllByRecursion};
+    ghost use Rattle.ndc_cluster.specs.Clusters.{new_cluster, with_cells};
+    ghost use Rattle.ndc_cluster.specs.Lending.{LendsRecords};
+    ghost use Rattle.ndc_cluster_rounds.specs.Homes.{desk_of};
+    ghost use Rattle.ndc_model_cells.specs.Conditions.{AreAllowed};
+    ghost use Rattle.ndc_model_cells.specs.Jobs.{cell_for, cells_after, replies_to};
+
+    /// A cluster without a record, of so many cells in which nothing has happened.
+    pub fn new(alloc: Global, home: &Home, shards: u32) -> Result<Cluster<C>, AllocError>
+        ensures { IfOk result (λ cluster. cluster ≡ new_cluster shards) }
+    {
+        let cells = empty_cells(alloc, home, shards)?;
+        Ok(Cluster {
+            table: DomainTable::new(alloc),
+            cells,
+        })
+    }
+
+    /// Its domain records, to change them. When the loan ends, they stay as they were left. Takes no memory.
+    pub fn table(&mut self) -> &mut DomainTable
+        ensures* writes_back { sem 𝓛 (LendsRecords C.row C.Cell self.entry result) }
+        ensures records { result.now ≡ self.old.table }
+    {
+        &mut self.table
+    }
+
+    /// Its domain records, to be read. Takes no memory.
+    pub fn records(&self) -> &DomainTable
+        ensures { result.now ≡ self.now.table }
+    {
+        &self.table
+    }
+
+    /// Its cells, by shard. Takes no memory.
+    pub fn cells(&self) -> &[C]
+        ensures { map C.cell result.now ≡ self.now.cells }
+    {
+        self.cells.as_slice()
+    }
+
+    /// Its cell for a shard. Takes no memory.
+    pub fn shard(&self, shard: u32) -> &C
+        requires { shard < length self.now.cells }
+        ensures { C.cell result.now ≡ cell_for shard self.now.cells }
+    {
+        &self.cells()[shard as usize]
+    }
+
+    /// Its cells do jobs side by side, on so many workers at most, 1 to 64, each worker on neighbouring cells. Each worker
+    /// first enters the gate with its number, counted from 0. The cells and the replies, in the order of the jobs, are those of
+    /// the jobs done one after the other. The shard of each job is that of a cell, and each job may be done by the cell that
+    /// the jobs before it leave. After want of memory there are no cells.
+    pub fn round<R: Threads + Sync, G: Gate>(
+        &mut self,
+        rt: &R,
+        alloc: Global,
+        gate: &G,
+        workers: u32,
+        home: &Home,
+        jobs: &[ShardJob],
+    ) -> Result<Vec<JobReply>, AllocError>
+    where
+        C: Send,
+        requires workers { 0 < workers }
+        requires shards { AllByRecursion (λ asked. asked.shard < length self.old.cells) jobs.now }
+        requires allowed { AreAllowed C.allows (desk_of home.now self.old.table) jobs.now self.old.cells }
+        ensures cells { OnOk result (self.new ≡ with_cells (cells_after (desk_of home.now self.old.table) jobs.now self.old.cells) self.old) }
+        ensures replies { IfOk result (λ replies. replies.items ≡ replies_to (desk_of home.now self.old.table) jobs.now self.old.cells) }
+    {
+        let cells = mem::replace(&mut self.cells, Vec::new(alloc));
+        let desk = Desk::new(home.clusters, home.me, home.limit, &self.table);
+        let rounded = round(rt, alloc, gate, workers, &desk, cells, jobs)?;
+        self.cells = rounded.cells;
+        Ok(rounded.replies)
+    }
+}

@@ -1,0 +1,153 @@
+ghost use Rattle.std.specs.Prelude.{◌≡◌, map, IfOk};
+ghost use Rattle.ndc_event.specs.Outcome.{Gives};
+ghost use Rattle.ndc_shard.specs.Answers.{keys_of, names_of};
+ghost use Rattle.ndc_shard.specs.declared.error.ShardError.TheVariants.{Memory};
+
+use crate::error::ShardError;
+use crate::shard::Shard;
+use ndc_cluster_rounds::{Desk, Home};
+use ndc_command::{Command, Refusal};
+use ndc_domain::DomainTable;
+use ndc_event::{Batch, BatchKey, Name};
+use ndc_model_cells::{Arrived, Message, Written};
+use ndc_state::Steps;
+use std::alloc::{AllocError, Global};
+
+/// The keys of batches that were written: there is one, or there are two.
+fn keys_of(batches: &[Batch]) -> Result<Written, ShardError>
+    ensures { result ≡ keys_of batches.now }
+{
+    match batches {
+        [] => Err(ShardError::Memory),
+        [batch] => Ok(Written {
+            key: batch.key,
+            second: None,
+        }),
+        [batch, second, ..] => Ok(Written {
+            key: batch.key,
+            second: Some(second.key),
+        }),
+    }
+}
+
+/// Where batches stand, in order: the domain, the workflow and the key of each.
+fn places_of(alloc: Global, batches: &[Batch]) -> Result<Vec<(Name, Name, BatchKey)>, AllocError>
+    ensures { IfOk result (λ places. places.items ≡ map names_of batches.now) }
+{
+    let mut places = Vec::with_capacity(alloc, batches.len())?;
+    for batch in batches {
+        let domain = batch.domain.try_copy()?;
+        let workflow = batch.workflow.try_copy()?;
+        places.push((domain, workflow, batch.key))?;
+    }
+    Ok(places)
+}
+
+impl Shard {
+    ghost use Rattle.std.specs.Prelude.{◌≡◌, ◌≢◌, map, IfOk, IfErr, OnOk, OnErr};
+    ghost use Rattle.ndc_cluster_rounds.specs.Homes.{desk_of};
+    ghost use Rattle.ndc_event.specs.Outcome.{Gives};
+    ghost use Rattle.ndc_model_cells.specs.Allowed.{MayArrive, MayBeAsked, MayReapply};
+    ghost use Rattle.ndc_model_cells.specs.Arrival.{arrival_of, arrived_at};
+    ghost use Rattle.ndc_model_cells.specs.Jobs.{reapplied_in, reapplied_now, workflows_of, written_at};
+    ghost use Rattle.ndc_model_cells.specs.Writing.{command_of, reset_at};
+    ghost use Rattle.ndc_shard.specs.Answers.{answer_of, may_go_on, names_of};
+    ghost use Rattle.ndc_shard.specs.declared.error.ShardError.TheVariants.{Memory};
+
+    /// The version with which the shard may write to a workflow that has begun: that of its cluster's record of the domain.
+    /// Takes no memory. Refused with the first of these that holds: [`Refusal::UnknownDomain`] where there is no record,
+    /// [`Refusal::NotActive`] with the version where another cluster writes with it, or none does, [`Refusal::Behind`] with
+    /// the greatest learned version where that is above it, and [`Refusal::NoWorkflow`] where no run of the workflow is
+    /// learned.
+    pub fn may_write(
+        &self,
+        home: &Home,
+        table: &DomainTable,
+        domain: &Name,
+        workflow: &Name,
+    ) -> Result<u64, Refusal>
+        ensures { result ≡ may_go_on (desk_of home.now table.now) domain.now workflow.now self.now }
+    {
+        let desk = Desk::new(home.clusters, home.me, home.limit, table);
+        let version = self.version_for(&desk, domain, workflow)?;
+        let begun = self.runs(domain, workflow).and_then(|runs| runs.tip());
+        match begun {
+            Some(_) => Ok(version),
+            None => Err(Refusal::NoWorkflow),
+        }
+    }
+
+    /// A command to a workflow: the keys of what it writes, or its refusal, the first that holds. Where it is refused, and for
+    /// want of memory, the shard stays as it was.
+    pub fn command<L>(
+        &mut self,
+        home: &Home,
+        table: &DomainTable,
+        domain: &Name,
+        workflow: &Name,
+        command: &Command,
+        steps: &mut Steps<L>,
+    ) -> Result<Written, ShardError>
+        requires { MayBeAsked (desk_of home.now table.now) domain.now workflow.now (command_of (desk_of home.now table.now) domain.now workflow.now command.now self.old) self.old }
+        ensures written { Gives Memory (λ written. written) result (answer_of (command_of (desk_of home.now table.now) domain.now workflow.now command.now self.old)) }
+        ensures cell { OnOk result (self.new ≡ written_at (command_of (desk_of home.now table.now) domain.now workflow.now command.now self.old) self.old) }
+        ensures unchanged { OnErr result (self.new ≡ self.old) }
+    {
+        let desk = Desk::new(home.clusters, home.me, home.limit, table);
+        let batches = self.write_command(&desk, domain, workflow, command, steps)?;
+        keys_of(batches.as_slice())
+    }
+
+    /// A new run repeats the current one of a workflow up to an event, counted from 1: the key of the first batch that is
+    /// written, and of the other one, where an open run is closed first; or the refusal, the first that holds, which leaves
+    /// the shard as it was. After want of memory nothing is said of the shard.
+    pub fn reset<L>(
+        &mut self,
+        home: &Home,
+        table: &DomainTable,
+        domain: &Name,
+        workflow: &Name,
+        event: u64,
+        steps: &mut Steps<L>,
+    ) -> Result<Written, ShardError>
+        requires { MayBeAsked (desk_of home.now table.now) domain.now workflow.now (reset_at (desk_of home.now table.now) domain.now workflow.now event self.old) self.old }
+        ensures written { Gives Memory (λ written. written) result (answer_of (reset_at (desk_of home.now table.now) domain.now workflow.now event self.old)) }
+        ensures cell { OnOk result (self.new ≡ written_at (reset_at (desk_of home.now table.now) domain.now workflow.now event self.old) self.old) }
+        ensures refused { IfErr result (λ error. error ≢ Memory → self.new ≡ self.old) }
+    {
+        let desk = Desk::new(home.clusters, home.me, home.limit, table);
+        let batches = self.write_reset(&desk, domain, workflow, event, steps)?;
+        keys_of(batches.as_slice())
+    }
+
+    /// A message arrives: what comes of it. After want of memory the shard is spent: nothing is said of it.
+    pub fn arrive<L>(
+        &mut self,
+        message: &Message,
+        steps: &mut Steps<L>,
+    ) -> Result<Arrived, AllocError>
+        requires { MayArrive message.now self.old }
+        ensures arrived { IfOk result (λ arrived. arrived ≡ arrival_of message.now self.old) }
+        ensures cell { OnOk result (self.new ≡ arrived_at message.now self.old) }
+    {
+        let arrival = self.take_in(message.try_copy()?, steps)?;
+        Ok(arrival.outcome)
+    }
+
+    /// Strays are applied again in each workflow, in order, where the shard may write to it and its current run is open: where
+    /// the batches stand that are written, in order. After want of memory nothing is said of the shard.
+    pub fn reapply<L>(
+        &mut self,
+        home: &Home,
+        table: &DomainTable,
+        steps: &mut Steps<L>,
+    ) -> Result<Vec<(Name, Name, BatchKey)>, AllocError>
+        requires { MayReapply (desk_of home.now table.now) (workflows_of self.old.arrived) self.old }
+        ensures cell { OnOk result (self.new ≡ reapplied_in (desk_of home.now table.now) (workflows_of self.old.arrived) self.old) }
+        ensures places { IfOk result (λ places. places.items ≡ map names_of (reapplied_now (desk_of home.now table.now) (workflows_of self.old.arrived) self.old)) }
+    {
+        let desk = Desk::new(home.clusters, home.me, home.limit, table);
+        let batches = self.apply_again(&desk, steps)?;
+        places_of(self.alloc(), batches.as_slice())
+    }
+}

@@ -1,0 +1,83 @@
+use crate::jobs::do_job;
+use crate::lacking::lacking_in;
+use crate::shard::Shard;
+use ndc_cluster_reads::{Lacking, Reads};
+use ndc_cluster_rounds::{Cell, Desk, Home};
+use ndc_event::{BatchKey, Name};
+use ndc_model_cells::{Job, JobReply, Message, Place};
+use ndc_shard_runs::Runs;
+use ndc_shard_workflows::messages_of;
+use std::alloc::{AllocError, Global};
+
+impl Cell for Shard {
+    ghost use Rattle.ndc_model_cells.specs.Allowed.{IsAllowed};
+
+    ghost cell = { λ shard. shard };
+
+    ghost allows = { IsAllowed };
+
+    ghost may = { λ desk asked at given. given };
+
+    fn new(alloc: Global, home: &Home) -> Result<Shard, AllocError> {
+        Shard::new(alloc, home)
+    }
+
+    fn do_job(&mut self, desk: &Desk, job: &Job) -> Result<JobReply, AllocError> {
+        do_job(self, desk, job)
+    }
+
+    fn has_learned(&self, domain: &Name, workflow: &Name, key: BatchKey) -> bool {
+        Shard::has_learned(self, domain, workflow, key)
+    }
+
+    fn written_len(&self) -> u64 {
+        Shard::written_len(self) as u64
+    }
+
+    fn written_at(&self, place: u64) -> Result<Message, AllocError> {
+        Shard::written_at(self, place as usize)
+    }
+
+    fn learned_of(&self, alloc: Global, domains: &[Name]) -> Result<Vec<Message>, AllocError> {
+        messages_of(alloc, self.held(), domains)
+    }
+}
+
+impl Reads for Shard {
+    fn runs(&self, domain: &Name, workflow: &Name) -> Option<&Runs> {
+        Shard::runs(self, domain, workflow)
+    }
+
+    fn has_arrived(&self, domain: &Name, workflow: &Name, key: BatchKey) -> bool {
+        match self.held().find(domain, workflow) {
+            Some(found) => found.has_arrived(key),
+            None => false,
+        }
+    }
+
+    fn behind(&self, alloc: Global) -> Result<Vec<Place>, AllocError> {
+        self.held().behind(alloc)
+    }
+
+    fn put_off(
+        &self,
+        alloc: Global,
+        domain: &Name,
+        workflow: &Name,
+    ) -> Result<Vec<Lacking>, AllocError> {
+        match self.held().find(domain, workflow) {
+            Some(found) => lacking_in(alloc, found),
+            None => Ok(Vec::new(alloc)),
+        }
+    }
+
+    fn message_at(
+        &self,
+        _alloc: Global,
+        domain: &Name,
+        workflow: &Name,
+        key: BatchKey,
+    ) -> Result<Option<Message>, AllocError> {
+        Shard::message(self, domain, workflow, key)
+    }
+}
