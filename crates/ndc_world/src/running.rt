@@ -124,11 +124,15 @@ fn run_other<R: Threads + Sync, G: Gate, C: Reads + Drop + Send>(
     match &line.act {
         Act::Burst { cluster, jobs } => {
             let jobs = jobs.as_slice();
-            run_burst(network, rt, alloc, gate, workers, header, lines, *cluster, jobs)
+            run_burst(
+                network, rt, alloc, gate, workers, header, lines, *cluster, jobs,
+            )
         }
         asked => {
             let number = line.number;
-            run_one(network, rt, alloc, gate, workers, header, lines, number, asked)
+            run_one(
+                network, rt, alloc, gate, workers, header, lines, number, asked,
+            )
         }
     }
 }

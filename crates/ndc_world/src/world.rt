@@ -149,8 +149,14 @@ impl<'a, C: Reads + Drop> World<'a, C> {
         ensures spent { OnErr result (self.new.spent ≡ true) }
     {
         self.spent = true;
-        let Telling { tally, seen } =
-            settlement(&mut self.network, rt, alloc, gate, workers, self.header)?;
+        let Telling { tally, seen } = settlement(
+            &mut self.network,
+            rt,
+            alloc,
+            gate,
+            workers,
+            self.header,
+        )?;
         self.lines += 1;
         self.spent = false;
         Ok(Settled {

@@ -6,7 +6,6 @@ use Rattle.std.proofs.lemmas.Grind.{flat_map-append}
 use Rattle.std.proofs.lemmas.List.{append_assoc, append-nil, at_drop_all, at_drop_more, length-append}
 use Rattle.ndc_script_types.specs.Print.{body_lines, header_lines}
 use Rattle.ndc_script_types.specs.WellFormed.{IsWellFormed, IsWellFormedAct}
-use Rattle.ndc_script_types.specs.declared.script.Act.TheVariants as act
 use Rattle.ndc_script_types.specs.declared.script.Header.{Header}
 use Rattle.ndc_script_types.specs.declared.script.Line.{Line}
 use Rattle.ndc_script_types.specs.declared.script.Script.{Script}

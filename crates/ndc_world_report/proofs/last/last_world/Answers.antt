@@ -1,5 +1,4 @@
-use Rattle.std.proofs.Common.{◌<◌, ◌≤◌, ◌+◌, ◌≡◌, ◌∙◌, ap, length, arith, refl, subst}
-use Rattle.ndc_laws_jobs.specs.Standing.{StandFor}
+use Rattle.std.proofs.Common.{◌<◌, ◌≤◌, ◌+◌, ◌∙◌, ap, length, arith, refl}
 use Rattle.ndc_model.specs.Lines.{world_behind}
 use Rattle.ndc_model.specs.World.{opening_world}
 use Rattle.ndc_world_report.specs.Left.{at_world}

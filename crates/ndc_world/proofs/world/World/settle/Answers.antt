@@ -1,8 +1,6 @@
 use Rattle.std.proofs.Common.{◌<◌, ◌+◌, false, ap, refl, subst, sym, ◌∙◌}
-use Rattle.ndc_model.specs.World.{World}
-use Rattle.ndc_laws_jobs.specs.Standing.{StandFor}
 use Rattle.ndc_world_answers.specs.declared.tally.Tally.{Tally}
-use Rattle.ndc_world.specs.Standing.{IsBehindSettlement, IsSettledBy, WorldValue}
+use Rattle.ndc_world.specs.Standing.{IsSettledBy, WorldValue}
 use Rattle.ndc_world.proofs.ReachedLemmas.{orderly}
 use Rattle.ndc_world.proofs.RunLemmas.{may_settle}
 use Rattle.ndc_world.proofs.StandingLemmas.{behind_settlement, clusters_reached, unspent_settled}

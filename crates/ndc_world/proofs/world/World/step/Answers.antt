@@ -14,7 +14,7 @@ overflow_add-self-3 g c =
     let is = c.self.invariant (ap (λ (v : WorldValue). v.spent) c.self.view_is ∙ c.requires.unspent) in
     let room = subst (λ (v : WorldValue). v.lines + length (lines_of_act c.args.line.now.number c.args.line.now.act) ≤ 100000) (sym c.self.view_is) c.requires.lines in
     let fits : own.refused + c.in_ok-answer.refused ≤ 100000 =
-        refused_fit own is c.args.line.now room c.run_line.new.network c.run_line.new.reports.items c.in_ok-answer.answer.text.items c.in_ok-answer.answer.seen.items c.in_ok-answer.refused c.in_ok-answer.ensures in
+    refused_fit own is c.args.line.now room c.run_line.new.network c.run_line.new.reports.items c.in_ok-answer.answer.text.items c.in_ok-answer.answer.seen.items c.in_ok-answer.refused c.in_ok-answer.ensures in
     omega (arith, fits)
 
 pub invariant_of-self-2 : goal.invariant_of-self-2
