@@ -2,10 +2,11 @@
 use Rattle.std.proofs.Common.{◌≡◌, ℕ, List, inl, inr, Option, sym, subst}
 use Rattle.ndc_port.specs.Bytes.{AppendsFront}
 use Rattle.ndc_port.proofs.Steps.{Sent_start, Sent_stop}
+use Rattle.ndc_dump_faults.specs.Telling.{Streams}
 use Rattle.ndc_explain.specs.declared.fault.Fault.{Fault}
 use Rattle.ndc_explain.specs.declared.fault.Fault.TheVariants as fault
 use Rattle.ndc_explain.specs.declared.asked.Request.{Request}
-use Rattle.ndc_explain.specs.Top.{DumpFault, ExplainFault, ExplainsFront, Streams}
+use Rattle.ndc_explain.specs.Top.{DumpFault, ExplainFault, ExplainsFront}
 
 -- where nothing was written, a front of any text was
 pub nothing_written : (before after : Option (List ℕ)) (text : List ℕ) → after ≡ before → AppendsFront before after text

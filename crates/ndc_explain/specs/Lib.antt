@@ -12,5 +12,4 @@ pub mod Picture
 pub mod Graph
 pub mod Asked
 pub mod Told
-pub mod Faulty
 pub mod Top

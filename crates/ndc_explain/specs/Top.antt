@@ -1,21 +1,16 @@
 -- The program as a whole: what it writes, the faults that end it, and what it tells of them.
-use Rattle.std.specs.Prelude.{◌≡◌, ◌⊎◌, ℕ, ◌==◌, ◌<◌, ◌≤◌, Bool, ⊤, true, List, [], length, codes, Option, Some, None, Err, IsOkAnd, IfSome, if◌then◌else◌}
-use Rattle.std.specs.List.{list_any}
+use Rattle.std.specs.Prelude.{◌≡◌, ◌⊎◌, ℕ, ◌==◌, ◌<◌, ◌≤◌, Bool, ⊤, List, [], length, codes, Option, Some, None, Err, IsOkAnd, IfSome, if◌then◌else◌}
 use Rattle.ndc_port.specs.Bytes.{Appends, AppendsFront}
 use Rattle.ndc_port.specs.Fault.{Rose}
 use Rattle.ndc_dump.specs.Read.{dump_of}
-use Rattle.ndc_dump_causes.specs.declared.error.DumpError.{DumpError}
 use Rattle.ndc_dump_causes.specs.declared.error.DumpError.TheVariants as error
+use Rattle.ndc_dump_faults.specs.Faults.{dump_batch_line, dump_line}
+use Rattle.ndc_dump_faults.specs.Telling.{Streams, most_bytes}
 use Rattle.ndc_explain.specs.Explanation.{findings, leaves_any}
-use Rattle.ndc_explain.specs.Faulty.{dump_batch_line, dump_line}
 use Rattle.ndc_explain.specs.Told.{told_of}
 use Rattle.ndc_explain.specs.declared.asked.Request.{Request}
 use Rattle.ndc_explain.specs.declared.fault.Fault.{Fault}
 use Rattle.ndc_explain.specs.declared.fault.Fault.TheVariants as fault
-
--- how many bytes the input may have
-abbrev pub most_bytes : ℕ
-most_bytes = 16777216
 
 -- the status that the program ends with after a fault
 abbrev pub status_of : Fault → ℕ
@@ -37,11 +32,6 @@ fault_line fault.Write = codes "ndc: write fault\n"
 fault_line fault.Limit = codes "ndc: input limit\n"
 fault_line fault.Memory = codes "ndc: out of memory\n"
 
--- the bytes were written whole, or a front of them, and then the count of faults rose
-abbrev pub Tells : Option (List ℕ) → Option (List ℕ) → ℕ → ℕ → List ℕ → Type 0
-Tells before after faults_before faults_after bytes =
-    Appends before after bytes ⊎ (AppendsFront before after bytes × Rose faults_before faults_after)
-
 -- the line for a status that needs no more than a constant line
 abbrev pub status_line : ℕ → Option (List ℕ)
 status_line status =
@@ -51,10 +41,6 @@ status_line status =
     else if status == 6 then Some (fault_line fault.Limit)
     else if status == 8 then Some (fault_line fault.Memory)
     else None
-
--- the status is one of these
-abbrev pub IsAmong : ℕ → List ℕ → Type 0
-IsAmong status statuses = list_any (λ one. one == status) statuses ≡ true
 
 -- the status that says whether a dump leaves something given up or waiting
 abbrev pub told_status : Bool → ℕ
@@ -73,13 +59,6 @@ StopsExplaining request left before after =
 -- nothing was written, or a dump was read and a front of what is told of it was written
 abbrev pub ExplainsFront : Request → Option (List ℕ) → Option (List ℕ) → Option (List ℕ) → Type 0
 ExplainsFront request left before after = (after ≡ before) ⊎ StopsExplaining request left before after
-
--- what was there, and what is there, as a call saw it: the bytes left in the source, its faults, what out has, and its faults
-pub record Streams : Type 0 where
-  pub left : Option (List ℕ)
-  pub source_faults : ℕ
-  pub written : Option (List ℕ)
-  pub out_faults : ℕ
 
 -- why reading a dump ends with a fault
 abbrev pub DumpFault : Option (List ℕ) → ℕ → ℕ → Fault → Type 0
@@ -102,9 +81,3 @@ ExplainFault request old new fault.Read = Rose old.source_faults new.source_faul
 ExplainFault request old new fault.Write = Rose old.out_faults new.out_faults × StopsExplaining request old.left old.written new.written
 ExplainFault request old new fault.Limit = IfSome old.left (λ bytes. most_bytes < length bytes) × (new.written ≡ old.written)
 ExplainFault request old new fault.Memory = new.written ≡ old.written
-
--- the line on a faulty dump was written, or a front of it and a fault came
-abbrev pub TellsDumpError : Option (List ℕ) → Option (List ℕ) → ℕ → ℕ → DumpError → Type 0
-TellsDumpError before after faults_before faults_after (error.Line line cause) = Tells before after faults_before faults_after (dump_line line cause)
-TellsDumpError before after faults_before faults_after (error.Key key cause) = Tells before after faults_before faults_after (dump_batch_line key cause)
-TellsDumpError before after faults_before faults_after error.Memory = ⊥

@@ -1,11 +1,6 @@
 //! The faults that end the program, and the lines that tell of them.
-ghost use Rattle.std.specs.Prelude.{◌≡◌, ◌≤◌, map, OnOk, OnErr};
-ghost use Rattle.std.specs.List.{concat};
-ghost use Rattle.ndc_port.specs.Bytes.{Appends, AppendsFront};
-ghost use Rattle.ndc_port.specs.Fault.{Rose};
-
-use crate::faulty::{tell_batch, tell_line};
 use ndc_dump::{KeyCause, LineCause};
+use ndc_dump_faults::{tell_batch, tell_line};
 use ndc_event::BatchKey;
 use ndc_port::{Failed, Sink, write_all};
 
@@ -69,17 +64,4 @@ impl Fault {
             Fault::Memory => write_all(err, b"ndc: out of memory\n"),
         }
     }
-}
-
-/// Writes pieces of bytes one after the other.
-pub(crate) fn write_pieces<E: Sink>(err: &mut E, pieces: &[&[u8]]) -> Result<(), Failed>
-    ensures whole { OnOk result (Appends (E.written err.old) (E.written err.new) (concat (map (λ piece. piece.now) pieces.now))) }
-    ensures front { OnErr result (AppendsFront (E.written err.old) (E.written err.new) (concat (map (λ piece. piece.now) pieces.now))) }
-    ensures cause { OnErr result (Rose (E.faults err.old) (E.faults err.new)) }
-    ensures count { E.faults err.old ≤ E.faults err.new }
-{
-    for piece in pieces {
-        write_all(err, piece)?;
-    }
-    Ok(())
 }

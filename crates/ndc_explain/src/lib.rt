@@ -8,7 +8,6 @@ mod branches;
 mod columns;
 mod error;
 mod fault;
-mod faulty;
 mod graph;
 pub mod laws;
 mod layout;
@@ -24,5 +23,4 @@ mod told;
 mod top;
 mod writer;
 
-pub use told::{Explanation, draw, draw_tree, explain};
 pub use top::explain_top;

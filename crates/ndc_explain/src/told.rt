@@ -26,11 +26,11 @@ use std::marker::Model;
 
 /// What is told of a dump.
 #[derive(Drop)]
-pub struct Explanation {
+pub(crate) struct Explanation {
     /// Its text.
-    pub text: Vec<u8>,
+    pub(crate) text: Vec<u8>,
     /// Whether an event is given up or a signal waits.
-    pub leaves_any: bool,
+    pub(crate) leaves_any: bool,
 }
 
 /// What a view holds beside its runs.
@@ -200,7 +200,7 @@ fn push_findings(
 /// with what it waits for; and a line of counts.
 ///
 /// It takes time of the dump, of sorting its signals, and for each run of the events that are given up.
-pub fn explain(
+pub(crate) fn explain(
     alloc: Global,
     clusters: &Option<Clusters>,
     dump: &Dump,
@@ -230,7 +230,7 @@ pub fn explain(
 /// wide, the others dashed.
 ///
 /// It takes time of the dump.
-pub fn draw(
+pub(crate) fn draw(
     alloc: Global,
     clusters: &Option<Clusters>,
     dump: &Dump,
@@ -251,7 +251,7 @@ pub fn draw(
 /// goes on above it.
 ///
 /// It takes time of the dump, and for each block of the branches that go on beside it.
-pub fn draw_tree(
+pub(crate) fn draw_tree(
     alloc: Global,
     clusters: &Option<Clusters>,
     dump: &Dump,

@@ -4,10 +4,11 @@ ghost use Rattle.std.specs.String.{string_bytes};
 ghost use Rattle.ndc_port.specs.Bytes.{Appends, AppendsFront};
 ghost use Rattle.ndc_port.specs.Fault.{Rose};
 ghost use Rattle.ndc_dump.specs.Read.{dump_of};
+ghost use Rattle.ndc_dump_faults.specs.Telling.{IsAmong, Tells, TellsDumpError, most_bytes};
 ghost use Rattle.ndc_explain.specs.Asked.{asked_of};
 ghost use Rattle.ndc_explain.specs.Explanation.{findings, leaves_any};
 ghost use Rattle.ndc_explain.specs.Told.{told_of};
-ghost use Rattle.ndc_explain.specs.Top.{most_bytes, status_of, status_line, told_status, fault_line, IsAmong, Tells, TellsDumpError, Explains, ExplainsFront, DumpFault, ExplainFault};
+ghost use Rattle.ndc_explain.specs.Top.{status_of, status_line, told_status, fault_line, Explains, ExplainsFront, DumpFault, ExplainFault};
 ghost use Rattle.ndc_explain.specs.declared.error.WriteError.TheVariants as write;
 
 use crate::asked::{Request, asked_of};

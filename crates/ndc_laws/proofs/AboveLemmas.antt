@@ -43,11 +43,11 @@ abbrev pub HoldsOfWritten : (Batch → Type 0) → Cell → Type 0
 HoldsOfWritten P cell = AllByRecursion (λ sent. AllByRecursion P (both sent)) cell.written
 
 -- it holds of all batches of entries
-abbrev HoldsOfEntries : (Batch → Type 0) → List Entry → Type 0
+abbrev pub HoldsOfEntries : (Batch → Type 0) → List Entry → Type 0
 HoldsOfEntries P entries = AllByRecursion (λ entry. AllByRecursion P (batches_in entry)) entries
 
 -- it does, where there are entries
-abbrev HoldsWhereOk : (Batch → Type 0) → Result (List Entry) CommandError → Type 0
+abbrev pub HoldsWhereOk : (Batch → Type 0) → Result (List Entry) CommandError → Type 0
 HoldsWhereOk P (Ok entries) = HoldsOfEntries P entries
 HoldsWhereOk P (Err error) = Unit {0}
 
@@ -61,7 +61,7 @@ result-kept : (P : Batch → Type 0) (r : Result (List Entry) CommandError) (cel
 result-kept P (Ok entries) cell fit holds = entries-kept P entries cell fit holds
 result-kept P (Err error) cell fit holds = holds
 
-next-holds : {A : Type 0} (P : Batch → Type 0) (r : Result A CommandError) (f : A → Result (List Entry) CommandError) → ((x : A) → r ≡ Ok x → HoldsWhereOk P (f x)) → HoldsWhereOk P (r >>= f)
+pub next-holds : {A : Type 0} (P : Batch → Type 0) (r : Result A CommandError) (f : A → Result (List Entry) CommandError) → ((x : A) → r ≡ Ok x → HoldsWhereOk P (f x)) → HoldsWhereOk P (r >>= f)
 next-holds P (Ok x) f each = each x refl
 next-holds P (Err error) f each = tt
 

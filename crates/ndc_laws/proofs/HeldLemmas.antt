@@ -1,5 +1,5 @@
 -- Clusters that have the same reports hold the same.
-use Rattle.std.proofs.Common.{◌≡◌, ℕ, Bool, true, false, ◌&&◌, ◌||◌, ◌==◌, nat_lt, List, [], ◌∷◌, ◌++◌, ◌⊎◌, inl, inr, Option, Some, None, refl, sym, ◌∙◌, subst, ap, arith, true≢false, if◌then◌else◌}
+use Rattle.std.proofs.Common.{◌≡◌, ℕ, Bool, true, false, ◌&&◌, ◌||◌, ◌==◌, nat_lt, List, [], ◌∷◌, ◌⊎◌, inl, inr, Option, Some, None, refl, sym, ◌∙◌, subst, ap, arith, true≢false, if◌then◌else◌}
 use Rattle.std.proofs.lemmas.Bool.Decides.{nat_tests}
 use Rattle.ndc_script_types.specs.WellFormed.{IsCluster}
 use Rattle.ndc_script_types.specs.declared.script.Header.{Header}
@@ -13,7 +13,6 @@ use Rattle.ndc_progress.proofs.OrderLemmas.{not-before}
 use Rattle.ndc_progress.specs.Reports.{greater_report, held, report_lt, same_activity}
 use Rattle.ndc_progress.specs.declared.report.ActivityRef.{ActivityRef}
 use Rattle.ndc_progress.specs.declared.report.Report.{Report}
-use Rattle.ndc_model_sets.proofs.ForkLemmas.{among-cases, among-left, among-right}
 use Rattle.ndc_model_sets.proofs.Lists.{Among}
 
 -- the order of reports, by their numbers
@@ -93,14 +92,14 @@ held-alike activity one two agree there back = by (held-is activity one) (held-i
         e ∙ ap Some (agree r s is.among held_is.among is.own held_is.own (one-version r.version r.beat s.version s.beat right left) (one-beat r.version r.beat s.version s.beat right left)) ∙ sym f
 
 module _ (header : Header) (lines : ℕ) (w : World) (is : IsReached header lines w) where
-  abbrev reports-of : ClusterNo → List Report
+  abbrev pub reports-of : ClusterNo → List Report
   reports-of cluster = (cluster_at cluster w).reports
 
   -- a report of some cluster
-  abbrev IsTold : Report → Type 0
+  abbrev pub IsTold : Report → Type 0
   IsTold r = (cluster : ClusterNo) × IsCluster header cluster × Among r (reports-of cluster)
 
-  agree : (activity : ActivityRef) (x y : Report) → IsTold x → IsTold y → same_activity activity x.activity ≡ true → same_activity activity y.activity ≡ true → x.version ≡ y.version → x.beat ≡ y.beat → x ≡ y
+  pub agree : (activity : ActivityRef) (x y : Report) → IsTold x → IsTold y → same_activity activity x.activity ≡ true → same_activity activity y.activity ≡ true → x.version ≡ y.version → x.beat ≡ y.beat → x ≡ y
   agree activity x y (c, known, here) (d, other, there) own mine version beat =
       is.reports.one c d x y known other (among-is (reports-of c) x here) (among-is (reports-of d) y there) (sym (same_is_one activity x.activity own) ∙ same_is_one activity y.activity mine) version beat
 
@@ -108,60 +107,3 @@ module _ (header : Header) (lines : ℕ) (w : World) (is : IsReached header line
   same-held one two activity first second same =
       held-alike activity (reports-of one) (reports-of two) (λ x y h k. agree activity x y (one, first, h) (two, second, k))
       (λ x h. is-among (reports-of two) x (same.there x (among-is (reports-of one) x h))) (λ x h. is-among (reports-of one) x (same.back x (among-is (reports-of two) x h)))
-
-  -- a cluster and two others
-  module _ (own one two : ClusterNo) (activity : ActivityRef) (mine : IsCluster header own) (first : IsCluster header one) (second : IsCluster header two) where
-    told : (x : Report) → Among x (reports-of own ++ (reports-of one ++ reports-of two)) → IsTold x
-    told x h = by (among-cases x (reports-of own) (reports-of one ++ reports-of two) h)
-      where
-        others : Among x (reports-of one) ⊎ Among x (reports-of two) → IsTold x
-        others (inl k) = (one, first, k)
-        others (inr k) = (two, second, k)
-
-        by : Among x (reports-of own) ⊎ Among x (reports-of one ++ reports-of two) → IsTold x
-        by (inl k) = (own, mine, k)
-        by (inr k) = others (among-cases x (reports-of one) (reports-of two) k)
-
-  -- what is in a list and another one is in the other and the first
-  turned : (x : Report) (own one two : List Report) → Among x (own ++ (one ++ two)) → Among x (own ++ (two ++ one))
-  turned x own one two h = by (among-cases x own (one ++ two) h)
-    where
-      others : Among x one ⊎ Among x two → Among x (two ++ one)
-      others (inl k) = among-right x two one k
-      others (inr k) = among-left x two one k
-
-      by : Among x own ⊎ Among x (one ++ two) → Among x (own ++ (two ++ one))
-      by (inl k) = among-left x own (two ++ one) k
-      by (inr k) = among-right x own (two ++ one) (others (among-cases x one two k))
-
-  pub any-order : (own one two : ClusterNo) (activity : ActivityRef) → IsCluster header own → IsCluster header one → IsCluster header two
-      → held activity (reports-of own ++ (reports-of one ++ reports-of two)) ≡ held activity (reports-of own ++ (reports-of two ++ reports-of one))
-  any-order own one two activity mine first second =
-      held-alike activity (reports-of own ++ (reports-of one ++ reports-of two)) (reports-of own ++ (reports-of two ++ reports-of one))
-      (λ x y h k. agree activity x y (told own one two activity mine first second x h) (told own two one activity mine second first y k))
-      (λ x h. turned x (reports-of own) (reports-of one) (reports-of two) h) (λ x h. turned x (reports-of own) (reports-of two) (reports-of one) h)
-
-  pub any-number : (own one : ClusterNo) (activity : ActivityRef) → IsCluster header own → IsCluster header one
-      → held activity (reports-of own ++ (reports-of one ++ reports-of one)) ≡ held activity (reports-of own ++ reports-of one)
-  any-number own one activity mine first =
-      held-alike activity (reports-of own ++ (reports-of one ++ reports-of one)) (reports-of own ++ reports-of one)
-      (λ x y h k. agree activity x y (told own one one activity mine first first x h) (told own one one activity mine first first y (more y k)))
-      (λ x h. less x h) (λ x h. more x h)
-    where
-      more : (x : Report) → Among x (reports-of own ++ reports-of one) → Among x (reports-of own ++ (reports-of one ++ reports-of one))
-      more x h = by (among-cases x (reports-of own) (reports-of one) h)
-        where
-          by : Among x (reports-of own) ⊎ Among x (reports-of one) → Among x (reports-of own ++ (reports-of one ++ reports-of one))
-          by (inl k) = among-left x (reports-of own) (reports-of one ++ reports-of one) k
-          by (inr k) = among-right x (reports-of own) (reports-of one ++ reports-of one) (among-left x (reports-of one) (reports-of one) k)
-
-      less : (x : Report) → Among x (reports-of own ++ (reports-of one ++ reports-of one)) → Among x (reports-of own ++ reports-of one)
-      less x h = by (among-cases x (reports-of own) (reports-of one ++ reports-of one) h)
-        where
-          one-of : Among x (reports-of one) ⊎ Among x (reports-of one) → Among x (reports-of one)
-          one-of (inl k) = k
-          one-of (inr k) = k
-
-          by : Among x (reports-of own) ⊎ Among x (reports-of one ++ reports-of one) → Among x (reports-of own ++ reports-of one)
-          by (inl k) = among-left x (reports-of own) (reports-of one) k
-          by (inr k) = among-right x (reports-of own) (reports-of one) (one-of (among-cases x (reports-of one) (reports-of one) k))

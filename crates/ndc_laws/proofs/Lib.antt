@@ -20,3 +20,7 @@ pub mod SettleLemmas
 pub mod LineLemmas
 pub mod EndedLemmas
 pub mod ScriptLemmas
+pub mod EndLemmas
+pub mod SyncLemmas
+pub mod CountedLemmas
+pub mod FrontLemmas

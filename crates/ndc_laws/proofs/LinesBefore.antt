@@ -26,7 +26,7 @@ abbrev Fits : Header → Line → Type 0
 Fits header line = IsWellFormedAct header line.act
 
 -- the first lines, with each burst taken apart, are well-formed
-front-fits : (header : Header) (front back : List Line) → AllByRecursion (Fits header) (front ++ back) → AllByRecursion (Fits header) (plain_lines front)
+pub front-fits : (header : Header) (front back : List Line) → AllByRecursion (Fits header) (front ++ back) → AllByRecursion (Fits header) (plain_lines front)
 front-fits header [] back all = tt
 front-fits header (line ∷ front) back all = all-append (Fits header) (lines_of_act line.number line.act) (plain_lines front) (act-fits header line.number line.act all.0) (front-fits header front back all.1)
 

@@ -32,7 +32,7 @@ use Rattle.ndc_model.specs.World.{World, cell_of, cluster_at, home_at, opening_w
 use Rattle.ndc_model_sets.specs.Sets.{Has}
 
 -- lines behind others run in the world that these left
-after-both : (header : Header) (one two : List Line) (w : World) → world_after header (one ++ two) w ≡ world_after header two (world_after header one w)
+pub after-both : (header : Header) (one two : List Line) (w : World) → world_after header (one ++ two) w ≡ world_after header two (world_after header one w)
 after-both header [] two w = refl
 after-both header (line ∷ one) two w = after-both header one two (act_step header line.act w).world
 

@@ -1,2 +1,5 @@
 pub mod Promised
 pub mod Grown
+pub mod HandedOver
+pub mod TakenOver
+pub mod Counted

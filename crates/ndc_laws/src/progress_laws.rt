@@ -1,11 +1,12 @@
 // Progress reports, as laws.
 ghost use Rattle.std.specs.List.{AllByRecursion};
-ghost use Rattle.std.specs.Prelude.{◌≡◌, ℕ, ◌++◌};
-ghost use Rattle.ndc_script_types.specs.WellFormed.{IsCluster, IsWellFormed};
+ghost use Rattle.std.specs.Prelude.{◌≡◌, ℕ, List};
+ghost use Rattle.ndc_script_types.specs.WellFormed.{AreTwoClusters, IsCluster, IsWellFormed};
 ghost use Rattle.ndc_script_types.specs.declared.script.Header.{Header as Head};
 ghost use Rattle.ndc_script_types.specs.declared.script.Script.{Script as Whole};
 ghost use Rattle.ndc_domain.specs.declared.clusters.ClusterNo.{ClusterNo as Number};
 ghost use Rattle.ndc_laws.specs.Promised.{HaveTheSameReports};
+ghost use Rattle.ndc_laws.specs.TakenOver.{HaveTheSameClusters, synced};
 ghost use Rattle.ndc_model.specs.Facts.{IsReached, ReportsAgree};
 ghost use Rattle.ndc_model.specs.Lines.{worlds_of};
 ghost use Rattle.ndc_model.specs.World.{World, cluster_at};
@@ -24,11 +25,10 @@ pub fn clusters_with_the_same_reports_hold_the_same()
         → HaveTheSameReports one two w → held activity (cluster_at one w).reports ≡ held activity (cluster_at two w).reports }
 {}
 
-/// What a cluster holds behind taking over the reports of others does not depend on their order, nor on how often they are
-/// taken over.
+/// What a cluster holds behind taking over the reports of others, one after the other, does not depend on their order, nor
+/// on how often they are taken over.
 pub fn reports_are_taken_over_in_any_order()
-    ensures order { (header : Head) (lines : ℕ) (w : World) (own one two : Number) (activity : ActivityRef) → IsReached header lines w → IsCluster header own → IsCluster header one → IsCluster header two
-        → held activity ((cluster_at own w).reports ++ ((cluster_at one w).reports ++ (cluster_at two w).reports)) ≡ held activity ((cluster_at own w).reports ++ ((cluster_at two w).reports ++ (cluster_at one w).reports)) }
-    ensures number { (header : Head) (lines : ℕ) (w : World) (own one : Number) (activity : ActivityRef) → IsReached header lines w → IsCluster header own → IsCluster header one
-        → held activity ((cluster_at own w).reports ++ ((cluster_at one w).reports ++ (cluster_at one w).reports)) ≡ held activity ((cluster_at own w).reports ++ (cluster_at one w).reports) }
+    ensures { (header : Head) (lines : ℕ) (w : World) (to : Number) (one two : List Number) (activity : ActivityRef) → IsReached header lines w → IsCluster header to
+        → AllByRecursion (AreTwoClusters header to) one → AllByRecursion (AreTwoClusters header to) two → HaveTheSameClusters one two
+        → held activity (cluster_at to (synced header to one w)).reports ≡ held activity (cluster_at to (synced header to two w)).reports }
 {}

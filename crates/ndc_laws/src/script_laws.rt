@@ -7,6 +7,7 @@ ghost use Rattle.ndc_script_types.specs.declared.script.Header.{Header as Head};
 ghost use Rattle.ndc_script_types.specs.declared.script.Line.{Line as ScriptLine};
 ghost use Rattle.ndc_script_types.specs.declared.script.Script.{Script as Whole};
 ghost use Rattle.ndc_laws_reached.specs.Sometime.{IsReachedSometime};
+ghost use Rattle.ndc_laws.specs.Counted.{AreReachedFrom};
 ghost use Rattle.ndc_laws.specs.Promised.{IsAsPromised, RunsReached};
 ghost use Rattle.ndc_model.specs.Facts.{IsReached};
 ghost use Rattle.ndc_model.specs.Laws.{script_of};
@@ -23,6 +24,12 @@ pub fn every_line_keeps_worlds_reached()
 /// Every world of a well-formed script is as it should be behind some number of lines, at most 100,000.
 pub fn every_world_of_a_script_is_reached()
     ensures { (script : Whole) → IsWellFormed script → AllByRecursion (IsReachedSometime script.header) (worlds_of script) }
+{}
+
+/// The opening world of a well-formed script is as it should be behind no line, and the one behind each of its lines, with
+/// bursts taken apart, behind one line more than the one before.
+pub fn every_world_of_a_script_is_reached_behind_its_lines()
+    ensures { (script : Whole) → IsWellFormed script → AreReachedFrom script.header 0 (worlds_of script) }
 {}
 
 /// Each line of a well-formed script is well-formed, and runs in a world that is as it should be behind fewer than 100,000

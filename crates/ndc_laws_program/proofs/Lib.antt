@@ -1,6 +1,9 @@
 pub mod DumpLemmas
-mod GeneratedLemmas
+pub mod GeneratedLemmas
 mod KeepLemmas
+mod LinePromiseLemmas
 pub mod PromiseLemmas
 mod SameLemmas
 mod SettleLemmas
+mod ToldLemmas
+mod WorldPromiseLemmas

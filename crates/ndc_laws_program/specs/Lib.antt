@@ -1,3 +1,7 @@
+pub mod Arriving
 pub mod Dumps
+pub mod LinePromises
 pub mod Promises
 pub mod Shared
+pub mod Told
+pub mod WorldPromises

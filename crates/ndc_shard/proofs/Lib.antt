@@ -1,6 +1,5 @@
 pub mod QueueLemmas
 pub mod FoundLemmas
-pub mod HistoryLemmas
 pub mod MayLemmas
 pub mod AskedLemmas
 pub mod ReplyLemmas
@@ -8,3 +7,6 @@ pub mod ExampleLemmas
 pub mod RoomLemmas
 pub mod AgainLemmas
 pub mod ReadingLemmas
+pub mod StayLemmas
+pub mod SentLemmas
+pub mod LoneLemmas

@@ -2,3 +2,4 @@ pub mod Shards
 pub mod Worked
 pub mod Lacking
 pub mod Answers
+pub mod Sent

@@ -1,5 +1,6 @@
 -- Words for a shard.
-use Rattle.std.specs.Prelude.{List, [], ◌∷◌, Result, Ok, Err}
+use Rattle.std.specs.Prelude.{◌≡◌, List, [], ◌∷◌, None, Result, Ok, Err}
+use Rattle.std.specs.List.{AllByRecursion}
 use Rattle.ndc_model_cells.specs.declared.job.JobReply.{JobReply}
 use Rattle.ndc_model_cells.specs.declared.job.Outcome.TheVariants as outcome
 use Rattle.ndc_model_cells.specs.declared.message.Message.{Message}
@@ -32,6 +33,10 @@ abbrev pub AreWritable : List Entry → Cell → Type 0
 AreWritable [] cell = Unit {0}
 AreWritable (entry ∷ entries) cell =
     MayBeWritten (carrying entry.batch entry.second) (workflow_of entry.batch.domain entry.batch.workflow cell) × AreWritable entries (with_written entry cell)
+
+-- no batch of the entries is carried by another, but for what an entry carries itself
+abbrev pub AreLone : List Entry → Type 0
+AreLone entries = AllByRecursion (λ entry. entry.batch.carrier ≡ None) entries
 
 -- the batches of what was to be written, in the order of writing, or the refusal
 abbrev pub batches_written : Result (List Entry) CommandError → Result (List Batch) CommandError

@@ -1,13 +1,12 @@
-ghost use Rattle.std.specs.Prelude.{◌≡◌, ◌≤◌, ◌++◌, ◌^◌, Ok, OnOk};
-ghost use Rattle.ndc_model_cells.specs.Writing.{as_command_error, batches_in, command_entries, greatest_task};
-ghost use Rattle.ndc_command.specs.declared.refusal.CommandError.TheVariants.{Memory};
-ghost use Rattle.ndc_event.specs.Outcome.{Gives};
+ghost use Rattle.std.specs.Prelude.{◌≡◌, ◌++◌, IfOk, OnOk};
+ghost use Rattle.ndc_model_cells.specs.Places.{place_of};
+ghost use Rattle.ndc_model_cells.specs.Writing.{as_command_error, batches_in};
 
-use ndc_command::{Command, CommandError, Refusal};
-use ndc_event::{Batch, Name};
-use ndc_shard_entries::{Entry, command_entry};
-use ndc_shard_runs::Runs;
-use std::alloc::{AllocError, Global};
+use ndc_command::{CommandError, Refusal};
+use ndc_event::Batch;
+use ndc_model_cells::Place;
+use ndc_shard_entries::Entry;
+use std::alloc::AllocError;
 
 /// A refusal to write as that of a command.
 pub(crate) fn as_command_error(version: Result<u64, Refusal>) -> Result<u64, CommandError>
@@ -19,23 +18,15 @@ pub(crate) fn as_command_error(version: Result<u64, Refusal>) -> Result<u64, Com
     }
 }
 
-/// What a command writes with this version to a workflow, of which this is learned.
-pub(crate) fn command_entries(
-    alloc: Global,
-    domain: &Name,
-    workflow: &Name,
-    command: &Command,
-    limit: u64,
-    version: u64,
-    runs: &Runs,
-) -> Result<Vec<Entry>, CommandError>
-    requires { greatest_task runs.now ≤ 10 ^ 12 }
-    ensures { Gives Memory (λ entries. entries.items) result (command_entries domain.now workflow.now command.now limit version runs.now) }
+/// Where a batch stands in a cell.
+pub(crate) fn place_of(batch: &Batch) -> Result<Place, AllocError>
+    ensures { IfOk result (λ place. place ≡ place_of batch.now) }
 {
-    let entry = command_entry(alloc, domain, workflow, command, limit, version, runs)?;
-    let mut entries = Vec::with_capacity(alloc, 1)?;
-    entries.push(entry)?;
-    Ok(entries)
+    Ok(Place {
+        domain: batch.domain.try_copy()?,
+        workflow: batch.workflow.try_copy()?,
+        key: batch.key,
+    })
 }
 
 /// Appends copies of the batches of an entry.

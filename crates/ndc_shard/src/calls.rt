@@ -44,7 +44,7 @@ fn places_of(alloc: Global, batches: &[Batch]) -> Result<Vec<(Name, Name, BatchK
 }
 
 impl Shard {
-    ghost use Rattle.std.specs.Prelude.{◌≡◌, ◌≢◌, map, IfOk, IfErr, OnOk};
+    ghost use Rattle.std.specs.Prelude.{◌≡◌, ◌≢◌, map, IfOk, IfErr, OnOk, OnErr};
     ghost use Rattle.ndc_cluster_rounds.specs.Homes.{desk_of};
     ghost use Rattle.ndc_event.specs.Outcome.{Gives};
     ghost use Rattle.ndc_model_cells.specs.Allowed.{MayArrive, MayBeAsked, MayReapply};
@@ -77,8 +77,8 @@ impl Shard {
         }
     }
 
-    /// A command to a workflow: the keys of what it writes, or its refusal, the first that holds, which leaves the shard as it
-    /// was. After want of memory nothing is said of the shard.
+    /// A command to a workflow: the keys of what it writes, or its refusal, the first that holds. Where it is refused, and for
+    /// want of memory, the shard stays as it was.
     pub fn command<L>(
         &mut self,
         home: &Home,
@@ -91,7 +91,7 @@ impl Shard {
         requires { MayBeAsked (desk_of home.now table.now) domain.now workflow.now (command_of (desk_of home.now table.now) domain.now workflow.now command.now self.old) self.old }
         ensures written { Gives Memory (λ written. written) result (answer_of (command_of (desk_of home.now table.now) domain.now workflow.now command.now self.old)) }
         ensures cell { OnOk result (self.new ≡ written_at (command_of (desk_of home.now table.now) domain.now workflow.now command.now self.old) self.old) }
-        ensures refused { IfErr result (λ error. error ≢ Memory → self.new ≡ self.old) }
+        ensures unchanged { OnErr result (self.new ≡ self.old) }
     {
         let desk = Desk::new(home.clusters, home.me, home.limit, table);
         let batches = self.write_command(&desk, domain, workflow, command, steps)?;

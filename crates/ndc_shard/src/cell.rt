@@ -31,11 +31,11 @@ impl Cell for Shard {
     }
 
     fn written_len(&self) -> u64 {
-        self.written().len() as u64
+        Shard::written_len(self) as u64
     }
 
     fn written_at(&self, place: u64) -> Result<Message, AllocError> {
-        self.written()[place as usize].try_copy()
+        Shard::written_at(self, place as usize)
     }
 
     fn learned_of(&self, alloc: Global, domains: &[Name]) -> Result<Vec<Message>, AllocError> {

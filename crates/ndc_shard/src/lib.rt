@@ -9,7 +9,6 @@ mod jobs;
 mod lacking;
 mod shard;
 mod showing;
-mod writing;
 
 pub use error::ShardError;
 pub use ndc_cluster_rounds::Home;

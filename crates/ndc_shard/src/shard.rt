@@ -1,31 +1,36 @@
-use crate::asking::{as_command_error, command_entries, push_batches};
-use crate::writing::write_in;
+use crate::asking::{as_command_error, place_of, push_batches};
 use ndc_cluster_rounds::{Desk, Home};
 use ndc_command::{Command, CommandError, Refusal};
 use ndc_event::{Batch, Name};
-use ndc_model_cells::Message;
+use ndc_model_cells::{Message, Place};
 use ndc_model_sets::Batches;
-use ndc_shard_entries::{Entry, reapplication_entry, reset_entries, unless_behind, writes_to};
+use ndc_shard_entries::{
+    Entry, command_entry, reapplication_entry, reset_entries, unless_behind, writes_to,
+};
 use ndc_shard_runs::Runs;
-use ndc_shard_workflows::{Arrival, Workflows};
+use ndc_shard_workflows::{Arrival, Workflows, message_there};
 use ndc_state::Steps;
 use std::alloc::{AllocError, Global};
 use std::marker::Model;
 
-/// One shard of one cluster: its workflows, and all messages that it has written, in order. Seen as the cell.
+/// One shard of one cluster: its workflows, and where the batches stand that it has written and that none carries, in the
+/// order of writing. Seen as the cell, which has written their messages.
 pub struct Shard {
     alloc: Global,
     workflows: Workflows,
-    written: Vec<Message>,
+    places: Vec<Place>,
 }
 
 impl Model for Shard {
     ghost use Rattle.ndc_model_cells.specs.Cells.{Cell};
+    ghost use Rattle.ndc_shard.specs.Sent.{AreSent, messages_at};
     ghost use Rattle.ndc_shard.specs.Shards.{having_written};
 
     ghost Value = { Cell };
 
-    ghost view = { λ shard. having_written shard.written.items shard.workflows };
+    ghost view = { λ shard. having_written (messages_at shard.places.items shard.workflows) shard.workflows };
+
+    ghost invariant = { λ shard. AreSent shard.places.items shard.workflows };
 }
 
 impl Drop for Shard {
@@ -33,13 +38,13 @@ impl Drop for Shard {
         let Shard {
             alloc: _alloc,
             workflows: _workflows,
-            written: _written,
+            places: _places,
         } = self;
     }
 }
 
 impl Shard {
-    ghost use Rattle.std.specs.Prelude.{◌≡◌, ◌≢◌, ◌<◌, ◌++◌, [], length, option_to_list, slice_get, Some, IfSome, IfNone, IfOk, IfErr, OnOk};
+    ghost use Rattle.std.specs.Prelude.{◌≡◌, ◌≢◌, ◌<◌, ◌++◌, [], ◌∷◌, length, option_to_list, slice_get, None, Some, IfSome, IfNone, IfOk, IfErr, OnOk, OnErr};
     ghost use Rattle.ndc_model_cells.specs.Arrival.{arrival_of, arrived_at, learned_by};
     ghost use Rattle.ndc_model_cells.specs.Cells.{empty_cell, learned_of};
     ghost use Rattle.ndc_model_cells.specs.Jobs.{all_batches, reapplied_in, reapplied_now, workflows_of, written_at};
@@ -50,7 +55,7 @@ impl Shard {
     ghost use Rattle.ndc_model_sets.specs.Branches.{workflow_tip};
     ghost use Rattle.ndc_model_sets.specs.Current.{strays};
     ghost use Rattle.ndc_model_sets.specs.Learned.{has_key};
-    ghost use Rattle.ndc_shard.specs.Shards.{AreWritable, IsFit, batches_written, having_written};
+    ghost use Rattle.ndc_shard.specs.Shards.{AreLone, AreWritable, IsFit, batches_written, having_written};
     ghost use Rattle.ndc_model_cells.specs.Allowed.{HasRoom, MayArrive, MayBeAsked, MayReapply, MayWriteAll};
     ghost use Rattle.ndc_model_cells.specs.Messages.{carrying};
     ghost use Rattle.ndc_model_cells.specs.Workflow.{workflow_of};
@@ -64,7 +69,7 @@ impl Shard {
         Ok(Shard {
             alloc,
             workflows: Workflows::new(alloc),
-            written: Vec::new(alloc),
+            places: Vec::new(alloc),
         })
     }
 
@@ -80,11 +85,24 @@ impl Shard {
         &self.workflows
     }
 
-    /// All messages that it has written, in order.
-    pub(crate) fn written(&self) -> &[Message]
-        ensures { result.now ≡ self.now.written }
+    /// How many messages it has written.
+    pub(crate) fn written_len(&self) -> usize
+        ensures { result ≡ length self.now.written }
     {
-        self.written.as_slice()
+        self.places.len()
+    }
+
+    /// The message that it has written at a place, counted from 0 in the order of writing.
+    pub(crate) fn written_at(&self, place: usize) -> Result<Message, AllocError>
+        requires { place < length self.now.written }
+        ensures { IfOk result (λ sent. slice_get self.now.written place ≡ Some sent) }
+    {
+        let at = &self.places[place];
+        let found = message_there(self.alloc, &self.workflows, &at.domain, &at.workflow, at.key)?;
+        match found {
+            Some(message) => Ok(message),
+            None => unreachable!(),
+        }
     }
 
     /// What is learned of a workflow, with its states. There is none only where nothing is. What is
@@ -117,7 +135,7 @@ impl Shard {
         }
     }
 
-    /// A message arrives. After want of memory nothing is said of what has arrived.
+    /// A message arrives. After want of memory nothing has arrived or is written any more.
     pub(crate) fn take_in<L>(
         &mut self,
         message: Message,
@@ -128,23 +146,30 @@ impl Shard {
         ensures learned { IfOk result (λ arrival. arrival.learned ≡ learned_by message self.old) }
         ensures cell { OnOk result (self.new ≡ arrived_at message self.old) }
     {
-        let arrival = self.workflows.arrive(self.alloc, message, steps)?;
-        Ok(arrival)
+        self.workflows.is_in_order();
+        match self.workflows.arrive(self.alloc, message, steps) {
+            Ok(arrival) => Ok(arrival),
+            Err(error) => {
+                self.places.clear();
+                Err(error)
+            }
+        }
     }
 
-    /// Writes an entry: its batches are learned in their workflow, and its message goes last among those written. After
-    /// want of memory nothing is said of the cell.
-    fn write<L>(&mut self, entry: Entry, steps: &mut Steps<L>) -> Result<(), AllocError>
-        requires { MayBeWritten (carrying entry.batch entry.second) (workflow_of entry.batch.domain entry.batch.workflow self.old) }
-        ensures { OnOk result (self.new ≡ with_written entry self.old) }
+    /// Writes an entry: its batches are learned in their workflow, and its message goes last among those written. For want of
+    /// memory nothing changes.
+    fn write<L>(&mut self, entry: &Entry, steps: &mut Steps<L>) -> Result<(), AllocError>
+        requires may { MayBeWritten (carrying entry.now.batch entry.now.second) (workflow_of entry.now.batch.domain entry.now.batch.workflow self.old) }
+        requires lone { entry.now.batch.carrier ≡ None }
+        ensures ok { OnOk result (self.new ≡ with_written entry.now self.old) }
+        ensures err { OnErr result (self.new ≡ self.old) }
     {
-        write_in(
-            &mut self.workflows,
-            &mut self.written,
-            self.alloc,
-            entry,
-            steps,
-        )?;
+        self.workflows.is_in_order();
+        let place = place_of(entry.batch())?;
+        self.places.reserve(1)?;
+        self.workflows
+            .write(self.alloc, entry.batch(), entry.second(), steps)?;
+        self.places.push(place).unwrap();
         Ok(())
     }
 
@@ -154,39 +179,40 @@ impl Shard {
         entries: Vec<Entry>,
         steps: &mut Steps<L>,
     ) -> Result<Batches, AllocError>
-        requires { AreWritable entries.items self.old }
+        requires may { AreWritable entries.items self.old }
+        requires lone { AreLone entries.items }
         ensures cell { OnOk result (self.new ≡ with_all_written entries.items self.old) }
         ensures batches { IfOk result (λ batches. batches ≡ all_batches entries.items) }
     {
         let mut batches = Vec::new(self.alloc);
         for entry in entries {
             push_batches(&mut batches, &entry)?;
-            self.write(entry, steps)?;
+            self.write(&entry, steps)?;
         }
         Ok(Batches::new(batches))
     }
 
     /// What a command writes.
     #[tactic(auto, unfolding(ndc_model_cells::specs::Writing::command_of))]
-    fn command_entries(
+    fn command_entry(
         &self,
         desk: &Desk,
         domain: &Name,
         workflow: &Name,
         command: &Command,
-    ) -> Result<Vec<Entry>, CommandError>
+    ) -> Result<Entry, CommandError>
         requires { HasRoom (learned_of domain.now workflow.now self.now) }
-        ensures entries { Gives Memory (λ entries. entries.items) result (command_of desk.now domain.now workflow.now command.now self.now) }
+        ensures entries { Gives Memory (λ entry. entry ∷ []) result (command_of desk.now domain.now workflow.now command.now self.now) }
         ensures fit { IfOk result (λ _. IsFit domain.now workflow.now self.now) }
     {
         let version = as_command_error(self.version_for(desk, domain, workflow))?;
         let alloc = self.alloc;
         let limit = desk.limit();
         match self.runs(domain, workflow) {
-            Some(runs) => command_entries(alloc, domain, workflow, command, limit, version, runs),
+            Some(runs) => command_entry(alloc, domain, workflow, command, limit, version, runs),
             None => {
                 let none = Runs::new(alloc);
-                command_entries(alloc, domain, workflow, command, limit, version, &none)
+                command_entry(alloc, domain, workflow, command, limit, version, &none)
             }
         }
     }
@@ -216,8 +242,8 @@ impl Shard {
         }
     }
 
-    /// A command to a workflow: what it writes, in order, or its refusal, which leaves the cell as it was. After want of
-    /// memory nothing is said of the cell.
+    /// A command to a workflow: what it writes, in order, or its refusal. Where it is refused, and for want of memory, nothing
+    /// changes.
     pub(crate) fn write_command<L>(
         &mut self,
         desk: &Desk,
@@ -229,11 +255,13 @@ impl Shard {
         requires { MayBeAsked desk.now domain.now workflow.now (command_of desk.now domain.now workflow.now command.now self.old) self.old }
         ensures batches { Gives Memory (λ batches. batches) result (batches_written (command_of desk.now domain.now workflow.now command.now self.old)) }
         ensures cell { OnOk result (self.new ≡ written_at (command_of desk.now domain.now workflow.now command.now self.old) self.old) }
-        ensures refused { IfErr result (λ error. error ≢ Memory → self.new ≡ self.old) }
+        ensures unchanged { OnErr result (self.new ≡ self.old) }
     {
-        let entries = self.command_entries(desk, domain, workflow, command)?;
-        let batches = self.write_all(entries, steps)?;
-        Ok(batches)
+        let entry = self.command_entry(desk, domain, workflow, command)?;
+        let mut batches = Vec::new(self.alloc);
+        push_batches(&mut batches, &entry)?;
+        self.write(&entry, steps)?;
+        Ok(Batches::new(batches))
     }
 
     /// A new run repeats the current one of a workflow up to an event, counted from 1: what is written, in order, or the
@@ -328,7 +356,7 @@ impl Shard {
             return Ok(());
         };
         push_batches(batches, &entry)?;
-        self.write(entry, steps)
+        self.write(&entry, steps)
     }
 
     /// Strays are applied again in these workflows, in order.

@@ -10,7 +10,7 @@ use Rattle.ndc_tool_top.specs.Show.{ShowsFront}
 use Rattle.ndc_tool_top.specs.declared.show.ShownAs.{ShownAs}
 use Rattle.ndc_tool_top.specs.declared.show.ShownAs.TheVariants as shown
 
-if_run : (asked : Option Asked) (P : List Name → List Name → Type 0) → ((index late : List Name) → P index late) → IfRun asked P
+pub if_run : (asked : Option Asked) (P : List Name → List Name → Type 0) → ((index late : List Name) → P index late) → IfRun asked P
 if_run None P p = tt
 if_run (Some (Run workers index late)) P p = p index late
 if_run (Some Rebuild) P p = tt
@@ -18,7 +18,7 @@ if_run (Some Inspect) P p = tt
 if_run (Some (Make count seed)) P p = tt
 if_run (Some (Demo count)) P p = tt
 
-if_shown : (asked : Option Asked) (P : ShownAs → Type 0) → ((how : ShownAs) → P how) → IfShown asked P
+pub if_shown : (asked : Option Asked) (P : ShownAs → Type 0) → ((how : ShownAs) → P how) → IfShown asked P
 if_shown None P p = tt
 if_shown (Some (Run workers index late)) P p = tt
 if_shown (Some Rebuild) P p = p shown.Dump

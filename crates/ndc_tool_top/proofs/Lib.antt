@@ -1,5 +1,7 @@
 pub mod Endings
 pub mod ShowEndings
-pub mod Pieces
 pub mod AskingLemmas
 pub mod DemoLemmas
+pub mod FaultLemmas
+pub mod MadeLemmas
+pub mod ReadLemmas

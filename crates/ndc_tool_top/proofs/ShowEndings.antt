@@ -1,10 +1,10 @@
 -- What the fault that ends the showing of a dump says of what was written.
 use Rattle.std.proofs.Common.{◌≡◌, inl, inr}
+use Rattle.ndc_dump_faults.specs.Telling.{Streams}
 use Rattle.ndc_tool_top.specs.declared.fault.Fault.{Fault}
 use Rattle.ndc_tool_top.specs.declared.fault.Fault.TheVariants as fault
 use Rattle.ndc_tool_top.specs.declared.show.ShownAs.{ShownAs}
 use Rattle.ndc_tool_top.specs.Show.{ShowsFront, DumpFault, ShowFault}
-use Rattle.ndc_tool_top.specs.Top.{Streams}
 
 -- a fault of reading is one of showing, which has written nothing
 pub dump_fault : (how : ShownAs) (old new : Streams) (f : Fault) → new.written ≡ old.written → DumpFault old.left old.source_faults new.source_faults f → ShowFault how old new f

@@ -1,5 +1,5 @@
 -- What is shown of what becomes of a script.
-use Rattle.std.specs.Prelude.{ℕ, Bool, List, ◌++◌, codes, decimal, length, if◌then◌else◌}
+use Rattle.std.specs.Prelude.{◌≡◌, ℕ, Bool, List, ◌++◌, codes, decimal, length, if◌then◌else◌}
 use Rattle.ndc_script_types.specs.declared.script.Script.{Script}
 use Rattle.ndc_model.specs.Lines.{ran_of}
 use Rattle.ndc_world_report.specs.Counts.{last_world, refused_in}
@@ -19,3 +19,7 @@ summary_line answers refused summary =
 -- what is shown of what becomes of a script
 abbrev pub demo_text : Script → List ℕ
 demo_text script = summary_line (length (ran_of script)) (refused_in (ran_of script)) (summary_of script.header (last_world script))
+
+-- it ends by saying that all clusters are the same
+abbrev pub SaysSame : Script → Type 0
+SaysSame script = (front : List ℕ) × (demo_text script ≡ front ++ codes " same yes\n")

@@ -1,5 +1,4 @@
 pub mod Asking
-pub mod Faulty
 pub mod Top
 pub mod Running
 pub mod Show

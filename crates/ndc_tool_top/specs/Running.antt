@@ -1,5 +1,5 @@
 -- The run of a script: what is written, and why it ends with a fault.
-use Rattle.std.specs.Prelude.{◌≡◌, ◌⊎◌, ℕ, ◌<◌, ◌≤◌, ⊤, true, false, IsOkAnd, IfSome, length, Some, List, [], ◌++◌, Option, Err}
+use Rattle.std.specs.Prelude.{◌≡◌, ◌⊎◌, ℕ, ◌<◌, ◌≤◌, ⊤, false, IsOkAnd, IfSome, length, Some, List, [], ◌++◌, Option, Err}
 use Rattle.ndc_script_types.specs.declared.script.ScriptError.{ScriptError}
 use Rattle.ndc_script_types.specs.declared.script.ScriptError.TheVariants.{Refused, Memory}
 use Rattle.ndc_event.specs.declared.name.Name.{Name}
@@ -8,7 +8,8 @@ use Rattle.ndc_port.specs.Fault.{Rose}
 use Rattle.ndc_laws_program.specs.Promises.{KeepsPromises}
 use Rattle.ndc_script_read.specs.Body.{script_of}
 use Rattle.ndc_world_report.specs.Seats.{Reports, ReportsFront}
-use Rattle.ndc_tool_top.specs.Top.{Streams, Tells, most_bytes, script_line}
+use Rattle.ndc_dump_faults.specs.Telling.{most_bytes, Streams, Tells}
+use Rattle.ndc_tool_top.specs.Top.{script_line}
 use Rattle.ndc_tool_top.specs.declared.fault.Fault.{Fault}
 use Rattle.ndc_tool_top.specs.declared.fault.Fault.TheVariants as fault
 

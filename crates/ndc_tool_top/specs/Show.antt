@@ -3,12 +3,13 @@ use Rattle.std.specs.Prelude.{◌≡◌, ◌⊎◌, ℕ, ◌<◌, ◌≤◌, ⊤
 use Rattle.ndc_port.specs.Bytes.{Appends, AppendsFront}
 use Rattle.ndc_port.specs.Fault.{Rose}
 use Rattle.ndc_text.specs.Views.{dump_text, tree_text}
+use Rattle.ndc_text.specs.declared.form.TextForm.TheVariants as form
+use Rattle.ndc_dump.specs.Frame.{IsHeaded}
+use Rattle.ndc_dump.specs.Lines.{lines_of}
 use Rattle.ndc_dump.specs.Read.{dump_of}
 use Rattle.ndc_dump.specs.declared.dump.Dump.{Dump}
-use Rattle.ndc_dump_causes.specs.declared.error.DumpError.{DumpError}
 use Rattle.ndc_dump_causes.specs.declared.error.DumpError.TheVariants as error
-use Rattle.ndc_tool_top.specs.Faulty.{dump_line, dump_batch_line}
-use Rattle.ndc_tool_top.specs.Top.{Streams, Tells, most_bytes}
+use Rattle.ndc_dump_faults.specs.Telling.{Streams, most_bytes}
 use Rattle.ndc_tool_top.specs.declared.fault.Fault.{Fault}
 use Rattle.ndc_tool_top.specs.declared.fault.Fault.TheVariants as fault
 use Rattle.ndc_tool_top.specs.declared.show.ShownAs.{ShownAs}
@@ -33,6 +34,11 @@ StopsShowing how left before after =
 abbrev pub ShowsFront : ShownAs → Option (List ℕ) → Option (List ℕ) → Option (List ℕ) → Type 0
 ShowsFront how left before after = (after ≡ before) ⊎ StopsShowing how left before after
 
+-- where a dump is printed again, and its first line says the form with carriers, the bytes that were read were written
+abbrev pub PrintsAsRead : ShownAs → Option (List ℕ) → Option (List ℕ) → Option (List ℕ) → Type 0
+PrintsAsRead shown.Dump left before after = IfSome left (λ bytes. IsHeaded form.Two (lines_of bytes) → Appends before after bytes)
+PrintsAsRead shown.Tree left before after = ⊤
+
 -- why reading a dump ends with a fault
 abbrev pub DumpFault : Option (List ℕ) → ℕ → ℕ → Fault → Type 0
 DumpFault left before after fault.Words = ⊥
@@ -56,9 +62,3 @@ ShowFault how old new fault.Read = Rose old.source_faults new.source_faults × (
 ShowFault how old new fault.Write = Rose old.out_faults new.out_faults × StopsShowing how old.left old.written new.written
 ShowFault how old new fault.Limit = IfSome old.left (λ bytes. most_bytes < length bytes) × (new.written ≡ old.written)
 ShowFault how old new fault.Memory = new.written ≡ old.written
-
--- the line on a faulty dump was written, or a front of it and a fault came
-abbrev pub TellsDumpError : Option (List ℕ) → Option (List ℕ) → ℕ → ℕ → DumpError → Type 0
-TellsDumpError before after faults_before faults_after (error.Line line cause) = Tells before after faults_before faults_after (dump_line line cause)
-TellsDumpError before after faults_before faults_after (error.Key key cause) = Tells before after faults_before faults_after (dump_batch_line key cause)
-TellsDumpError before after faults_before faults_after error.Memory = ⊥

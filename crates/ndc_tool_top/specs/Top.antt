@@ -1,17 +1,14 @@
 -- The program as a whole: the faults that end it, and what it tells of them.
-use Rattle.std.specs.Prelude.{◌≡◌, ◌⊎◌, ℕ, Some, None, true, ◌==◌, List, [], ◌∷◌, Option, codes, decimal, if◌then◌else◌}
-use Rattle.std.specs.List.{concat, list_any}
-use Rattle.ndc_port.specs.Bytes.{Appends, AppendsFront}
-use Rattle.ndc_port.specs.Fault.{Rose}
+use Rattle.std.specs.Prelude.{◌≡◌, ℕ, ◌+◌, IfSome, Some, None, ◌==◌, drop, List, [], ◌∷◌, Option, codes, decimal, if◌then◌else◌}
+use Rattle.std.specs.List.{concat}
 use Rattle.ndc_script_types.specs.declared.script.ScriptCause.{ScriptCause}
 use Rattle.ndc_script_types.specs.declared.script.ScriptCause.TheVariants.{BadHeader, IncrementLimit, NoClusters, TooMany, SameName, SameInitial, NotBelowIncrement, BadLine, UnknownName, LineLimit}
-use Rattle.ndc_tool_top.specs.Faulty.{dump_line, dump_batch_line}
+use Rattle.ndc_dump_causes.specs.declared.error.DumpError.{DumpError}
+use Rattle.ndc_dump_faults.specs.Faults.{dump_batch_line, dump_line}
+use Rattle.ndc_dump_faults.specs.Telling.{IsAmong, Tells, TellsDumpError, most_bytes}
+use Rattle.ndc_port.specs.Bytes.{ConsumesAtMost}
 use Rattle.ndc_tool_top.specs.declared.fault.Fault.{Fault}
 use Rattle.ndc_tool_top.specs.declared.fault.Fault.TheVariants as fault
-
--- how many bytes the input may have
-abbrev pub most_bytes : ℕ
-most_bytes = 16777216
 
 -- how a cause of a faulty script is printed
 abbrev pub script_cause_name : ScriptCause → List ℕ
@@ -52,18 +49,6 @@ fault_line fault.Write = codes "ndc: write fault\n"
 fault_line fault.Limit = codes "ndc: input limit\n"
 fault_line fault.Memory = codes "ndc: out of memory\n"
 
--- the bytes were written whole, or a front of them, and then the count of faults rose
-abbrev pub Tells : Option (List ℕ) → Option (List ℕ) → ℕ → ℕ → List ℕ → Type 0
-Tells before after faults_before faults_after bytes =
-    Appends before after bytes ⊎ (AppendsFront before after bytes × Rose faults_before faults_after)
-
--- what was there, and what is there, as a call saw it: the bytes left in the source, its faults, what out has, and its faults
-pub record Streams : Type 0 where
-  pub left : Option (List ℕ)
-  pub source_faults : ℕ
-  pub written : Option (List ℕ)
-  pub out_faults : ℕ
-
 -- the line for a status that needs no more than a constant line
 abbrev pub status_line : ℕ → Option (List ℕ)
 status_line status =
@@ -74,6 +59,29 @@ status_line status =
     else if status == 8 then Some (fault_line fault.Memory)
     else None
 
--- the status is one of these
-abbrev pub IsAmong : ℕ → List ℕ → Type 0
-IsAmong status statuses = list_any (λ one. one == status) statuses ≡ true
+-- whatever the script was, a line on a faulty script was written, or a front of it and a fault came
+abbrev pub TellsSomeLine : Option (List ℕ) → Option (List ℕ) → ℕ → ℕ → Type 0
+TellsSomeLine before after faults_before faults_after = (line : ℕ) × (cause : ScriptCause) × Tells before after faults_before faults_after (script_line line cause)
+
+-- whatever the dump was, a line on a faulty dump was written, or a front of it and a fault came
+abbrev pub TellsSomeCause : Option (List ℕ) → Option (List ℕ) → ℕ → ℕ → Type 0
+TellsSomeCause before after faults_before faults_after = (error : DumpError) × TellsDumpError before after faults_before faults_after error
+
+-- what a fault leaves in the source: nothing is read for words that are refused; what is behind the limit and one byte more, where the input is too
+-- long; what is behind a front within the limit, where reading failed or memory ran out; and else nothing is left
+abbrev pub LeavesAfter : Fault → Option (List ℕ) → Option (List ℕ) → Type 0
+LeavesAfter fault.Words before after = after ≡ before
+LeavesAfter (fault.Script line cause) before after = IfSome before (λ _. after ≡ Some [])
+LeavesAfter (fault.DumpLine line cause) before after = IfSome before (λ _. after ≡ Some [])
+LeavesAfter (fault.DumpBatch key cause) before after = IfSome before (λ _. after ≡ Some [])
+LeavesAfter fault.Read before after = ConsumesAtMost most_bytes before after
+LeavesAfter fault.Write before after = IfSome before (λ _. after ≡ Some [])
+LeavesAfter fault.Limit before after = IfSome before (λ bytes. after ≡ Some (drop (most_bytes + 1) bytes))
+LeavesAfter fault.Memory before after = ConsumesAtMost most_bytes before after
+
+-- what a run that reads an input leaves in the source, by the status that it ends with
+pub record LeavesSource (status : ℕ) (before after : Option (List ℕ)) : Type 0 where
+  pub untouched : status ≡ 2 → after ≡ before
+  pub ended : IsAmong status (0 ∷ 3 ∷ 5 ∷ 7 ∷ []) → IfSome before (λ _. after ≡ Some [])
+  pub limit : status ≡ 6 → IfSome before (λ bytes. after ≡ Some (drop (most_bytes + 1) bytes))
+  pub stopped : IsAmong status (4 ∷ 8 ∷ []) → ConsumesAtMost most_bytes before after

@@ -1,11 +1,10 @@
-ghost use Rattle.std.specs.Prelude.{◌≡◌, ◌≤◌, map, OnOk, OnErr};
-ghost use Rattle.std.specs.List.{concat};
+ghost use Rattle.std.specs.Prelude.{◌≡◌, ◌≤◌, OnOk, OnErr};
 ghost use Rattle.ndc_port.specs.Bytes.{Appends, AppendsFront};
 ghost use Rattle.ndc_port.specs.Fault.{Rose};
 ghost use Rattle.ndc_tool_top.specs.Top.{script_cause_name, script_line};
 
-use crate::faulty::{tell_batch, tell_line};
 use ndc_dump::{KeyCause, LineCause};
+use ndc_dump_faults::{tell_batch, tell_line, write_pieces};
 use ndc_event::BatchKey;
 use ndc_port::{Failed, Sink, write_all};
 use ndc_script::ScriptCause;
@@ -111,17 +110,4 @@ fn tell_script<E: Sink>(err: &mut E, line: u64, cause: ScriptCause) -> Result<()
         b"\n".as_slice(),
     ];
     write_pieces(err, &pieces)
-}
-
-/// Writes pieces of bytes one after the other.
-pub fn write_pieces<E: Sink>(err: &mut E, pieces: &[&[u8]]) -> Result<(), Failed>
-    ensures whole { OnOk result (Appends (E.written err.old) (E.written err.new) (concat (map (λ piece. piece.now) pieces.now))) }
-    ensures front { OnErr result (AppendsFront (E.written err.old) (E.written err.new) (concat (map (λ piece. piece.now) pieces.now))) }
-    ensures cause { OnErr result (Rose (E.faults err.old) (E.faults err.new)) }
-    ensures count { E.faults err.old ≤ E.faults err.new }
-{
-    for piece in pieces {
-        write_all(err, piece)?;
-    }
-    Ok(())
 }

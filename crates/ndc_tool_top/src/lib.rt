@@ -4,7 +4,6 @@
 
 mod demo;
 mod fault;
-mod faulty;
 mod make;
 mod output;
 mod run;

@@ -2,7 +2,8 @@
 ghost use Rattle.std.specs.Prelude.{◌≡◌, ◌≢◌, ◌≤◌, ℕ, List, [], ◌∷◌, IfOk, IfSome, IsOkAnd, OnOk, OnErr};
 ghost use Rattle.ndc_port.specs.Bytes.{Appends, AppendsFront};
 ghost use Rattle.ndc_port.specs.Fault.{Rose};
-ghost use Rattle.ndc_tool_top.specs.Top.{IsAmong, Tells, fault_line, status_line, status_of};
+ghost use Rattle.ndc_dump_faults.specs.Telling.{IsAmong, Tells};
+ghost use Rattle.ndc_tool_top.specs.Top.{fault_line, status_line, status_of};
 
 use crate::fault::Fault;
 use ndc_port::{Sink, write_all};
@@ -29,6 +30,7 @@ pub fn write_output<K: Sink, E: Sink>(
     ensures silent { result ≡ 0 → E.written err.new ≡ E.written err.old }
     ensures write { result ≡ 5 → Rose (K.faults out.old) (K.faults out.new) }
     ensures told { IfSome (status_line result) (Tells (E.written err.old) (E.written err.new) (E.faults err.old) (E.faults err.new)) }
+    ensures unwritten { result ≡ 8 → K.written out.new ≡ K.written out.old }
     ensures front { (bytes : List ℕ) → IfOk text (λ text. text.items ≡ bytes) → AppendsFront (K.written out.old) (K.written out.new) bytes }
 {
     let text = match text {

@@ -2,11 +2,13 @@
 ghost use Rattle.std.specs.Prelude.{◌≡◌, ◌≢◌, ◌<◌, ◌≤◌, ◌++◌, AllPairs, true, false, Some, [], ◌∷◌, IsOk, IsErr, IsErrAnd, map, length, IfOk, IfErr, IfSome, OnOk, Ok};
 ghost use Rattle.ndc_script_types.specs.WellFormed.{IsWellFormed};
 ghost use Rattle.ndc_index.specs.Seats.{all_known, shown};
+ghost use Rattle.ndc_port.specs.Bytes.{ConsumesAtMost};
 ghost use Rattle.ndc_port.specs.Fault.{Rose};
 ghost use Rattle.ndc_script_read.specs.Body.{script_of};
 ghost use Rattle.ndc_world_report.specs.Seats.{AreNew};
+ghost use Rattle.ndc_dump_faults.specs.Telling.{IsAmong, most_bytes, Streams, Tells};
 ghost use Rattle.ndc_tool_top.specs.Running.{FrontOfReport, ReadFault, RunFault, Succeeds, TellsError};
-ghost use Rattle.ndc_tool_top.specs.Top.{IsAmong, Streams, Tells, most_bytes, status_line, status_of};
+ghost use Rattle.ndc_tool_top.specs.Top.{LeavesAfter, LeavesSource, TellsSomeLine, status_line, status_of};
 
 use crate::fault::Fault;
 use crate::output::end;
@@ -25,6 +27,8 @@ fn read_script<S: Source>(alloc: Global, source: &mut S) -> Result<Script, Fault
     ensures script { IfOk result (λ script. IfSome (S.left source.old) (λ bytes. (length bytes ≤ most_bytes) × (script_of bytes ≡ Ok script))) }
     ensures well_formed { IfOk result IsWellFormed }
     ensures end { OnOk result (IfSome (S.left source.old) (λ _. S.left source.new ≡ Some [])) }
+    ensures within { OnOk result (ConsumesAtMost most_bytes (S.left source.old) (S.left source.new)) }
+    ensures rest { IfErr result (λ fault. LeavesAfter fault (S.left source.old) (S.left source.new)) }
     ensures fault { IfErr result (ReadFault (S.left source.old) (S.faults source.old) (S.faults source.new)) }
     ensures count { S.faults source.old ≤ S.faults source.new }
 {
@@ -60,6 +64,8 @@ fn run<R: Threads + Sync, S: Source, K: Sink, G: Gate>(
     ensures unknown { all_known (map (λ b. shown (title b) (failing b) (list b)) indexers.items) (index.now ++ late.now) ≡ false
         → IfErr result (λ fault. IsAmong (status_of fault) (2 ∷ 8 ∷ [])) × (source.new ≡ source.old) × (out.new ≡ out.old) }
     ensures done { OnOk result (Succeeds (map (λ b. shown (title b) (failing b) (list b)) indexers.items) index.now late.now (S.left source.old) (S.left source.new) (K.written out.old) (K.written out.new)) }
+    ensures end { OnOk result (IfSome (S.left source.old) (λ _. S.left source.new ≡ Some [])) }
+    ensures rest { IfErr result (λ fault. LeavesAfter fault (S.left source.old) (S.left source.new)) }
     ensures fault { IfErr result (RunFault (map (λ b. shown (title b) (failing b) (list b)) indexers.items) index.now late.now
         (record { left = S.left source.old; source_faults = S.faults source.old; written = K.written out.old; out_faults = K.faults out.old })
         (record { left = S.left source.new; source_faults = S.faults source.new; written = K.written out.new; out_faults = K.faults out.new })) }
@@ -107,6 +113,8 @@ pub fn run_input<R: Threads + Sync, S: Source, K: Sink, E: Sink, G: Gate>(
     ensures silent { result ≡ 0 → E.written err.new ≡ E.written err.old }
     ensures script { result ≡ 3 → IfSome (S.left source.old) (λ bytes. (length bytes ≤ most_bytes)
         × IsErrAnd (script_of bytes) (TellsError (E.written err.old) (E.written err.new) (E.faults err.old) (E.faults err.new))) }
+    ensures line { result ≡ 3 → TellsSomeLine (E.written err.old) (E.written err.new) (E.faults err.old) (E.faults err.new) }
+    ensures rest { LeavesSource result (S.left source.old) (S.left source.new) }
     ensures read { result ≡ 4 → Rose (S.faults source.old) (S.faults source.new) }
     ensures write { result ≡ 5 → Rose (K.faults out.old) (K.faults out.new) }
     ensures limit { result ≡ 6 → IfSome (S.left source.old) (λ bytes. most_bytes < length bytes) }

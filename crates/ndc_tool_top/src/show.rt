@@ -1,15 +1,17 @@
 //! What the program shows of a dump.
 ghost use Rattle.std.specs.Prelude.{◌≡◌, ◌≢◌, ◌≤◌, ◌<◌, Ok, Err, Some, [], ◌∷◌, length, IfOk, IfErr, IfSome, IsOk, IsErr, IsErrAnd, OnOk, OnErr};
-ghost use Rattle.ndc_port.specs.Bytes.{Appends, AppendsFront};
+ghost use Rattle.ndc_port.specs.Bytes.{Appends, AppendsFront, ConsumesAtMost};
 ghost use Rattle.ndc_port.specs.Fault.{Rose};
 ghost use Rattle.ndc_model_sets.specs.Sound.{IsSound};
 ghost use Rattle.ndc_model_sets.specs.View.{view_of};
 ghost use Rattle.ndc_dump.specs.Read.{dump_of};
 ghost use Rattle.ndc_world_report.specs.declared.error.RunError.TheVariants as run_error;
-ghost use Rattle.ndc_tool_top.specs.Show.{shown_text, Shows, ShowsFront, DumpFault, ShowFault, TellsDumpError};
-ghost use Rattle.ndc_tool_top.specs.Top.{most_bytes, Tells, status_line, IsAmong};
+ghost use Rattle.ndc_dump_faults.specs.Telling.{IsAmong, most_bytes, Tells, TellsDumpError};
+ghost use Rattle.ndc_tool_top.specs.Show.{DumpFault, PrintsAsRead, ShowFault, Shows, ShowsFront, shown_text};
+ghost use Rattle.ndc_tool_top.specs.Top.{LeavesAfter, LeavesSource, TellsSomeCause, status_line};
 
 use crate::fault::Fault;
+use crate::output::end;
 use crate::top::MOST_BYTES;
 use ndc_dump::{Dump, DumpError, dump_text, read_dump, tree_text};
 use ndc_port::{ReadError, Sink, Source, read_all, write_all};
@@ -64,6 +66,8 @@ fn read_input<S: Source>(alloc: Global, source: &mut S) -> Result<Dump, Fault>
     ensures view { IfOk result (λ dump. dump.view ≡ view_of dump.view.batches) }
     ensures sound { IfOk result (λ dump. IsSound dump.view.batches) }
     ensures end { OnOk result (IfSome (S.left source.old) (λ _. S.left source.new ≡ Some [])) }
+    ensures within { OnOk result (ConsumesAtMost most_bytes (S.left source.old) (S.left source.new)) }
+    ensures rest { IfErr result (λ fault. LeavesAfter fault (S.left source.old) (S.left source.new)) }
     ensures fault { IfErr result (DumpFault (S.left source.old) (S.faults source.old) (S.faults source.new)) }
     ensures count { S.faults source.old ≤ S.faults source.new }
 {
@@ -89,6 +93,9 @@ fn show<S: Source, K: Sink>(
     out: &mut K,
 ) -> Result<(), Fault>
     ensures done { OnOk result (Shows how (S.left source.old) (S.left source.new) (K.written out.old) (K.written out.new)) }
+    ensures as_read { OnOk result (PrintsAsRead how (S.left source.old) (K.written out.old) (K.written out.new)) }
+    ensures end { OnOk result (IfSome (S.left source.old) (λ _. S.left source.new ≡ Some [])) }
+    ensures rest { IfErr result (λ fault. LeavesAfter fault (S.left source.old) (S.left source.new)) }
     ensures fault { IfErr result (ShowFault how
         (record { left = S.left source.old; source_faults = S.faults source.old; written = K.written out.old; out_faults = K.faults out.old })
         (record { left = S.left source.new; source_faults = S.faults source.new; written = K.written out.new; out_faults = K.faults out.new })) }
@@ -117,9 +124,12 @@ pub fn show_input<S: Source, K: Sink, E: Sink>(
     ensures words { result ≢ 2 }
     ensures script { result ≢ 3 }
     ensures done { result ≡ 0 → Shows how (S.left source.old) (S.left source.new) (K.written out.old) (K.written out.new) }
+    ensures as_read { result ≡ 0 → PrintsAsRead how (S.left source.old) (K.written out.old) (K.written out.new) }
     ensures silent { result ≡ 0 → E.written err.new ≡ E.written err.old }
     ensures dump { result ≡ 7 → IfSome (S.left source.old) (λ bytes. (length bytes ≤ most_bytes)
         × IsErrAnd (dump_of bytes) (TellsDumpError (E.written err.old) (E.written err.new) (E.faults err.old) (E.faults err.new))) }
+    ensures cause { result ≡ 7 → TellsSomeCause (E.written err.old) (E.written err.new) (E.faults err.old) (E.faults err.new) }
+    ensures rest { LeavesSource result (S.left source.old) (S.left source.new) }
     ensures read { result ≡ 4 → Rose (S.faults source.old) (S.faults source.new) }
     ensures write { result ≡ 5 → Rose (K.faults out.old) (K.faults out.new) }
     ensures limit { result ≡ 6 → IfSome (S.left source.old) (λ bytes. most_bytes < length bytes) }
@@ -128,13 +138,11 @@ pub fn show_input<S: Source, K: Sink, E: Sink>(
     ensures no_dump { IfSome (S.left source.old) (λ bytes. length bytes ≤ most_bytes → IsErr (dump_of bytes) → IsAmong result (4 ∷ 7 ∷ 8 ∷ [])) }
     ensures whole_dump { IfSome (S.left source.old) (λ bytes. length bytes ≤ most_bytes → IsOk (dump_of bytes) → IsAmong result (0 ∷ 4 ∷ 5 ∷ 8 ∷ [])) }
     ensures early { IsAmong result (2 ∷ 3 ∷ 4 ∷ 6 ∷ 7 ∷ []) → K.written out.new ≡ K.written out.old }
+    ensures unwritten { result ≡ 8 → K.written out.new ≡ K.written out.old }
     ensures front { result ≢ 0 → ShowsFront how (S.left source.old) (K.written out.old) (K.written out.new) }
 {
     match show(alloc, how, source, out) {
         Ok(()) => 0,
-        Err(fault) => {
-            let _told = fault.tell(err);
-            fault.status()
-        }
+        Err(fault) => end(fault, err),
     }
 }

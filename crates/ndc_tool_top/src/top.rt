@@ -1,4 +1,4 @@
-ghost use Rattle.std.specs.Prelude.{◌≡◌, ◌≢◌, ◌<◌, ◌≤◌, true, false, Some, [], ◌∷◌, IsOk, IsErr, IsErrAnd, map, length, IfSome};
+ghost use Rattle.std.specs.Prelude.{◌≡◌, ◌≢◌, ◌<◌, ◌≤◌, true, false, Some, [], ◌∷◌, IsOk, IsErr, IsErrAnd, map, length, IfSome, Ok};
 ghost use Rattle.std.specs.String.{string_bytes};
 ghost use Rattle.ndc_script_types.specs.Print.{script_text};
 ghost use Rattle.ndc_dump.specs.Read.{dump_of};
@@ -10,11 +10,12 @@ ghost use Rattle.ndc_port.specs.Fault.{Rose};
 ghost use Rattle.ndc_script_read.specs.Body.{script_of};
 ghost use Rattle.ndc_world_report.specs.Seats.{AreNew};
 ghost use Rattle.ndc_script.specs.Generate.{generated_script};
+ghost use Rattle.ndc_dump_faults.specs.Telling.{IsAmong, most_bytes, Tells, TellsDumpError};
 ghost use Rattle.ndc_tool_top.specs.Asking.{IfDemo, IfMade, IfRun, IfShown, is_refused, is_run, is_shown};
-ghost use Rattle.ndc_tool_top.specs.Demo.{demo_text};
+ghost use Rattle.ndc_tool_top.specs.Demo.{SaysSame, demo_text};
 ghost use Rattle.ndc_tool_top.specs.Running.{FrontOfReport, Succeeds, TellsError};
-ghost use Rattle.ndc_tool_top.specs.Show.{Shows, ShowsFront, TellsDumpError};
-ghost use Rattle.ndc_tool_top.specs.Top.{IsAmong, Tells, most_bytes, status_line};
+ghost use Rattle.ndc_tool_top.specs.Show.{PrintsAsRead, Shows, ShowsFront};
+ghost use Rattle.ndc_tool_top.specs.Top.{LeavesSource, TellsSomeCause, TellsSomeLine, status_line};
 
 use crate::demo::demo_text;
 use crate::fault::Fault;
@@ -56,23 +57,32 @@ fn perform<R: Threads + Sync, S: Source, K: Sink, E: Sink, G: Gate>(
     // What was done at status 0, by what was asked for.
     ensures run { IfRun (Some asked) (λ index late. result ≡ 0 → Succeeds (map (λ b. shown (title b) (failing b) (list b)) indexers.items) index late (S.left source.old) (S.left source.new) (K.written out.old) (K.written out.new)) }
     ensures shown { IfShown (Some asked) (λ how. result ≡ 0 → Shows how (S.left source.old) (S.left source.new) (K.written out.old) (K.written out.new)) }
+    ensures as_read { IfShown (Some asked) (λ how. result ≡ 0 → PrintsAsRead how (S.left source.old) (K.written out.old) (K.written out.new)) }
     ensures made { IfMade (Some asked) (λ count seed. result ≡ 0 → Appends (K.written out.old) (K.written out.new) (script_text (generated_script count seed))) }
+    ensures made_again { IfMade (Some asked) (λ count seed. result ≡ 0 → script_of (script_text (generated_script count seed)) ≡ Ok (generated_script count seed)) }
     ensures demo { IfDemo (Some asked) (λ count. result ≡ 0 → Appends (K.written out.old) (K.written out.new) (demo_text (generated_script count 0))) }
+    ensures demo_same { IfDemo (Some asked) (λ count. result ≡ 0 → SaysSame (generated_script count 0)) }
     ensures silent { result ≡ 0 → E.written err.new ≡ E.written err.old }
 
     // Status 3 tells the first faulty line of a script with its cause, and comes from `run` alone.
     ensures script { result ≡ 3 → IfSome (S.left source.old) (λ bytes. (length bytes ≤ most_bytes)
         × IsErrAnd (script_of bytes) (TellsError (E.written err.old) (E.written err.new) (E.faults err.old) (E.faults err.new))) }
+    ensures script_line { result ≡ 3 → TellsSomeLine (E.written err.old) (E.written err.new) (E.faults err.old) (E.faults err.new) }
     ensures from_run { result ≡ 3 → is_run (Some asked) ≡ true }
 
     // Status 7 tells the first cause why the input is no dump, and comes from `rebuild` and `inspect` alone.
     ensures dump { result ≡ 7 → IfSome (S.left source.old) (λ bytes. (length bytes ≤ most_bytes)
         × IsErrAnd (dump_of bytes) (TellsDumpError (E.written err.old) (E.written err.new) (E.faults err.old) (E.faults err.new))) }
+    ensures dump_line { result ≡ 7 → TellsSomeCause (E.written err.old) (E.written err.new) (E.faults err.old) (E.faults err.new) }
     ensures from_shown { result ≡ 7 → is_shown (Some asked) ≡ true }
     ensures read { result ≡ 4 → Rose (S.faults source.old) (S.faults source.new) }
     ensures write { result ≡ 5 → Rose (K.faults out.old) (K.faults out.new) }
     ensures limit { result ≡ 6 → IfSome (S.left source.old) (λ bytes. most_bytes < length bytes) }
     ensures told { IfSome (status_line result) (Tells (E.written err.old) (E.written err.new) (E.faults err.old) (E.faults err.new)) }
+
+    // What is left in the source of an input.
+    ensures run_source { IfRun (Some asked) (λ _ _. LeavesSource result (S.left source.old) (S.left source.new)) }
+    ensures shown_source { IfShown (Some asked) (λ _. LeavesSource result (S.left source.old) (S.left source.new)) }
 
     // Which statuses can come, by what was asked for and the bytes that were left.
     ensures above { IfRun (Some asked) (λ _ _. IfSome (S.left source.old) (λ bytes. most_bytes < length bytes → IsAmong result (2 ∷ 4 ∷ 6 ∷ 8 ∷ []))) }
@@ -86,6 +96,7 @@ fn perform<R: Threads + Sync, S: Source, K: Sink, E: Sink, G: Gate>(
 
     // What is written: nothing before the output begins or where the input is none, and never more than a front of it.
     ensures early { IsAmong result (2 ∷ 3 ∷ 4 ∷ 6 ∷ 7 ∷ []) → K.written out.new ≡ K.written out.old }
+    ensures unwritten { is_run (Some asked) ≡ false → result ≡ 8 → K.written out.new ≡ K.written out.old }
     ensures front { IfRun (Some asked) (λ index late. result ≢ 0 → FrontOfReport (map (λ b. shown (title b) (failing b) (list b)) indexers.items) index late (S.left source.old) (K.written out.old) (K.written out.new)) }
     ensures shown_front { IfShown (Some asked) (λ how. result ≢ 0 → ShowsFront how (S.left source.old) (K.written out.old) (K.written out.new)) }
     ensures made_front { IfMade (Some asked) (λ count seed. AppendsFront (K.written out.old) (K.written out.new) (script_text (generated_script count seed))) }
@@ -144,23 +155,32 @@ pub fn ndc_top<R: Threads + Sync, S: Source, K: Sink, E: Sink, G: Gate>(
     // What was done at status 0, by what was asked for.
     ensures run { IfRun (asked_of (map string_bytes words.now)) (λ index late. result ≡ 0 → Succeeds (map (λ b. shown (title b) (failing b) (list b)) indexers.items) index late (S.left source.old) (S.left source.new) (K.written out.old) (K.written out.new)) }
     ensures shown { IfShown (asked_of (map string_bytes words.now)) (λ how. result ≡ 0 → Shows how (S.left source.old) (S.left source.new) (K.written out.old) (K.written out.new)) }
+    ensures as_read { IfShown (asked_of (map string_bytes words.now)) (λ how. result ≡ 0 → PrintsAsRead how (S.left source.old) (K.written out.old) (K.written out.new)) }
     ensures made { IfMade (asked_of (map string_bytes words.now)) (λ count seed. result ≡ 0 → Appends (K.written out.old) (K.written out.new) (script_text (generated_script count seed))) }
+    ensures made_again { IfMade (asked_of (map string_bytes words.now)) (λ count seed. result ≡ 0 → script_of (script_text (generated_script count seed)) ≡ Ok (generated_script count seed)) }
     ensures demo { IfDemo (asked_of (map string_bytes words.now)) (λ count. result ≡ 0 → Appends (K.written out.old) (K.written out.new) (demo_text (generated_script count 0))) }
+    ensures demo_same { IfDemo (asked_of (map string_bytes words.now)) (λ count. result ≡ 0 → SaysSame (generated_script count 0)) }
     ensures silent { result ≡ 0 → E.written err.new ≡ E.written err.old }
 
     // Status 3 tells the first faulty line of a script with its cause, and comes from `run` alone.
     ensures script { result ≡ 3 → IfSome (S.left source.old) (λ bytes. (length bytes ≤ most_bytes)
         × IsErrAnd (script_of bytes) (TellsError (E.written err.old) (E.written err.new) (E.faults err.old) (E.faults err.new))) }
+    ensures script_line { result ≡ 3 → TellsSomeLine (E.written err.old) (E.written err.new) (E.faults err.old) (E.faults err.new) }
     ensures from_run { result ≡ 3 → is_run (asked_of (map string_bytes words.now)) ≡ true }
 
     // Status 7 tells the first cause why the input is no dump, and comes from `rebuild` and `inspect` alone.
     ensures dump { result ≡ 7 → IfSome (S.left source.old) (λ bytes. (length bytes ≤ most_bytes)
         × IsErrAnd (dump_of bytes) (TellsDumpError (E.written err.old) (E.written err.new) (E.faults err.old) (E.faults err.new))) }
+    ensures dump_line { result ≡ 7 → TellsSomeCause (E.written err.old) (E.written err.new) (E.faults err.old) (E.faults err.new) }
     ensures from_shown { result ≡ 7 → is_shown (asked_of (map string_bytes words.now)) ≡ true }
     ensures read { result ≡ 4 → Rose (S.faults source.old) (S.faults source.new) }
     ensures write { result ≡ 5 → Rose (K.faults out.old) (K.faults out.new) }
     ensures limit { result ≡ 6 → IfSome (S.left source.old) (λ bytes. most_bytes < length bytes) }
     ensures told { IfSome (status_line result) (Tells (E.written err.old) (E.written err.new) (E.faults err.old) (E.faults err.new)) }
+
+    // What is left in the source of an input.
+    ensures run_source { IfRun (asked_of (map string_bytes words.now)) (λ _ _. LeavesSource result (S.left source.old) (S.left source.new)) }
+    ensures shown_source { IfShown (asked_of (map string_bytes words.now)) (λ _. LeavesSource result (S.left source.old) (S.left source.new)) }
 
     // Which statuses can come, by what was asked for and the bytes that were left.
     ensures above { IfRun (asked_of (map string_bytes words.now)) (λ _ _. IfSome (S.left source.old) (λ bytes. most_bytes < length bytes → IsAmong result (2 ∷ 4 ∷ 6 ∷ 8 ∷ []))) }
@@ -174,6 +194,7 @@ pub fn ndc_top<R: Threads + Sync, S: Source, K: Sink, E: Sink, G: Gate>(
 
     // What is written: nothing before the output begins or where the input is none, and never more than a front of it.
     ensures early { IsAmong result (2 ∷ 3 ∷ 4 ∷ 6 ∷ 7 ∷ []) → K.written out.new ≡ K.written out.old }
+    ensures unwritten { is_run (asked_of (map string_bytes words.now)) ≡ false → result ≡ 8 → K.written out.new ≡ K.written out.old }
     ensures front { IfRun (asked_of (map string_bytes words.now)) (λ index late. result ≢ 0 → FrontOfReport (map (λ b. shown (title b) (failing b) (list b)) indexers.items) index late (S.left source.old) (K.written out.old) (K.written out.new)) }
     ensures shown_front { IfShown (asked_of (map string_bytes words.now)) (λ how. result ≢ 0 → ShowsFront how (S.left source.old) (K.written out.old) (K.written out.new)) }
     ensures made_front { IfMade (asked_of (map string_bytes words.now)) (λ count seed. AppendsFront (K.written out.old) (K.written out.new) (script_text (generated_script count seed))) }

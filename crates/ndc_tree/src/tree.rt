@@ -18,7 +18,7 @@ use std::marker::Model;
 const NOTED_FROM: usize = 4;
 
 /// What is noted has room for a multiple of so many items, so that a longer one most often goes where the one before was.
-const NOTED_ROOM: usize = 256;
+const NOTED_ROOM: usize = 32;
 
 /// The batches of one run. Seen as the run and the list of its batches in key order.
 pub struct Tree {

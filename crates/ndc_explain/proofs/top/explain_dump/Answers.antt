@@ -1,5 +1,5 @@
 use Rattle.std.proofs.Common.{refl}
-use Rattle.ndc_explain.specs.Top.{Streams}
+use Rattle.ndc_dump_faults.specs.Telling.{Streams}
 use Rattle.ndc_explain.proofs.Endings.{dump_fault}
 use Rattle.ndc_explain.proofs.top.explain_dump.Goals as goal
 

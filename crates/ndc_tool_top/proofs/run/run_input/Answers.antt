@@ -1,6 +1,7 @@
 use Rattle.std.proofs.Common.{[], ◌∷◌, subst, sym}
-use Rattle.ndc_tool_top.specs.Top.{IsAmong, Streams}
+use Rattle.ndc_dump_faults.specs.Telling.{IsAmong, Streams}
 use Rattle.ndc_tool_top.proofs.Endings.{front_end}
+use Rattle.ndc_tool_top.proofs.FaultLemmas.{leaves, tells-line}
 use Rattle.ndc_tool_top.proofs.run.run_input.Goals as goal
 
 pub returns-in-Err-clause-unknown : goal.returns-in-Err-clause-unknown
@@ -19,3 +20,14 @@ returns-in-Err-clause-front g c = λ _.
     let old : Streams = record { left = source.left c.args.source.now; source_faults = source.faults c.args.source.now; written = sink.written c.args.out.now; out_faults = sink.faults c.args.out.now } in
     let new : Streams = record { left = source.left c.run.new.source; source_faults = source.faults c.run.new.source; written = sink.written c.run.new.out; out_faults = sink.faults c.run.new.out } in
     front_end _ c.args.index.now c.args.late.now old new c.in-Err.fault c.in-Err.ensures.fault
+
+-- the fault is told, and leaves what its status says
+pub returns-in-Err-clause-line : goal.returns-in-Err-clause-line
+returns-in-Err-clause-line g c =
+    let sink = g.E.Sink in
+    tells-line (sink.written c.args.err.now) (sink.written c.end.new.err) (sink.faults c.args.err.now) (sink.faults c.end.new.err) c.in-Err.fault c.end.result c.end.ensures.status c.end.ensures.told
+
+pub returns-in-Err-clause-rest : goal.returns-in-Err-clause-rest
+returns-in-Err-clause-rest g c =
+    let source = g.S.Source in
+    leaves (source.left c.args.source.now) (source.left c.run.new.source) c.in-Err.fault c.end.result c.end.ensures.status c.in-Err.ensures.rest

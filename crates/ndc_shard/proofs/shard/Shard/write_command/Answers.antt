@@ -1,6 +1,12 @@
+use Rattle.std.proofs.Common.{◌≡◌, Ok, ap, sym, ◌∙◌}
 use Rattle.ndc_shard.proofs.AskedLemmas.{command-writable}
+use Rattle.ndc_shard.proofs.LoneLemmas.{command_lone}
 use Rattle.ndc_shard.proofs.shard.Shard.write_command.Goals as goal
 
-pub write_all-requires : goal.write_all-requires
-write_all-requires g c =
-    command-writable c.args.desk.now c.args.domain.now c.args.workflow.now c.args.command.now c.args.self.now c.in_ok-entries.entries.items c.in_ok-entries.ensures.fit c.requires c.in_ok-entries.ensures.entries
+pub write-requires-clause-may : goal.write-requires-clause-may
+write-requires-clause-may g c =
+    (command-writable c.args.desk.now c.args.domain.now c.args.workflow.now c.args.command.now c.args.self.now _ c.in_ok-entry.ensures.fit c.requires c.in_ok-entry.ensures.entries).0
+
+pub write-requires-clause-lone : goal.write-requires-clause-lone
+write-requires-clause-lone g c =
+    (command_lone c.args.desk.now c.args.domain.now c.args.workflow.now c.args.command.now c.args.self.now _ c.in_ok-entry.ensures.entries).0

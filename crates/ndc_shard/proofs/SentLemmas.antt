@@ -1,0 +1,310 @@
+-- What a shard has written stays as it is where batches arrive, and where it writes one more.
+use Rattle.std.proofs.Common.{◌≡◌, ◌<◌, ℕ, zero, suc, Bool, true, false, List, [], ◌∷◌, ◌++◌, Option, Some, None, length, slice_get, refl, sym, ◌∙◌, ap, subst, if◌then◌else◌, append_assoc}
+use Rattle.std.specs.Prelude.{IfSome, is_some, option_to_list, ◌&&◌}
+use Rattle.std.specs.List.{AllByRecursion, filter, filter_map}
+use Rattle.ndc_event.specs.Key.{key_eq}
+use Rattle.ndc_event.specs.declared.batch.Batch.{Batch}
+use Rattle.ndc_event.specs.declared.key.BatchKey.{BatchKey}
+use Rattle.ndc_event.specs.declared.name.Name.{Name}
+use Rattle.ndc_model_cells.proofs.CellLemmas.{others_arrived}
+use Rattle.ndc_model_cells.proofs.PlaceLemmas.{all-placed, set_of_workflow, written_arrives}
+use Rattle.ndc_model_cells.specs.Arrival.{arrived_at, cell_with, has_arrived, placed_second}
+use Rattle.ndc_model_cells.specs.Cells.{Cell, IsCell, arrived_of, carries, learned_of, message_at}
+use Rattle.ndc_model_cells.specs.Allowed.{MayArrive}
+use Rattle.ndc_model_cells.specs.Laws.{arrived_second}
+use Rattle.ndc_model_cells.specs.Messages.{IsCarriedBy, IsMessage, IsNewTo, carrying}
+use Rattle.ndc_model_cells.specs.Places.{is_of, place_of, placed}
+use Rattle.ndc_model_cells.specs.Workflow.{workflow_of}
+use Rattle.ndc_model_cells.specs.Writing.{Entry, entry_message, with_batches, with_written}
+use Rattle.ndc_model_cells.specs.declared.message.Message.{Message}
+use Rattle.ndc_model_cells.specs.declared.place.Place.{Place}
+use Rattle.ndc_model_sets.proofs.ArrivalLemmas.{arrival_keeps_sets, is_there, stays}
+use Rattle.ndc_model_sets.proofs.KeyLemmas.{same-keys}
+use Rattle.ndc_model_sets.proofs.LearnedLemmas.{learned-reaches, reaches-learned, reaches-more}
+use Rattle.ndc_model_sets.proofs.SetLemmas.{found-key}
+use Rattle.ndc_model_sets.specs.Learned.{IsPart, ReachesTop, has_key, learned}
+use Rattle.ndc_model_sets.specs.Learned.ReachesTop.{top, up}
+use Rattle.ndc_model_sets.specs.Paths.{is_wanted, path_to, versions_of}
+use Rattle.ndc_model_sets.specs.Sets.{Has, IsSet, PointsBack, arrived, batch_at, earlier}
+use Rattle.ndc_shard.proofs.StayLemmas.{key-stays, new-own}
+use Rattle.ndc_shard.specs.Sent.{AreSent, HasCarrier, IsSent, messages_at}
+use Rattle.ndc_shard.specs.Shards.{having_written}
+use Rattle.ndc_shard_waiting.proofs.KeptLemmas.{both-back}
+use Rattle.ndc_shard_waiting.proofs.LearnLemmas.{with-set}
+use Rattle.ndc_shard_waiting.proofs.OrderLemmas.{all-more}
+use Rattle.ndc_shard_waiting.specs.Learning.{with_message}
+use Rattle.ndc_shard_workflows.proofs.BehindLemmas.{second-other}
+use Rattle.ndc_shard_workflows.proofs.CellLemmas.{own-names}
+use Rattle.ndc_shard_workflows.proofs.PlaceLemmas.{place-is}
+use Rattle.ndc_shard_workflows.proofs.SameLemmas.{names-of, of-names}
+use Rattle.ndc_shard_workflows.specs.Messages.{own_message_of}
+use Rattle.ndc_shard_workflows.specs.Writing.{MayBeWritten}
+use Rattle.ndc_state.specs.Replay.{history_of}
+
+-- the message at a place, by what has arrived of its workflow
+at-place : (cell : Cell) (place : Place) → own_message_of (arrived_of place.domain place.workflow cell) (batch_at place.key (learned_of place.domain place.workflow cell)) ≡ message_at cell place
+at-place cell place = place-is cell place (workflow_of place.domain place.workflow cell) refl
+
+-- what was there is there with a message more
+part-more-of : (first : Batch) (second : Option Batch) (all : List Batch) → IsSet all → PointsBack first → IsPart all (arrived_second second (arrived first all))
+part-more-of first None all set back = stays first all set.ordered
+part-more-of first (Some s) all set back = λ b has. stays s (arrived first all) (arrival_keeps_sets first all set back).ordered b (stays first all set.ordered b has)
+
+-- the batch of a message is there behind it
+first-there : (first : Batch) (second : Option Batch) (all : List Batch) → IsSet all → PointsBack first → batch_at first.key all ≡ None → Has (arrived_second second (arrived first all)) first
+first-there first None all set back fresh = is_there first all set.ordered fresh
+first-there first (Some s) all set back fresh = stays s (arrived first all) (arrival_keeps_sets first all set back).ordered first (is_there first all set.ordered fresh)
+
+-- a batch and the one that it carries arrive in a cell, where neither was
+module _ (old new : Cell) (sent : Message) (list : new.arrived ≡ placed_second sent.second (placed sent.batch old.arrived)) (is : IsCell old) (message : IsMessage sent) (lone : sent.batch.carrier ≡ None)
+    (own : IfSome sent.second (λ s. is_of sent.batch.domain sent.batch.workflow s ≡ true)) (fresh : IsNewTo (arrived_of sent.batch.domain sent.batch.workflow old) sent) where
+  entry : Entry
+  entry = record { batch = sent.batch; second = sent.second }
+
+  back : AllByRecursion PointsBack (sent.batch ∷ option_to_list sent.second)
+  back = both-back sent message
+
+  -- they arrive in their workflow
+  here : (domain workflow : Name) → is_of domain workflow sent.batch ≡ true → arrived_of domain workflow new ≡ with_message sent (arrived_of domain workflow old)
+  here domain workflow of =
+      ap (filter (is_of domain workflow)) list ∙ written_arrives domain workflow entry old is message.back of (second-of sent.second own)
+    where
+      names = names-of domain workflow sent.batch of
+
+      second-of : (o : Option Batch) → IfSome o (λ s. is_of sent.batch.domain sent.batch.workflow s ≡ true) → IfSome o (λ s. is_of domain workflow s ≡ true)
+      second-of None e = tt
+      second-of (Some s) e = subst (λ (n : Name). is_of domain n s ≡ true) names.1 (subst (λ (n : Name). is_of n sent.batch.workflow s ≡ true) names.0 e)
+
+  -- and in no other one
+  there : (domain workflow : Name) → is_of domain workflow sent.batch ≡ false → arrived_of domain workflow new ≡ arrived_of domain workflow old
+  there domain workflow other =
+      ap (filter (is_of domain workflow)) list ∙ others_arrived domain workflow entry old other (second-other domain workflow sent.batch sent.second other own)
+
+  -- a message that was there is the same
+  place-stays : (place : Place) → IsSent old place → message_at new place ≡ message_at old place
+  place-stays place sent_is = by (is_of place.domain place.workflow sent.batch) refl
+    where
+      all = arrived_of place.domain place.workflow old
+
+      by : (t : Bool) → is_of place.domain place.workflow sent.batch ≡ t → message_at new place ≡ message_at old place
+      by true of =
+          let names = names-of place.domain place.workflow sent.batch of in
+          let new_to : IsNewTo all sent =
+          subst (λ (n : Name). IsNewTo (arrived_of place.domain n old) sent) names.1 (subst (λ (n : Name). IsNewTo (arrived_of n sent.batch.workflow old) sent) names.0 fresh) in
+          sym (at-place new place) ∙ ap (λ (bs : List Batch). own_message_of bs (batch_at place.key (learned bs))) (here place.domain place.workflow of)
+          ∙ key-stays all (set_of_workflow place.domain place.workflow old is) sent message lone new_to place.key (ap is_some (at-place old place) ∙ sent_is) ∙ at-place old place
+      by false other =
+          sym (at-place new place) ∙ ap (λ (bs : List Batch). own_message_of bs (batch_at place.key (learned bs))) (there place.domain place.workflow other) ∙ at-place old place
+
+  pub messages-stay : (places : List Place) → AllByRecursion (IsSent old) places → messages_at places new ≡ messages_at places old
+  messages-stay [] all = refl
+  messages-stay (place ∷ places) all =
+      ap (λ (o : Option Message). option_to_list o ++ messages_at places new) (place-stays place all.0) ∙ ap (λ (ms : List Message). option_to_list (message_at old place) ++ ms) (messages-stay places all.1)
+
+  pub sent-stay : (places : List Place) → AllByRecursion (IsSent old) places → AllByRecursion (IsSent new) places
+  sent-stay [] all = tt
+  sent-stay (place ∷ places) all = (ap is_some (place-stays place all.0) ∙ all.0, sent-stay places all.1)
+
+  -- what has arrived of a workflow has arrived still
+  key-there : (domain workflow : Name) (key : BatchKey) → has_key (Some key) (arrived_of domain workflow old) ≡ true → has_key (Some key) (arrived_of domain workflow new) ≡ true
+  key-there domain workflow key has = by (is_of domain workflow sent.batch) refl
+    where
+      all = arrived_of domain workflow old
+      set = set_of_workflow domain workflow old is
+
+      more : (o : Option Batch) → batch_at key all ≡ o → is_some o ≡ true → has_key (Some key) (with_message sent all) ≡ true
+      more None at some = absurd (cc)
+      more (Some b) at some =
+          let named : b.key ≡ key = found-key all key b at in
+          let has_b : Has all b = ap (λ (k : BatchKey). batch_at k all) named ∙ at in
+          ap (λ (k : BatchKey). is_some (batch_at k (with_message sent all))) (sym named) ∙ ap is_some (part-more-of sent.batch sent.second all set message.back b has_b)
+
+      by : (t : Bool) → is_of domain workflow sent.batch ≡ t → has_key (Some key) (arrived_of domain workflow new) ≡ true
+      by true of = ap (has_key (Some key)) (here domain workflow of) ∙ more (batch_at key all) refl has
+      by false other = ap (has_key (Some key)) (there domain workflow other) ∙ has
+
+  -- no batch has arrived without its carrier
+  carrier-stays : (b : Batch) → HasCarrier old b → HasCarrier new b
+  carrier-stays b has = by b.carrier has
+    where
+      by : (o : Option BatchKey) → IfSome o (λ key. has_key (Some key) (arrived_of b.domain b.workflow old) ≡ true) → IfSome o (λ key. has_key (Some key) (arrived_of b.domain b.workflow new) ≡ true)
+      by None h = tt
+      by (Some key) h = key-there b.domain b.workflow key h
+
+  first-carrier : HasCarrier new sent.batch
+  first-carrier = subst (λ (o : Option BatchKey). IfSome o (λ key. has_key (Some key) (arrived_of sent.batch.domain sent.batch.workflow new) ≡ true)) (sym lone) tt
+
+  second-carrier : (s : Batch) → IsCarriedBy sent.batch s → is_of sent.batch.domain sent.batch.workflow s ≡ true → HasCarrier new s
+  second-carrier s carried of =
+      let names = names-of sent.batch.domain sent.batch.workflow s of in
+      let all = arrived_of sent.batch.domain sent.batch.workflow old in
+      let first : Has (with_message sent all) sent.batch = first-there sent.batch sent.second all (set_of_workflow sent.batch.domain sent.batch.workflow old is) message.back fresh.0 in
+      let has : has_key (Some sent.batch.key) (arrived_of sent.batch.domain sent.batch.workflow new) ≡ true =
+      ap (has_key (Some sent.batch.key)) (here sent.batch.domain sent.batch.workflow (own-names sent.batch)) ∙ ap is_some first in
+      subst (λ (o : Option BatchKey). IfSome o (λ key. has_key (Some key) (arrived_of s.domain s.workflow new) ≡ true)) (sym carried.carrier)
+      (subst (λ (n : Name). has_key (Some sent.batch.key) (arrived_of n s.workflow new) ≡ true) (sym names.0)
+      (subst (λ (n : Name). has_key (Some sent.batch.key) (arrived_of sent.batch.domain n new) ≡ true) (sym names.1) has))
+
+  pub carriers-stay : AllByRecursion (HasCarrier old) old.arrived → AllByRecursion (HasCarrier new) new.arrived
+  carriers-stay all = subst (AllByRecursion (HasCarrier new)) (sym list) (both sent.second message.second own)
+    where
+      first : AllByRecursion (HasCarrier new) (placed sent.batch old.arrived)
+      first = all-placed (HasCarrier new) sent.batch old.arrived first-carrier (all-more (HasCarrier old) (HasCarrier new) carrier-stays old.arrived all)
+
+      both : (o : Option Batch) → IfSome o (IsCarriedBy sent.batch) → IfSome o (λ s. is_of sent.batch.domain sent.batch.workflow s ≡ true) → AllByRecursion (HasCarrier new) (placed_second o (placed sent.batch old.arrived))
+      both None carried of = first
+      both (Some s) carried of = all-placed (HasCarrier new) s (placed sent.batch old.arrived) (second-carrier s carried of) first
+
+  pub are-sent : (places : List Place) → AreSent places old → AreSent places new
+  are-sent places are = record { sent = sent-stay places are.sent; carried = carriers-stay are.carried }
+
+  -- nothing that has arrived is carried by the batch that was not there
+  none-carried-in : (bs : List Batch) → AllByRecursion (HasCarrier old) bs → AllByRecursion (λ (o : Batch). carries sent.batch o ≡ false) (filter (is_of sent.batch.domain sent.batch.workflow) bs)
+  none-carried-in [] all = tt
+  none-carried-in (o ∷ bs) all = by (is_of sent.batch.domain sent.batch.workflow o) refl (none-carried-in bs all.1)
+    where
+      of_workflow = is_of sent.batch.domain sent.batch.workflow
+
+      not-by : is_of sent.batch.domain sent.batch.workflow o ≡ true → (c : Option BatchKey) → o.carrier ≡ c → IfSome c (λ key. has_key (Some key) (arrived_of o.domain o.workflow old) ≡ true) → carries sent.batch o ≡ false
+      not-by of None e has = ap (λ (x : Option BatchKey). of_workflow o && is_wanted x sent.batch) e ∙ and-not (of_workflow o)
+        where
+          and-not : (t : Bool) → (t && false) ≡ false
+          and-not true = refl
+          and-not false = refl
+      not-by of (Some key) e has = ap (λ (x : Option BatchKey). of_workflow o && is_wanted x sent.batch) e ∙ wanted (key_eq sent.batch.key key) refl
+        where
+          wanted : (t : Bool) → key_eq sent.batch.key key ≡ t → (of_workflow o && key_eq sent.batch.key key) ≡ false
+          wanted true same =
+              let names = names-of sent.batch.domain sent.batch.workflow o of in
+              let there_is : has_key (Some key) (arrived_of sent.batch.domain sent.batch.workflow old) ≡ true =
+              subst (λ (n : Name). has_key (Some key) (arrived_of sent.batch.domain n old) ≡ true) names.1 (subst (λ (n : Name). has_key (Some key) (arrived_of n o.workflow old) ≡ true) names.0 has) in
+              let clash : true ≡ false =
+              sym there_is ∙ ap (λ (k : BatchKey). has_key (Some k) (arrived_of sent.batch.domain sent.batch.workflow old)) (sym (same-keys sent.batch.key key same)) ∙ ap is_some fresh.0 in
+              absurd (cc)
+          wanted false apart = ap (λ (t : Bool). of_workflow o && t) apart ∙ and-not (of_workflow o)
+            where
+              and-not : (t : Bool) → (t && false) ≡ false
+              and-not true = refl
+              and-not false = refl
+
+      by : (t : Bool) → of_workflow o ≡ t → AllByRecursion (λ (x : Batch). carries sent.batch x ≡ false) (filter of_workflow bs) → AllByRecursion (λ (x : Batch). carries sent.batch x ≡ false) (filter of_workflow (o ∷ bs))
+      by true e rest = rw e (not-by e o.carrier refl all.0, rest)
+      by false e rest = rw e rest
+
+  -- the batch is learned where its earlier key is
+  is-learned : has_key (earlier sent.batch) (learned_of sent.batch.domain sent.batch.workflow old) ≡ true → Has (learned (with_message sent (arrived_of sent.batch.domain sent.batch.workflow old))) sent.batch
+  is-learned reached = reaches-learned (with_message sent all) sent.batch (with-set sent all set back) (by (earlier sent.batch) refl reached)
+    where
+      all = arrived_of sent.batch.domain sent.batch.workflow old
+      set = set_of_workflow sent.batch.domain sent.batch.workflow old is
+
+      has : Has (with_message sent all) sent.batch
+      has = first-there sent.batch sent.second all set message.back fresh.0
+
+      more : IsPart all (with_message sent all)
+      more = part-more-of sent.batch sent.second all set message.back
+
+      from : (key : BatchKey) → earlier sent.batch ≡ Some key → (o : Option Batch) → batch_at key (learned all) ≡ o → is_some o ≡ true → ReachesTop (with_message sent all) sent.batch
+      from key e None at some = absurd (cc)
+      from key e (Some before) at some =
+          let named : before.key ≡ key = found-key (learned all) key before at in
+          let has_before : Has (learned all) before = ap (λ (k : BatchKey). batch_at k (learned all)) named ∙ at in
+          let reaches : ReachesTop (with_message sent all) before = reaches-more all (with_message sent all) before more (learned-reaches all before set has_before) in
+          let there_is : batch_at key (with_message sent all) ≡ Some before = ap (λ (k : BatchKey). batch_at k (with_message sent all)) (sym named) ∙ reached-has reaches in
+          up sent.batch before key has e there_is reaches
+        where
+          reached-has : ReachesTop (with_message sent all) before → Has (with_message sent all) before
+          reached-has (top b h e) = h
+          reached-has (up b x k h e f r) = h
+
+      by : (o : Option BatchKey) → earlier sent.batch ≡ o → has_key o (learned all) ≡ true → ReachesTop (with_message sent all) sent.batch
+      by None e h = top sent.batch has e
+      by (Some key) e h = from key e (batch_at key (learned all)) refl h
+
+  -- the message of what is written is there
+  pub written-there : has_key (earlier sent.batch) (learned_of sent.batch.domain sent.batch.workflow old) ≡ true → AllByRecursion (HasCarrier old) old.arrived
+      → message_at new (place_of sent.batch) ≡ Some (entry_message entry new)
+  written-there reached carried =
+      let d = sent.batch.domain in
+      let w = sent.batch.workflow in
+      let all = arrived_of d w old in
+      sym (at-place new (place_of sent.batch)) ∙ ap (λ (bs : List Batch). own_message_of bs (batch_at sent.batch.key (learned bs))) (here d w (own-names sent.batch))
+      ∙ new-own all (set_of_workflow d w old is) sent message lone fresh (is-learned reached) own (none-carried-in old.arrived carried)
+      ∙ ap (λ (bs : List Batch). Some (record { batch = sent.batch; history = versions_of (history_of (path_to sent.batch.key (learned bs))); second = sent.second })) (sym (here d w (own-names sent.batch)))
+
+-- places of which each has a message: their count, and what stands at one of them
+pub many-sent : (cell : Cell) (places : List Place) → AllByRecursion (IsSent cell) places → length places ≡ length (messages_at places cell)
+many-sent cell [] all = refl
+many-sent cell (place ∷ places) all = by (message_at cell place) all.0 (many-sent cell places all.1)
+  where
+    by : (o : Option Message) → is_some o ≡ true → length places ≡ length (messages_at places cell) → suc (length places) ≡ length (option_to_list o ++ messages_at places cell)
+    by None some rest = absurd (cc)
+    by (Some sent) some rest = ap suc rest
+
+pub sent-at : (cell : Cell) (places : List Place) → AllByRecursion (IsSent cell) places → (i : ℕ) (place : Place) → slice_get places i ≡ Some place → slice_get (messages_at places cell) i ≡ message_at cell place
+sent-at cell [] all i place at = absurd (cc)
+sent-at cell (first ∷ places) all zero place at = by (message_at cell first) refl all.0
+  where
+    same : first ≡ place
+    same = cc
+
+    by : (o : Option Message) → message_at cell first ≡ o → is_some o ≡ true → slice_get (option_to_list o ++ messages_at places cell) 0 ≡ message_at cell place
+    by None e some = absurd (cc)
+    by (Some sent) e some = sym e ∙ ap (message_at cell) same
+sent-at cell (first ∷ places) all (suc i) place at = by (message_at cell first) all.0 (sent-at cell places all.1 i place at)
+  where
+    by : (o : Option Message) → is_some o ≡ true → slice_get (messages_at places cell) i ≡ message_at cell place → slice_get (option_to_list o ++ messages_at places cell) (suc i) ≡ message_at cell place
+    by None some rest = absurd (cc)
+    by (Some sent) some rest = rest
+
+-- nothing was written
+pub none-sent : (cell : Cell) → cell.arrived ≡ [] → AreSent [] cell
+none-sent cell none = record { sent = tt; carried = subst (AllByRecursion (HasCarrier cell)) (sym none) tt }
+
+-- a message arrives, and may be known
+module _ (sent : Message) (old : Cell) (places : List Place) (is : IsCell old) (may : MayArrive sent old) where
+  pub arrived-sent : AreSent places old → AreSent places (arrived_at sent old)
+  unfolding arrived_at
+  arrived-sent are = by (has_arrived sent.batch old) refl
+    where
+      by : (t : Bool) → has_arrived sent.batch old ≡ t → AreSent places (if t then old else cell_with sent old)
+      by true known = are
+      by false new = are-sent old (cell_with sent old) sent refl is may.message may.lone may.own (may.new new) places are
+
+  pub arrived-messages : AreSent places old → messages_at places (arrived_at sent old) ≡ messages_at places old
+  unfolding arrived_at
+  arrived-messages are = by (has_arrived sent.batch old) refl
+    where
+      by : (t : Bool) → has_arrived sent.batch old ≡ t → messages_at places (if t then old else cell_with sent old) ≡ messages_at places old
+      by true known = refl
+      by false new = messages-stay old (cell_with sent old) sent refl is may.message may.lone may.own (may.new new) places are.sent
+
+-- an entry is written whose batch none carries
+module _ (entry : Entry) (old : Cell) (places : List Place) (is : IsCell old) (lone : entry.batch.carrier ≡ None)
+    (may : MayBeWritten (carrying entry.batch entry.second) (workflow_of entry.batch.domain entry.batch.workflow old)) (are : AreSent places old) where
+  abbrev sent : Message
+  sent = carrying entry.batch entry.second
+
+  there-now : message_at (with_batches entry old) (place_of entry.batch) ≡ Some (entry_message entry (with_batches entry old))
+  there-now = written-there old (with_batches entry old) sent refl is may.message lone may.own may.fresh may.reached are.carried
+
+  pub written-messages : messages_at (places ++ place_of entry.batch ∷ []) (with_batches entry old) ≡ messages_at places old ++ entry_message entry (with_batches entry old) ∷ []
+  written-messages =
+      joined places (place_of entry.batch) (entry_message entry (with_batches entry old)) there-now
+      ∙ ap (λ (ms : List Message). ms ++ entry_message entry (with_batches entry old) ∷ []) (messages-stay old (with_batches entry old) sent refl is may.message lone may.own may.fresh places are.sent)
+    where
+      joined : (ps : List Place) (place : Place) (m : Message) → message_at (with_batches entry old) place ≡ Some m
+          → messages_at (ps ++ place ∷ []) (with_batches entry old) ≡ messages_at ps (with_batches entry old) ++ m ∷ []
+      joined [] place m e = ap (λ (o : Option Message). option_to_list o ++ []) e
+      joined (p ∷ ps) place m e =
+          ap (λ (ms : List Message). option_to_list (message_at (with_batches entry old) p) ++ ms) (joined ps place m e)
+          ∙ sym (append_assoc (option_to_list (message_at (with_batches entry old) p)) (messages_at ps (with_batches entry old)) (m ∷ []))
+
+  pub written-sent : AreSent (places ++ place_of entry.batch ∷ []) (with_batches entry old)
+  written-sent =
+      let stay = are-sent old (with_batches entry old) sent refl is may.message lone may.own may.fresh places are in
+      record { sent = more places stay.sent; carried = stay.carried }
+    where
+      more : (ps : List Place) → AllByRecursion (IsSent (with_batches entry old)) ps → AllByRecursion (IsSent (with_batches entry old)) (ps ++ place_of entry.batch ∷ [])
+      more [] all = (ap is_some there-now, tt)
+      more (p ∷ ps) all = (all.0, more ps all.1)
