@@ -6,8 +6,8 @@ ghost use Rattle.ndc_model_sets.specs.Sets.{Rise};
 ghost use Rattle.ndc_dump_causes.specs.Causes.{closes_for, continues, is_continued_by, is_ill_formed, is_unfit_carried, is_unfit_parent, lacks_parent};
 
 use crate::found::{batch_at, named};
-use crate::ids::{first_id, last_id};
 use ndc_event::{Batch, Event, EventKind, RunId};
+use ndc_model_sets::{first_id, last_id};
 
 /// Whether the parent of a batch is not in the set.
 pub(crate) fn lacks_parent(batches: &[Batch], batch: &Batch) -> bool

@@ -6,7 +6,6 @@ pub mod causes;
 mod chains;
 mod error;
 pub mod found;
-pub mod ids;
 pub mod keys;
 mod order;
 mod originals;

@@ -1,5 +1,5 @@
 -- What is served lies between the ends of the gap.
-use Rattle.std.proofs.Common.{◌≡◌, ℕ, ◌+◌, ◌-◌, ◌<◌, ◌≤◌, Bool, true, false, cond, List, [], ◌∷◌, ◌++◌, length, slice_get, nat_lt, ◌&&◌, ◌==◌, Some, refl, sym, ap, subst, ◌∙◌, arith}
+use Rattle.std.proofs.Common.{◌≡◌, ℕ, ◌+◌, ◌<◌, ◌≤◌, Bool, true, false, cond, List, [], ◌∷◌, ◌++◌, nat_lt, ◌&&◌, ◌==◌, Some, refl, sym, ap, subst, ◌∙◌, arith}
 use Rattle.std.specs.List.{AllByRecursion}
 use Rattle.std.proofs.lemmas.Bool.{eqb-true, le-ltb, lt-ltb}
 use Rattle.std.proofs.lemmas.List.Elements.{filter-append}
@@ -16,20 +16,6 @@ use Rattle.ndc_state.specs.Replay.{history_of}
 use Rattle.ndc_model_sets.proofs.FaultLemmas.{passes}
 use Rattle.ndc_model_sets.proofs.PathIds.{ends, ends-last, follow-front, follow-rest, history-append, path-events}
 use Rattle.ndc_model_sets.proofs.PathLemmas.{path_is}
-
--- the last of events, by its place
-last-place : (e : Event) (es : List Event) → slice_get (e ∷ es) (length es) ≡ Some (last_from e es)
-last-place e [] = refl
-last-place e (f ∷ fs) = last-place f fs
-
--- the id of the event at the last place
-pub last_id_is : (events : List Event) (e : Event) → slice_get events (length events - 1) ≡ Some e → last_id events ≡ e.id
-last_id_is [] e h = absurd (cc)
-last_id_is (f ∷ fs) e h =
-    let place : length (f ∷ fs) - 1 ≡ length fs = omega arith in
-    let same : Some (last_from f fs) ≡ Some e = sym (last-place f fs) ∙ sym (ap (slice_get (f ∷ fs)) place) ∙ h in
-    let one : last_from f fs ≡ e = cc in
-    ap (λ event. event.id) one
 
 -- a batch has an event
 pub record HasEvents (b : Batch) : Type 0 where

@@ -1,9 +1,10 @@
 ghost use Rattle.std.specs.Prelude.{◌≡◌};
 ghost use Rattle.ndc_resend.specs.Gaps.{first_item, gap_of};
 
-use crate::serving::{Gap, first_id};
+use crate::serving::Gap;
 use ndc_event::Batch;
 use ndc_history::{Item, VersionHistory, best_common};
+use ndc_model_sets::first_id;
 
 /// The gap before an event: behind the item with the greatest id that one of the local histories has in common
 /// with the remote one; behind id 0 and version 0 where none has an item in common. Takes no memory.

@@ -1,9 +1,9 @@
 ghost use Rattle.std.specs.Prelude.{◌≡◌, IfOk};
 ghost use Rattle.ndc_resend.specs.Gaps.{is_between, served};
-ghost use Rattle.ndc_model_sets.specs.Paths.{first_id, last_id};
 
-use ndc_event::{Batch, Event};
+use ndc_event::Batch;
 use ndc_history::Item;
+use ndc_model_sets::{first_id, last_id};
 use std::alloc::{AllocError, Global};
 
 /// A gap in a run: what comes after one event and before another one, each by its id and version.
@@ -13,26 +13,6 @@ pub struct Gap {
     pub after: Item,
     /// The first event behind the gap.
     pub before: Item,
-}
-
-/// The id of the first event, 0 where there is none.
-pub(crate) fn first_id(events: &[Event]) -> u64
-    ensures { result ≡ first_id events.now }
-{
-    match events.first() {
-        Some(event) => event.id,
-        None => 0,
-    }
-}
-
-/// The id of the last event, 0 where there is none.
-fn last_id(events: &[Event]) -> u64
-    ensures { result ≡ last_id events.now }
-{
-    match events.last() {
-        Some(event) => event.id,
-        None => 0,
-    }
 }
 
 /// Whether all events of the batch come behind the one end of the gap and before the other. Takes no memory.

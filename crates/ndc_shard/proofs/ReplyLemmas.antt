@@ -1,5 +1,5 @@
 -- What a command or a reset replies, and the cell behind it.
-use Rattle.std.proofs.Common.{◌≡◌, ◌≢◌, List, Result, Ok, Err, IfErr, OnOk, refl, sym, ◌∙◌, ap}
+use Rattle.std.proofs.Common.{◌≡◌, ◌≢◌, List, Result, Ok, Err, IfErr, OnOk, OnErr, refl, sym, ◌∙◌, ap}
 use Rattle.ndc_model_cells.specs.Cells.{Cell}
 use Rattle.ndc_model_cells.specs.Jobs.{written_at, written_now, written_outcome}
 use Rattle.ndc_model_cells.specs.Writing.{Entry}
@@ -31,3 +31,8 @@ cell-same asked (Err error) old new gives calm done kept = kept (λ e. calm (ap 
     by : (asked : Result (List Entry) CommandError) → batches_written asked ≡ Err error → old ≡ written_at asked old
     by (Ok entries) e = absurd (cc)
     by (Err other) e = refl
+
+-- what is kept anyway is kept where it is refused
+pub kept_anyway : {A P : Type 0} (r : Result A CommandError) → OnErr r P → IfErr r (λ error. error ≢ Memory → P)
+kept_anyway (Ok x) kept = tt
+kept_anyway (Err error) kept = λ calm. kept

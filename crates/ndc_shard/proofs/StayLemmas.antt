@@ -1,7 +1,8 @@
 -- The own message of a learned batch stays where a message arrives that carries nothing of it.
 use Rattle.std.proofs.Common.{◌≡◌, Bool, true, false, List, [], ◌∷◌, Option, Some, None, refl, sym, ◌∙◌, ap, subst, if◌then◌else◌, find, arith}
-use Rattle.std.specs.Prelude.{IfSome, is_some, option_to_list, option_or, ◌&&◌}
+use Rattle.std.specs.Prelude.{IfSome, is_some, option_to_list, ◌&&◌}
 use Rattle.std.specs.List.{AllByRecursion}
+use Rattle.std.specs.Option.{option_or}
 use Rattle.ndc_event.specs.Key.{key_eq, key_lt}
 use Rattle.ndc_event.specs.declared.batch.Batch.{Batch}
 use Rattle.ndc_event.specs.declared.key.BatchKey.{BatchKey}
@@ -28,21 +29,21 @@ use Rattle.ndc_state.specs.Replay.{history_of}
 
 -- what is found stays found where a batch arrives that is not it
 find-arrived : (p : Batch → Bool) (new : Batch) (bs : List Batch) → p new ≡ false → find p (arrived new bs) ≡ find p bs
-find-arrived p new [] no = ap (λ (t : Bool). if t then Some new else None) no
-find-arrived p new (b ∷ bs) no = by (key_lt new.key b.key) (key_eq new.key b.key) refl refl (find-arrived p new bs no)
+find-arrived p new [] never = ap (λ (t : Bool). if t then Some new else None) never
+find-arrived p new (b ∷ bs) never = by (key_lt new.key b.key) (key_eq new.key b.key) refl refl (find-arrived p new bs never)
   where
     by : (t u : Bool) → key_lt new.key b.key ≡ t → key_eq new.key b.key ≡ u → find p (arrived new bs) ≡ find p bs → find p (arrived new (b ∷ bs)) ≡ find p (b ∷ bs)
-    by true u e f rest = rw e (ap (λ (t : Bool). if t then Some new else find p (b ∷ bs)) no)
+    by true u e f rest = rw e (ap (λ (t : Bool). if t then Some new else find p (b ∷ bs)) never)
     by false true e f rest = rw (e, f) refl
     by false false e f rest = rw (e, f) (ap (λ (o : Option Batch). if p b then Some b else o) rest)
 
 -- the batch is found where nothing was, and its key is new
 find-new : (p : Batch → Bool) (new : Batch) (bs : List Batch) → p new ≡ true → find p bs ≡ None → batch_at new.key bs ≡ None → find p (arrived new bs) ≡ Some new
-find-new p new [] yes none fresh = ap (λ (t : Bool). if t then Some new else None) yes
-find-new p new (b ∷ bs) yes none fresh = by (key_lt new.key b.key) (key_eq new.key b.key) (p b) refl refl refl (find-new p new bs yes)
+find-new p new [] holds none fresh = ap (λ (t : Bool). if t then Some new else None) holds
+find-new p new (b ∷ bs) holds none fresh = by (key_lt new.key b.key) (key_eq new.key b.key) (p b) refl refl refl (find-new p new bs holds)
   where
     by : (t u v : Bool) → key_lt new.key b.key ≡ t → key_eq new.key b.key ≡ u → p b ≡ v → (find p bs ≡ None → batch_at new.key bs ≡ None → find p (arrived new bs) ≡ Some new) → find p (arrived new (b ∷ bs)) ≡ Some new
-    by true u v e f g rest = rw e (ap (λ (t : Bool). if t then Some new else find p (b ∷ bs)) yes)
+    by true u v e f g rest = rw e (ap (λ (t : Bool). if t then Some new else find p (b ∷ bs)) holds)
     by false true v e f g rest =
         let same : new.key ≡ b.key = same-keys new.key b.key f in
         let here : key_eq b.key new.key ≡ true = ap (key_eq b.key) same ∙ key_eq-self b.key in
@@ -116,7 +117,8 @@ module _ (all : List Batch) (set : IsSet all) (new : Message) (message : IsMessa
       let path : path_to b.key (learned all) ≡ path_to b.key (learned (with_message new all)) =
       part-path (learned all) (learned (with_message new all)) b before.0 before.1 after.0 after.1 learned-part has in
       let second : find (carries b) (with_message new all) ≡ find (carries b) all = carried-stays all set b (learned-has all set b has) new.batch new.second message.second lone fresh.0 in
-      λ i. if is_some b.carrier then None else Some (record { batch = b; history = versions_of (history_of (path (~ i))); second = second i })
+      let again : path_to b.key (learned (with_message new all)) ≡ path_to b.key (learned all) = sym path in
+      λ i. if is_some b.carrier then None else Some (record { batch = b; history = versions_of (history_of (again i)); second = second i })
 
   -- the message of a key
   pub key-stays : (key : BatchKey) → is_some (own_message_of all (batch_at key (learned all))) ≡ true
@@ -136,10 +138,10 @@ module _ (all : List Batch) (set : IsSet all) (new : Message) (message : IsMessa
       → find (carries new.batch) all ≡ None → find (carries new.batch) (arrived_second o (arrived new.batch all)) ≡ o
   carried-new None carried own apart none = find-arrived (carries new.batch) new.batch all (not-carried new.batch new.batch lone) ∙ none
   carried-new (Some s) carried own apart none =
-      find-new (carries new.batch) s (arrived new.batch all) yes (find-arrived (carries new.batch) new.batch all (not-carried new.batch new.batch lone) ∙ none) fresh-second
+      find-new (carries new.batch) s (arrived new.batch all) is-carried (find-arrived (carries new.batch) new.batch all (not-carried new.batch new.batch lone) ∙ none) fresh-second
     where
-      yes : carries new.batch s ≡ true
-      yes =
+      is-carried : carries new.batch s ≡ true
+      is-carried =
           ap (λ (t : Bool). t && is_wanted s.carrier new.batch) own
           ∙ ap (λ (k : Option BatchKey). is_wanted k new.batch) carried.carrier ∙ key_eq-self new.batch.key
 

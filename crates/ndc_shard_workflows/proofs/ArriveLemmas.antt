@@ -57,6 +57,10 @@ module _ (sent : Message) (domains : List (Name × DomainValue)) (are : AreDomai
   pub learned-there : made_learned sent there ≡ learned_by sent (cell_of domains)
   learned-there = sym (learned-same sent (cell_of domains) (is-cell domains are) (waiting-ordered domains are) may.message.back may.own ∙ ap (made_learned sent) own-there)
 
+  -- the workflow there behind it is that of the cell behind it
+  pub after-there : after_arrival sent there ≡ workflow_of sent.batch.domain sent.batch.workflow (cells.arrived_at sent (cell_of domains))
+  after-there = sym (workflow-same sent (cell_of domains) (is-cell domains are) (waiting-ordered domains are) may.message.back may.own ∙ ap (after_arrival sent) own-there)
+
   pub cell-there : (workflows : DomainValue) (after : List (Name × DomainValue)) → IsPut sent.batch.domain workflows domains after → AreDomains after
       → IsPut sent.batch.workflow (after_arrival sent there) (workflows_in o) workflows → cell_of after ≡ cells.arrived_at sent (cell_of domains)
   cell-there workflows after outer later inner =

@@ -56,17 +56,18 @@ module _ (names : Name × Name) (before after : Names) (put : (d w : Name) → i
       itself : is_named names.0 names.1 names ≡ true
       itself = ap (λ t. t && (bytes_eq names.1 names.1)) (name-itself names.0) ∙ name-itself names.1
 
--- a message arrives, and its workflow is listed
-pub hold-arrived : (sent : Message) (cell : Cell) (before after : Names) → MayArrive sent cell → HoldDue before cell → IsListedWhereDue sent.batch.domain sent.batch.workflow (arrived_at sent cell) before after
-    → HoldDue after (arrived_at sent cell)
-hold-arrived sent cell before after may hold listed d w e = by (is_of d w sent.batch) refl
+-- a message arrives, and its workflow is listed where reapplication may be due in it
+pub hold-arrived : (sent : Message) (cell : Cell) (may_be_due : Bool) (before after : Names) → MayArrive sent cell → HoldDue before cell
+    → (may_be_due ≡ false → is_due (learned_of sent.batch.domain sent.batch.workflow (arrived_at sent cell)) ≡ false)
+    → IsListedWhereDue sent.batch.domain sent.batch.workflow may_be_due before after → HoldDue after (arrived_at sent cell)
+hold-arrived sent cell may_be_due before after may hold due listed d w e = by (is_of d w sent.batch) refl
   where
     by : (t : Bool) → is_of d w sent.batch ≡ t → is_due (learned_of d w (arrived_at sent cell)) ≡ false
     by true f =
         let names = names-of d w sent.batch f in
         subst (λ (k : Name). is_due (learned_of k w (arrived_at sent cell)) ≡ false) names.0
         (subst (λ (k : Name). is_due (learned_of sent.batch.domain k (arrived_at sent cell)) ≡ false) names.1
-        (listed.own (subst (λ (k : Name). is_listed k sent.batch.workflow after ≡ false) (sym names.0) (subst (λ (k : Name). is_listed d k after ≡ false) (sym names.1) e))))
+        (due (listed.own (subst (λ (k : Name). is_listed k sent.batch.workflow after ≡ false) (sym names.0) (subst (λ (k : Name). is_listed d k after ≡ false) (sym names.1) e)))))
     by false f = ap is_due (others_learned_by d w sent cell f (second-other d w sent.batch sent.second f may.own)) ∙ hold d w (listed.kept d w e)
 
 -- a batch is written that leaves no stray, or its workflow is listed
@@ -101,7 +102,7 @@ module _ (entry : Entry) (cell : Cell) (is : IsCell cell) (workflow : IsWorkflow
       alone : with_message sent (learned own.arrived) ≡ arrived entry.batch (learned own.arrived)
       alone = ap (λ (o : Option Batch). with_message (carrying entry.batch o) (learned own.arrived)) none
 
-  pub hold-written : (before after : Names) → HoldDue before cell → IsListedBefore entry.batch entry.second cell before after → HoldDue after (with_batches entry cell)
+  pub hold-written : (before after : Names) → HoldDue before cell → IsListedBefore entry.batch entry.second (learned own.arrived) before after → HoldDue after (with_batches entry cell)
   hold-written before after hold listed d w e = by (is_of d w entry.batch) refl
     where
       by : (t : Bool) → is_of d w entry.batch ≡ t → is_due (learned_of d w (with_batches entry cell)) ≡ false
@@ -113,6 +114,6 @@ module _ (entry : Entry) (cell : Cell) (is : IsCell cell) (workflow : IsWorkflow
       by false f = ap is_due (others_learned d w entry cell f (second-other d w entry.batch entry.second f may.own)) ∙ hold d w (listed.kept d w e)
 
   pub hold-either : {A E : Type 0} (r : Result A E) (before after : Names) (new : Cell) → OnOk r (new ≡ with_batches entry cell) → OnErr r (new ≡ cell) → HoldDue before cell
-      → IsListedBefore entry.batch entry.second cell before after → HoldDue after new
-  hold-either (Ok x) before after new e f hold listed = subst (HoldDue after) (sym e) (hold-written before after hold listed)
-  hold-either (Err x) before after new e f hold listed = subst (HoldDue after) (sym f) (hold-more before after cell listed.kept hold)
+      → OnOk r (IsListedBefore entry.batch entry.second (learned own.arrived) before after) → ((d w : Name) → is_listed d w after ≡ false → is_listed d w before ≡ false) → HoldDue after new
+  hold-either (Ok x) before after new e f hold listed kept = subst (HoldDue after) (sym e) (hold-written before after hold listed)
+  hold-either (Err x) before after new e f hold listed kept = subst (HoldDue after) (sym f) (hold-more before after cell kept hold)

@@ -30,3 +30,4 @@ pub mod PutOffLemmas
 pub mod SameLemmas
 pub mod WaitLemmas
 pub mod WriteLemmas
+pub mod PlaceLemmas

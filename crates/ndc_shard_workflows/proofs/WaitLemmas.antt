@@ -56,16 +56,17 @@ others-still d w sent cell other none = by (cells.has_arrived sent.batch cell)
         none-kept (λ m. is_of d w m.batch) (λ m. not (is_learned_in (cells.cell_with sent cell) m.batch)) (message_placed sent cell.waiting) (placed-other (is_of d w) sent cell.waiting other ∙ none)
 
 -- a message arrives, and its workflow is listed where something is put off of it
-pub behind-arrived : (sent : Message) (cell : Cell) (before after : Names) → HoldBehind before cell → IsListedWhereBehind sent.batch.domain sent.batch.workflow (arrived_at sent cell) before after
-    → HoldBehind after (arrived_at sent cell)
-behind-arrived sent cell before after hold listed d w e = by (is_of d w sent.batch) refl
+pub behind-arrived : (sent : Message) (cell : Cell) (is_behind : Bool) (before after : Names) → HoldBehind before cell
+    → (is_behind ≡ false → (workflow_of sent.batch.domain sent.batch.workflow (arrived_at sent cell)).waiting ≡ [])
+    → IsListedWhereBehind sent.batch.domain sent.batch.workflow is_behind before after → HoldBehind after (arrived_at sent cell)
+behind-arrived sent cell is_behind before after hold none listed d w e = by (is_of d w sent.batch) refl
   where
     by : (t : Bool) → is_of d w sent.batch ≡ t → (workflow_of d w (arrived_at sent cell)).waiting ≡ []
     by true f =
         let names = names-of d w sent.batch f in
         subst (λ (k : Name). (workflow_of k w (arrived_at sent cell)).waiting ≡ []) names.0
         (subst (λ (k : Name). (workflow_of sent.batch.domain k (arrived_at sent cell)).waiting ≡ []) names.1
-        (listed.own (subst (λ (k : Name). is_listed k sent.batch.workflow after ≡ false) (sym names.0) (subst (λ (k : Name). is_listed d k after ≡ false) (sym names.1) e))))
+        (none (listed.own (subst (λ (k : Name). is_listed k sent.batch.workflow after ≡ false) (sym names.0) (subst (λ (k : Name). is_listed d k after ≡ false) (sym names.1) e)))))
     by false f = others-still d w sent cell f (hold d w (listed.kept d w f e))
 
 -- what is written leaves what is put off
@@ -75,8 +76,8 @@ behind-either entry cell (Ok x) list new e f hold = subst (HoldBehind list) (sym
 behind-either entry cell (Err x) list new e f hold = subst (HoldBehind list) (sym f) hold
 
 -- a workflow was put to the others, or taken from them
-module _ (domain workflow : Name) (cell : Cell) (before after : Names) where
-  pub listed-put : ((d w : Name) → is_listed d w after ≡ (is_named d w (domain, workflow) || is_listed d w before)) → IsListedWhereBehind domain workflow cell before after
+module _ (domain workflow : Name) (is_behind : Bool) (before after : Names) where
+  pub listed-put : ((d w : Name) → is_listed d w after ≡ (is_named d w (domain, workflow) || is_listed d w before)) → IsListedWhereBehind domain workflow is_behind before after
   listed-put put = record { kept = λ d w n e. sym (ap (λ t. t || is_listed d w before) n) ∙ sym (put d w) ∙ e; own = λ e. absurd (true≢false (sym own-there ∙ e)) }
     where
       itself : is_named domain workflow (domain, workflow) ≡ true
@@ -85,8 +86,8 @@ module _ (domain workflow : Name) (cell : Cell) (before after : Names) where
       own-there : is_listed domain workflow after ≡ true
       own-there = put domain workflow ∙ ap (λ t. t || is_listed domain workflow before) itself
 
-  pub listed-taken : ((d w : Name) → is_listed d w after ≡ (not (is_named d w (domain, workflow)) && is_listed d w before)) → (workflow_of domain workflow cell).waiting ≡ []
-      → IsListedWhereBehind domain workflow cell before after
+  pub listed-taken : ((d w : Name) → is_listed d w after ≡ (not (is_named d w (domain, workflow)) && is_listed d w before)) → is_behind ≡ false
+      → IsListedWhereBehind domain workflow is_behind before after
   listed-taken taken none = record { kept = λ d w n e. sym (ap (λ t. not t && is_listed d w before) n) ∙ sym (taken d w) ∙ e; own = λ e. none }
 
 -- what is put off of a workflow of the cell

@@ -11,6 +11,11 @@ use Rattle.ndc_shard_workflows.specs.Writing.{MayBeWritten}
 use Rattle.ndc_shard_workflows.proofs.BehindLemmas.{batches-behind, found-others, found-there}
 use Rattle.ndc_shard_workflows.proofs.DomainLemmas.{workflow-there}
 
+-- the workflow of these names, in what stands under the domain
+pub found-in : (domain workflow : Name) (domains : List (Name × DomainValue)) → AreDomains domains → (o : Option DomainValue) → under domain domains ≡ o
+    → workflow_of domain workflow (cell_of domains) ≡ workflow_or_empty (under workflow (workflows_in o))
+found-in domain workflow domains are o at = workflow-there domains are domain workflow ∙ ap (λ x. workflow_or_empty (under workflow (workflows_in x))) at
+
 module _ (entry : Entry) (domains : List (Name × DomainValue)) (are : AreDomains domains)
     (may : MayBeWritten (carrying entry.batch entry.second) (workflow_of entry.batch.domain entry.batch.workflow (cell_of domains))) (o : Option DomainValue)
     (at : under entry.batch.domain domains ≡ o) where
@@ -19,7 +24,7 @@ module _ (entry : Entry) (domains : List (Name × DomainValue)) (are : AreDomain
   there = workflow_or_empty (under entry.batch.workflow (workflows_in o))
 
   own-there : workflow_of entry.batch.domain entry.batch.workflow (cell_of domains) ≡ there
-  own-there = workflow-there domains are entry.batch.domain entry.batch.workflow ∙ ap (λ x. workflow_or_empty (under entry.batch.workflow (workflows_in x))) at
+  own-there = found-in entry.batch.domain entry.batch.workflow domains are o at
 
   pub may-there : MayBeWritten (carrying entry.batch entry.second) there
   may-there = subst (MayBeWritten (carrying entry.batch entry.second)) own-there may

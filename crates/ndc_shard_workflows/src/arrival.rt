@@ -15,6 +15,16 @@ pub struct Arrival {
     pub learned: Batches,
 }
 
+/// What comes of the arrival of a message, and how its workflow stands then.
+#[derive(Drop)]
+pub(crate) struct Received {
+    pub(crate) arrival: Arrival,
+    /// Whether reapplication may be due, by what is known of the workflow.
+    pub(crate) may_be_due: bool,
+    /// Whether something is put off of the workflow.
+    pub(crate) is_behind: bool,
+}
+
 /// The batches of messages, each followed by the one that it carries.
 fn batches_in(alloc: Global, messages: Vec<Message>) -> Result<Vec<Batch>, AllocError>
     ensures { IfOk result (λ batches. batches.items ≡ batches_of messages.items) }

@@ -1,7 +1,20 @@
-ghost use Rattle.std.specs.Prelude.{◌≡◌, ◌++◌, OnOk};
+ghost use Rattle.std.specs.Prelude.{◌≡◌, ◌++◌, [], true, false, None, IfOk, OnOk, OnErr};
+ghost use Rattle.std.specs.List.{AllByRecursion};
+ghost use Rattle.std.specs.Option.{option_copied};
+ghost use Rattle.ndc_event.specs.declared.name.Name.{Name as Text};
+ghost use Rattle.ndc_model_cells.specs.Cells.{both};
+ghost use Rattle.ndc_model_cells.specs.Messages.{carrying, HasSmallIds, IsMessage, IsNewTo};
+ghost use Rattle.ndc_model_sets.specs.Learned.{learned};
+ghost use Rattle.ndc_model_sets.specs.Sound.{IsSound};
+ghost use Rattle.ndc_shard_runs.specs.Kept.{is_due, StaysSettled};
+ghost use Rattle.ndc_shard_workflows.specs.Due.{is_listed};
+ghost use Rattle.ndc_shard_workflows.specs.Listed.{IsListedBefore};
 ghost use Rattle.ndc_shard_workflows.specs.Reading.{learned_in_domain, named_where_learned};
+ghost use Rattle.ndc_shard_workflows.specs.Workflow.{after_arrival, answer_to, empty_workflow, has_arrived, made_learned, with_written};
+ghost use Rattle.ndc_shard_workflows.specs.Writing.{MayBeWritten};
 
-use crate::arrival::Arrival;
+use crate::arrival::Received;
+use crate::listing::Listing;
 use crate::workflow::Workflow;
 use ndc_event::{Batch, Name};
 use ndc_model_cells::Message;
@@ -61,6 +74,79 @@ fn add_learned(
     Ok(())
 }
 
+/// A message arrives in its workflow. For want of memory nothing has arrived any more: the workflow is empty.
+fn receive<L>(
+    workflow: &mut Workflow,
+    alloc: Global,
+    message: Message,
+    steps: &mut Steps<L>,
+) -> Result<Received, AllocError>
+    requires message { IsMessage message }
+    requires new { has_arrived message.batch.key workflow.old ≡ false → IsNewTo workflow.old.arrived message }
+    requires sound { IsSound (learned (after_arrival message workflow.old).arrived) }
+    requires ids { AllByRecursion HasSmallIds (both message) }
+    ensures outcome { IfOk result (λ received. received.arrival.outcome ≡ answer_to message workflow.old) }
+    ensures learned { IfOk result (λ received. received.arrival.learned ≡ made_learned message workflow.old) }
+    ensures due { IfOk result (λ received. received.may_be_due ≡ false → is_due (learned (after_arrival message workflow.old).arrived) ≡ false) }
+    ensures behind { IfOk result (λ received. received.is_behind ≡ false → (after_arrival message workflow.old).waiting ≡ []) }
+    ensures ok { OnOk result (workflow.new ≡ after_arrival message workflow.old) }
+    ensures err { OnErr result (workflow.new ≡ empty_workflow) }
+{
+    let arrival = workflow.arrive(alloc, message, steps)?;
+    Ok(Received {
+        arrival,
+        may_be_due: workflow.runs().may_be_due(),
+        is_behind: !workflow.put_off().is_empty(),
+    })
+}
+
+/// Learns a batch that is written in this cell, and the one that it carries, in their workflow, which is listed before,
+/// unless the batch leaves no stray. For want of memory nothing changes but for what is listed.
+fn write_to<L>(
+    workflow: &mut Workflow,
+    alloc: Global,
+    batch: &Batch,
+    second: Option<&Batch>,
+    due: &mut Listing,
+    steps: &mut Steps<L>,
+) -> Result<(), AllocError>
+    requires { MayBeWritten (carrying batch.now (option_copied second)) workflow.old }
+    ensures ok { OnOk result (workflow.new ≡ with_written (carrying batch.now (option_copied second.entry)) workflow.old) }
+    ensures err { OnErr result (workflow.new ≡ workflow.old) }
+    ensures listed { OnOk result (IsListedBefore batch.now (option_copied second.entry) (learned workflow.old.arrived) due.old due.new) }
+    ensures kept { (d w : Text) → is_listed d w due.new ≡ false → is_listed d w due.old ≡ false }
+{
+    list_before(workflow, due, batch, second)?;
+    workflow.write(alloc, batch, second, steps)
+}
+
+/// Lists the workflow of a batch that is to be written, unless the batch leaves no stray, by what is known of it.
+fn list_before(
+    workflow: &Workflow,
+    due: &mut Listing,
+    batch: &Batch,
+    second: Option<&Batch>,
+) -> Result<(), AllocError>
+    ensures ok { OnOk result (IsListedBefore batch.now (option_copied second.entry) (learned workflow.now.arrived) due.old due.new) }
+    ensures err { OnErr result (due.new ≡ due.old) }
+{
+    if stays_settled(workflow, batch, second) {
+        return Ok(());
+    }
+    due.put(&batch.domain, &batch.workflow)
+}
+
+/// Whether a batch that carries none leaves no stray in its workflow, by what is known of it.
+fn stays_settled(workflow: &Workflow, batch: &Batch, second: Option<&Batch>) -> bool
+    ensures alone { result ≡ true → option_copied second.entry ≡ None }
+    ensures settled { result ≡ true → StaysSettled batch.now (learned workflow.now.arrived) }
+{
+    if second.is_some() {
+        return false;
+    }
+    workflow.runs().stays_settled(batch)
+}
+
 impl Domain {
     ghost use Rattle.std.specs.Prelude.{◌≡◌, ◌++◌, [], map, true, false, IfOk, IfSome, OnOk, OnErr};
     ghost use Rattle.std.specs.List.{AllByRecursion};
@@ -74,6 +160,9 @@ impl Domain {
     ghost use Rattle.ndc_model_cells.specs.Messages.{IsMessage, IsNewTo};
     ghost use Rattle.ndc_model_cells.specs.Messages.{carrying, HasSmallIds};
     ghost use Rattle.ndc_shard_workflows.specs.Workflow.{has_arrived, answer_to, made_learned, after_arrival, with_written};
+    ghost use Rattle.ndc_event.specs.declared.name.Name.{Name as Text};
+    ghost use Rattle.ndc_shard_workflows.specs.Due.{is_listed};
+    ghost use Rattle.ndc_shard_workflows.specs.Listed.{IsListedBefore};
     ghost use Rattle.ndc_shard_workflows.specs.Named.{under, IsPut};
     ghost use Rattle.ndc_shard_workflows.specs.Reading.{learned_in_domain};
     ghost use Rattle.ndc_shard_workflows.specs.Workflows.{workflow_or_empty, AreOwn};
@@ -130,7 +219,7 @@ impl Domain {
         alloc: Global,
         message: Message,
         steps: &mut Steps<L>,
-    ) -> Result<Arrival, AllocError>
+    ) -> Result<Received, AllocError>
         requires own { AreOwn message.batch.domain self.old }
         requires message { IsMessage message }
         requires second { IfSome message.second (λ b. is_of message.batch.domain message.batch.workflow b ≡ true) }
@@ -138,28 +227,31 @@ impl Domain {
             → IsNewTo (workflow_or_empty (under message.batch.workflow self.old)).arrived message }
         requires sound { IsSound (learned (after_arrival message (workflow_or_empty (under message.batch.workflow self.old))).arrived) }
         requires ids { AllByRecursion HasSmallIds (both message) }
-        ensures outcome { IfOk result (λ arrival. arrival.outcome ≡ answer_to message (workflow_or_empty (under message.batch.workflow self.old))) }
-        ensures learned { IfOk result (λ arrival. arrival.learned ≡ made_learned message (workflow_or_empty (under message.batch.workflow self.old))) }
+        ensures outcome { IfOk result (λ received. received.arrival.outcome ≡ answer_to message (workflow_or_empty (under message.batch.workflow self.old))) }
+        ensures learned { IfOk result (λ received. received.arrival.learned ≡ made_learned message (workflow_or_empty (under message.batch.workflow self.old))) }
+        ensures due { IfOk result (λ received. received.may_be_due ≡ false → is_due (learned (after_arrival message (workflow_or_empty (under message.batch.workflow self.old))).arrived) ≡ false) }
+        ensures behind { IfOk result (λ received. received.is_behind ≡ false → (after_arrival message (workflow_or_empty (under message.batch.workflow self.old))).waiting ≡ []) }
         ensures ok { OnOk result (IsPut message.batch.workflow (after_arrival message (workflow_or_empty (under message.batch.workflow self.old))) self.old self.new) }
         ensures own { AreOwn message.batch.domain self.new }
     {
         if let Some(workflow) = self.workflows.get_mut(&message.batch.workflow) {
-            return workflow.arrive(alloc, message, steps);
+            return receive(workflow, alloc, message, steps);
         }
         let name = message.batch.workflow.try_copy()?;
         let mut workflow = Workflow::new(alloc);
-        let arrival = workflow.arrive(alloc, message, steps)?;
+        let received = receive(&mut workflow, alloc, message, steps)?;
         self.workflows.insert(name, workflow)?;
-        Ok(arrival)
+        Ok(received)
     }
 
-    /// Learns a batch of the domain that is written in this cell, and the one that it carries. For want of memory nothing
-    /// changes.
+    /// Learns a batch of the domain that is written in this cell, and the one that it carries, in a workflow that is listed
+    /// before, unless the batch leaves no stray. For want of memory nothing changes but for what is listed.
     pub(crate) fn write<L>(
         &mut self,
         alloc: Global,
         batch: &Batch,
         second: Option<&Batch>,
+        due: &mut Listing,
         steps: &mut Steps<L>,
     ) -> Result<(), AllocError>
         requires own { AreOwn batch.now.domain self.old }
@@ -167,13 +259,15 @@ impl Domain {
         ensures ok { OnOk result (IsPut batch.now.workflow (with_written (carrying batch.now (option_copied second.entry)) (workflow_or_empty (under batch.now.workflow self.old))) self.old self.new) }
         ensures own { AreOwn batch.now.domain self.new }
         ensures err { OnErr result (self.new ≡ self.old) }
+        ensures listed { OnOk result (IsListedBefore batch.now (option_copied second.entry) (learned (workflow_or_empty (under batch.now.workflow self.old)).arrived) due.old due.new) }
+        ensures kept { (d w : Text) → is_listed d w due.new ≡ false → is_listed d w due.old ≡ false }
     {
         if let Some(workflow) = self.workflows.get_mut(&batch.workflow) {
-            return workflow.write(alloc, batch, second, steps);
+            return write_to(workflow, alloc, batch, second, due, steps);
         }
         let name = batch.workflow.try_copy()?;
         let mut workflow = Workflow::new(alloc);
-        workflow.write(alloc, batch, second, steps)?;
+        write_to(&mut workflow, alloc, batch, second, due, steps)?;
         self.workflows.insert(name, workflow)?;
         Ok(())
     }

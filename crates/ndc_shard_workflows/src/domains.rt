@@ -3,8 +3,9 @@ ghost use Rattle.std.specs.List.{list_any};
 ghost use Rattle.std.specs.Str.{bytes_eq};
 ghost use Rattle.ndc_shard_workflows.specs.Reading.{learned_in_all, workflows_named};
 
-use crate::arrival::Arrival;
+use crate::arrival::Received;
 use crate::domain::Domain;
+use crate::listing::Listing;
 use crate::workflow::Workflow;
 use ndc_event::{Batch, Name};
 use ndc_model_cells::Message;
@@ -75,7 +76,7 @@ fn has_name(names: &[Name], name: &Name) -> bool
 }
 
 impl Domains {
-    ghost use Rattle.std.specs.Prelude.{◌≡◌, map, IfSome, IfNone, IfOk, OnOk, OnErr};
+    ghost use Rattle.std.specs.Prelude.{◌≡◌, [], false, map, IfSome, IfNone, IfOk, OnOk, OnErr};
     ghost use Rattle.std.specs.Option.{option_copied};
     ghost use Rattle.ndc_model_cells.specs.Arrival.{arrival_of, arrived_at, learned_by};
     ghost use Rattle.ndc_model_cells.specs.Cells.{empty_cell, learned_of, IsCell};
@@ -88,6 +89,8 @@ impl Domains {
     ghost use Rattle.ndc_shard_workflows.specs.Workflow.{empty_workflow, IsWorkflow};
     ghost use Rattle.ndc_model_cells.specs.Workflow.{workflow_of};
     ghost use Rattle.ndc_shard_workflows.specs.Reading.{HoldLearned, learned_workflows};
+    ghost use Rattle.ndc_shard_workflows.specs.Due.{is_listed};
+    ghost use Rattle.ndc_shard_workflows.specs.Listed.{IsListedBefore};
     ghost use Rattle.ndc_shard_workflows.specs.Writing.{MayBeWritten};
 
     /// Nothing has arrived.
@@ -161,10 +164,12 @@ impl Domains {
         alloc: Global,
         message: Message,
         steps: &mut Steps<L>,
-    ) -> Result<Arrival, AllocError>
+    ) -> Result<Received, AllocError>
         requires { MayArrive message self.old }
-        ensures outcome { IfOk result (λ arrival. arrival.outcome ≡ arrival_of message self.old) }
-        ensures learned { IfOk result (λ arrival. arrival.learned ≡ learned_by message self.old) }
+        ensures outcome { IfOk result (λ received. received.arrival.outcome ≡ arrival_of message self.old) }
+        ensures learned { IfOk result (λ received. received.arrival.learned ≡ learned_by message self.old) }
+        ensures due { IfOk result (λ received. received.may_be_due ≡ false → is_due (learned_of message.batch.domain message.batch.workflow (arrived_at message self.old)) ≡ false) }
+        ensures behind { IfOk result (λ received. received.is_behind ≡ false → (workflow_of message.batch.domain message.batch.workflow (arrived_at message self.old)).waiting ≡ []) }
         ensures cell { OnOk result (self.new ≡ arrived_at message self.old) }
     {
         if let Some(domain) = self.domains.get_mut(&message.batch.domain) {
@@ -172,30 +177,33 @@ impl Domains {
         }
         let name = message.batch.domain.try_copy()?;
         let mut domain = Domain::new(alloc);
-        let arrival = domain.arrive(alloc, message, steps)?;
+        let received = domain.arrive(alloc, message, steps)?;
         self.domains.insert(name, domain)?;
-        Ok(arrival)
+        Ok(received)
     }
 
-    /// Learns a batch that is written in this cell, and the one that it carries, in their workflow. For want of memory
-    /// nothing changes.
+    /// Learns a batch that is written in this cell, and the one that it carries, in their workflow, which is listed before,
+    /// unless the batch leaves no stray. For want of memory nothing changes but for what is listed.
     pub(crate) fn write<L>(
         &mut self,
         alloc: Global,
         batch: &Batch,
         second: Option<&Batch>,
+        due: &mut Listing,
         steps: &mut Steps<L>,
     ) -> Result<(), AllocError>
         requires { MayBeWritten (carrying batch.now (option_copied second)) (workflow_of batch.now.domain batch.now.workflow self.old) }
         ensures ok { OnOk result (self.new ≡ with_batches (record { batch = batch.now; second = option_copied second.entry }) self.old) }
         ensures err { OnErr result (self.new ≡ self.old) }
+        ensures listed { OnOk result (IsListedBefore batch.now (option_copied second.entry) (learned_of batch.now.domain batch.now.workflow self.old) due.old due.new) }
+        ensures kept { (d w : Text) → is_listed d w due.new ≡ false → is_listed d w due.old ≡ false }
     {
         if let Some(domain) = self.domains.get_mut(&batch.domain) {
-            return domain.write(alloc, batch, second, steps);
+            return domain.write(alloc, batch, second, due, steps);
         }
         let name = batch.domain.try_copy()?;
         let mut domain = Domain::new(alloc);
-        domain.write(alloc, batch, second, steps)?;
+        domain.write(alloc, batch, second, due, steps)?;
         self.domains.insert(name, domain)?;
         Ok(())
     }

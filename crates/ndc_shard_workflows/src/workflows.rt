@@ -4,21 +4,20 @@ ghost use Rattle.std.specs.Option.{option_copied, option_map};
 ghost use Rattle.ndc_model_cells.specs.Arrival.{arrival_of, arrived_at, learned_by};
 ghost use Rattle.ndc_model_cells.specs.Cells.{learned_of, IsCell};
 ghost use Rattle.ndc_model_cells.specs.Places.{place_of};
-ghost use Rattle.ndc_shard_runs.specs.Kept.{is_due, StaysSettled};
+ghost use Rattle.ndc_shard_runs.specs.Kept.{is_due};
 ghost use Rattle.ndc_model_cells.specs.Allowed.{MayArrive};
 ghost use Rattle.ndc_shard_workflows.specs.Workflow.{put_off_in as put_off_of, IsWorkflow};
 ghost use Rattle.ndc_model_cells.specs.Workflow.{workflow_of};
 ghost use Rattle.ndc_shard_workflows.specs.Behind.{HoldBehind, first_behind, first_batch};
 ghost use Rattle.ndc_shard_workflows.specs.Due.{HoldDue};
-ghost use Rattle.ndc_shard_workflows.specs.Listed.{IsListedBefore, IsListedWhereBehind, IsListedWhereDue};
+ghost use Rattle.ndc_shard_workflows.specs.Listed.{IsListedWhereBehind, IsListedWhereDue};
 
-use crate::arrival::Arrival;
+use crate::arrival::{Arrival, Received};
 use crate::domains::Domains;
 use crate::listing::Listing;
 use crate::workflow::Workflow;
 use ndc_event::{Batch, Name};
 use ndc_model_cells::{Message, Place};
-use ndc_shard_runs::Runs;
 use ndc_state::Steps;
 use std::alloc::{AllocError, Global};
 use std::marker::Model;
@@ -146,8 +145,9 @@ impl Workflows {
         ensures ok { OnOk result (self.new ≡ with_batches (record { batch = batch.now; second = option_copied second.entry }) self.old) }
         ensures err { OnErr result (self.new ≡ self.old) }
     {
-        list_before(&self.domains, &mut self.due, alloc, batch, second)?;
-        self.domains.write(alloc, batch, second, steps)
+        self.domains.is_in_order();
+        self.domains
+            .write(alloc, batch, second, &mut self.due, steps)
     }
 
     /// The workflows of these domains, in order of domain and then of name. They hold, in order, all that is learned of
@@ -230,63 +230,44 @@ fn arrive_in<L>(
 {
     let domain = message.batch.domain.try_copy()?;
     let workflow = message.batch.workflow.try_copy()?;
-    let arrival = domains.arrive(alloc, message, steps)?;
-    list_where_due(domains, due, &domain, &workflow)?;
-    list_where_behind(domains, behind, &domain, &workflow)?;
+    let received = domains.arrive(alloc, message, steps)?;
+    list_where_due(received.may_be_due, due, &domain, &workflow)?;
+    list_where_behind(received.is_behind, behind, &domain, &workflow)?;
+    let Received { arrival, .. } = received;
     Ok(arrival)
 }
 
 /// Lists a workflow where reapplication may be due in it.
 fn list_where_due(
-    domains: &Domains,
+    may_be_due: bool,
     due: &mut Listing,
     domain: &Name,
     workflow: &Name,
 ) -> Result<(), AllocError>
-    ensures { OnOk result (IsListedWhereDue domain.now workflow.now domains.now due.old due.new) }
+    ensures { OnOk result (IsListedWhereDue domain.now workflow.now may_be_due due.old due.new) }
 {
-    if !may_be_due(domains, domain, workflow) {
+    if !may_be_due {
         return Ok(());
     }
     due.put(domain, workflow)
 }
 
-/// Whether reapplication may be due in a workflow, by what is known of it.
-fn may_be_due(domains: &Domains, domain: &Name, workflow: &Name) -> bool
-    ensures { result ≡ false → is_due (learned_of domain.now workflow.now domains.now) ≡ false }
-{
-    match domains.find(domain, workflow) {
-        Some(found) => found.runs().may_be_due(),
-        None => false,
-    }
-}
-
 /// Lists a workflow where something is put off of it; else it is listed no more.
 fn list_where_behind(
-    domains: &Domains,
+    is_behind: bool,
     behind: &mut Listing,
     domain: &Name,
     workflow: &Name,
 ) -> Result<(), AllocError>
-    ensures { OnOk result (IsListedWhereBehind domain.now workflow.now domains.now behind.old behind.new) }
+    ensures { OnOk result (IsListedWhereBehind domain.now workflow.now is_behind behind.old behind.new) }
 {
-    if is_behind(domains, domain, workflow) {
+    if is_behind {
         return behind.put(domain, workflow);
     }
     if behind.is_empty() {
         return Ok(());
     }
     behind.take(domain, workflow)
-}
-
-/// Whether something is put off of a workflow.
-fn is_behind(domains: &Domains, domain: &Name, workflow: &Name) -> bool
-    ensures { result ≡ false → (workflow_of domain.now workflow.now domains.now).waiting ≡ [] }
-{
-    match domains.find(domain, workflow) {
-        Some(found) => !found.put_off().is_empty(),
-        None => false,
-    }
 }
 
 /// The places of the first batches that are put off of these workflows.
@@ -341,41 +322,5 @@ fn place_in(batches: &[&Batch]) -> Result<Option<Place>, AllocError>
             workflow: batch.workflow.try_copy()?,
             key: batch.key,
         })),
-    }
-}
-
-/// Lists the workflow of a batch that is to be written, unless the batch leaves no stray, by what is known of it.
-fn list_before(
-    domains: &Domains,
-    due: &mut Listing,
-    alloc: Global,
-    batch: &Batch,
-    second: Option<&Batch>,
-) -> Result<(), AllocError>
-    ensures ok { OnOk result (IsListedBefore batch.now (option_copied second.entry) domains.now due.old due.new) }
-    ensures err { OnErr result (due.new ≡ due.old) }
-    ensures workflow { IsWorkflow (workflow_of batch.now.domain batch.now.workflow domains.now) }
-    ensures cell { IsCell domains.now }
-{
-    if stays_settled(domains, alloc, batch, second) {
-        return Ok(());
-    }
-    due.put(&batch.domain, &batch.workflow)
-}
-
-/// Whether a batch that carries none leaves no stray in its workflow, by what is known of it.
-fn stays_settled(domains: &Domains, alloc: Global, batch: &Batch, second: Option<&Batch>) -> bool
-    ensures alone { result ≡ true → option_copied second.entry ≡ None }
-    ensures settled { result ≡ true → StaysSettled batch.now (learned_of batch.now.domain batch.now.workflow domains.now) }
-    ensures workflow { IsWorkflow (workflow_of batch.now.domain batch.now.workflow domains.now) }
-    ensures cell { IsCell domains.now }
-{
-    let found = domains.find(&batch.domain, &batch.workflow);
-    if second.is_some() {
-        return false;
-    }
-    match found {
-        Some(found) => found.runs().stays_settled(batch),
-        None => Runs::new(alloc).stays_settled(batch),
     }
 }

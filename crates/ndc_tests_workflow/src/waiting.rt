@@ -1,5 +1,4 @@
 ghost use Rattle.std.specs.Prelude.{◌≡◌, true};
-ghost use Rattle.ndc_model_sets.specs.Sets.{earlier};
 ghost use Rattle.ndc_model_cells.specs.Messages.{batches_of, IsCarriedBy, IsNewTo};
 ghost use Rattle.ndc_shard_waiting.specs.Waiting.{CanWait};
 
@@ -7,6 +6,7 @@ use crate::worked::{key_of as key, name};
 use ndc_event::{Batch, BatchKey, Event, EventKind, Events, Name, RunId};
 use ndc_history::VersionHistory;
 use ndc_model_cells::Message;
+use ndc_model_sets::earlier_key;
 use ndc_shard_waiting::Waiting;
 use std::alloc::{AllocError, Global};
 use std::test::Fail;
@@ -66,16 +66,6 @@ fn is_carried(batch: &Batch, second: &Batch) -> bool
     match second.carrier {
         Some(carrier) => carrier == batch.key,
         None => false,
-    }
-}
-
-// The key for which a batch waits, where it waits.
-fn earlier_key(batch: &Batch) -> Option<BatchKey>
-    ensures { result ≡ earlier batch.now }
-{
-    match batch.parent {
-        Some(parent) => Some(parent),
-        None => batch.carrier,
     }
 }
 

@@ -14,8 +14,8 @@ use Rattle.ndc_shard_workflows.proofs.OwnLemmas.{empty-own, own-after}
 use Rattle.ndc_shard_workflows.proofs.PutLemmas.{map-put, same-put, own-either}
 use Rattle.ndc_shard_workflows.proofs.domain.Domain.arrive.Goals as goal
 
-pub arrive-requires-clause-sound : goal.arrive-requires-clause-sound
-arrive-requires-clause-sound g c =
+pub receive-requires-clause-sound : goal.receive-requires-clause-sound
+receive-requires-clause-sound g c =
     let m = c.args.message in
     let at : Some c.in-Some.workflow.now ≡ under m.batch.workflow c.args.self.now = c.in-Some.ensures.value ∙ ap (under m.batch.workflow) c.self.view_is in
     subst (λ (w : WorkflowValue). IsSound (learned (after_arrival m w).arrived)) (sym (ap workflow_or_empty at)) c.requires.sound
@@ -24,29 +24,29 @@ pub returns-in-Some-clause-ok : goal.returns-in-Some-clause-ok
 returns-in-Some-clause-ok g c =
     let m = c.args.message in
     let at : Some c.in-Some.workflow.now ≡ under m.batch.workflow c.args.self.now = c.in-Some.ensures.value ∙ ap (under m.batch.workflow) c.self.view_is in
-    let w = c.get_mut.follows.holds c.arrive.new.self in
-    on-ok c.arrive.result
-    (λ e. same-put m.batch.workflow m.batch.workflow c.arrive.new.self (after_arrival m (workflow_or_empty (under m.batch.workflow c.args.self.now))) c.args.self.now c.self.inside.workflows.entries
-    (c.get_mut.follows.lender c.arrive.new.self).entries refl (e ∙ ap (λ v. after_arrival m (workflow_or_empty v)) at) c.self.view_is
-    (map-put m.batch.workflow c.arrive.new.self c.self.inside.workflows.entries (c.get_mut.follows.lender c.arrive.new.self).entries (w.3 (ap is_some (sym c.in-Some.ensures.value))).0 w.4)) c.arrive.ensures.ok
+    let w = c.get_mut.follows.holds c.receive.new.workflow in
+    on-ok c.receive.result
+    (λ e. same-put m.batch.workflow m.batch.workflow c.receive.new.workflow (after_arrival m (workflow_or_empty (under m.batch.workflow c.args.self.now))) c.args.self.now c.self.inside.workflows.entries
+    (c.get_mut.follows.lender c.receive.new.workflow).entries refl (e ∙ ap (λ v. after_arrival m (workflow_or_empty v)) at) c.self.view_is
+    (map-put m.batch.workflow c.receive.new.workflow c.self.inside.workflows.entries (c.get_mut.follows.lender c.receive.new.workflow).entries (w.3 (ap is_some (sym c.in-Some.ensures.value))).0 w.4)) c.receive.ensures.ok
 
 pub returns-in-Some-clause-own : goal.returns-in-Some-clause-own
 returns-in-Some-clause-own g c =
     let m = c.args.message in
     let at : Some c.in-Some.workflow.now ≡ under m.batch.workflow c.args.self.now = c.in-Some.ensures.value ∙ ap (under m.batch.workflow) c.self.view_is in
-    let w = c.get_mut.follows.holds c.arrive.new.self in
-    put-holds (IsOwn m.batch.domain) m.batch.workflow c.arrive.new.self c.args.self.now (c.get_mut.follows.lender c.arrive.new.self).entries
-    (same-put m.batch.workflow m.batch.workflow c.arrive.new.self c.arrive.new.self c.args.self.now c.self.inside.workflows.entries
-    (c.get_mut.follows.lender c.arrive.new.self).entries refl refl c.self.view_is
-    (map-put m.batch.workflow c.arrive.new.self c.self.inside.workflows.entries (c.get_mut.follows.lender c.arrive.new.self).entries (w.3 (ap is_some (sym c.in-Some.ensures.value))).0 w.4))
-    (own-either m.batch.domain m.batch.workflow m c.in-Some.workflow.now c.arrive.new.self c.arrive.result c.arrive.ensures.ok c.arrive.ensures.err
+    let w = c.get_mut.follows.holds c.receive.new.workflow in
+    put-holds (IsOwn m.batch.domain) m.batch.workflow c.receive.new.workflow c.args.self.now (c.get_mut.follows.lender c.receive.new.workflow).entries
+    (same-put m.batch.workflow m.batch.workflow c.receive.new.workflow c.receive.new.workflow c.args.self.now c.self.inside.workflows.entries
+    (c.get_mut.follows.lender c.receive.new.workflow).entries refl refl c.self.view_is
+    (map-put m.batch.workflow c.receive.new.workflow c.self.inside.workflows.entries (c.get_mut.follows.lender c.receive.new.workflow).entries (w.3 (ap is_some (sym c.in-Some.ensures.value))).0 w.4))
+    (own-either m.batch.domain m.batch.workflow m c.in-Some.workflow.now c.receive.new.workflow c.receive.result c.receive.ensures.ok c.receive.ensures.err
     (c.requires.own.each m.batch.workflow c.in-Some.workflow.now (sym at)) (own-names m.batch) c.requires.second c.requires.message
     (subst (λ (w : WorkflowValue). has_arrived m.batch.key w ≡ false → IsNewTo w.arrived m) (sym (ap workflow_or_empty at)) c.requires.new)
     (subst (λ (w : WorkflowValue). IsSound (learned (after_arrival m w).arrived)) (sym (ap workflow_or_empty at)) c.requires.sound))
     c.requires.own
 
-pub arrive-requires-2-clause-sound : goal.arrive-requires-2-clause-sound
-arrive-requires-2-clause-sound g c =
+pub receive-requires-2-clause-sound : goal.receive-requires-2-clause-sound
+receive-requires-2-clause-sound g c =
     let m = c.args.message in
     let at : None ≡ under m.batch.workflow c.args.self.now = c.in_default.ensures.value ∙ ap (under m.batch.workflow) c.self.view_is in
     subst (λ (w : WorkflowValue). IsSound (learned (after_arrival m w).arrived)) (sym (c.new-workflow.ensures ∙ ap workflow_or_empty at)) c.requires.sound
@@ -55,20 +55,20 @@ pub returns-clause-ok : goal.returns-clause-ok
 returns-clause-ok g c =
     let m = c.args.message in
     let at : None ≡ under m.batch.workflow c.args.self.now = c.in_default.ensures.value ∙ ap (under m.batch.workflow) c.self.view_is in
-    same-put m.batch.workflow c.in_ok-name.name c.arrive-2.new.self (after_arrival m (workflow_or_empty (under m.batch.workflow c.args.self.now))) c.args.self.now
+    same-put m.batch.workflow c.in_ok-name.name c.receive-2.new.workflow (after_arrival m (workflow_or_empty (under m.batch.workflow c.args.self.now))) c.args.self.now
     c.get_mut.follows.lender-at-none.entries c.insert.new.self.entries c.in_ok-name.ensures
-    (c.in_ok-arrival.ensures.ok ∙ ap (after_arrival m) (c.new-workflow.ensures ∙ ap workflow_or_empty at)) (ap (λ n. n.entries) c.get_mut.follows.holds-at-none ∙ c.self.view_is)
-    (map-put c.in_ok-name.name c.arrive-2.new.self c.get_mut.follows.lender-at-none.entries c.insert.new.self.entries c.in_ok-insert.ensures.updates.0 c.in_ok-insert.ensures.ordered)
+    (c.in_ok-received.ensures.ok ∙ ap (after_arrival m) (c.new-workflow.ensures ∙ ap workflow_or_empty at)) (ap (λ n. n.entries) c.get_mut.follows.holds-at-none ∙ c.self.view_is)
+    (map-put c.in_ok-name.name c.receive-2.new.workflow c.get_mut.follows.lender-at-none.entries c.insert.new.self.entries c.in_ok-insert.ensures.updates.0 c.in_ok-insert.ensures.ordered)
 
 pub returns-clause-own : goal.returns-clause-own
 returns-clause-own g c =
     let m = c.args.message in
     let at : None ≡ under m.batch.workflow c.args.self.now = c.in_default.ensures.value ∙ ap (under m.batch.workflow) c.self.view_is in
-    put-holds (IsOwn m.batch.domain) m.batch.workflow c.arrive-2.new.self c.args.self.now c.insert.new.self.entries
-    (same-put m.batch.workflow c.in_ok-name.name c.arrive-2.new.self c.arrive-2.new.self c.args.self.now
+    put-holds (IsOwn m.batch.domain) m.batch.workflow c.receive-2.new.workflow c.args.self.now c.insert.new.self.entries
+    (same-put m.batch.workflow c.in_ok-name.name c.receive-2.new.workflow c.receive-2.new.workflow c.args.self.now
     c.get_mut.follows.lender-at-none.entries c.insert.new.self.entries c.in_ok-name.ensures refl (ap (λ n. n.entries) c.get_mut.follows.holds-at-none ∙ c.self.view_is)
-    (map-put c.in_ok-name.name c.arrive-2.new.self c.get_mut.follows.lender-at-none.entries c.insert.new.self.entries c.in_ok-insert.ensures.updates.0 c.in_ok-insert.ensures.ordered))
-    (subst (IsOwn m.batch.domain m.batch.workflow) (sym (c.in_ok-arrival.ensures.ok ∙ ap (after_arrival m) c.new-workflow.ensures))
+    (map-put c.in_ok-name.name c.receive-2.new.workflow c.get_mut.follows.lender-at-none.entries c.insert.new.self.entries c.in_ok-insert.ensures.updates.0 c.in_ok-insert.ensures.ordered))
+    (subst (IsOwn m.batch.domain m.batch.workflow) (sym (c.in_ok-received.ensures.ok ∙ ap (after_arrival m) c.new-workflow.ensures))
     (own-after m.batch.domain m.batch.workflow m empty_workflow (empty-own m.batch.domain m.batch.workflow) (own-names m.batch) c.requires.second c.requires.message
     (subst (λ (w : WorkflowValue). has_arrived m.batch.key w ≡ false → IsNewTo w.arrived m) (sym (ap workflow_or_empty at)) c.requires.new)
     (subst (λ (w : WorkflowValue). IsSound (learned (after_arrival m w).arrived)) (sym (ap workflow_or_empty at)) c.requires.sound)))

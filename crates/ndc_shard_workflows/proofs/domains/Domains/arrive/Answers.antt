@@ -1,5 +1,8 @@
-use Rattle.std.proofs.Common.{◌≡◌, false, Some, None, IfOk, List, refl, sym, ◌∙◌, subst, ap}
+use Rattle.std.proofs.Common.{◌≡◌, false, Some, None, IfOk, List, [], refl, sym, ◌∙◌, subst, ap}
 use Rattle.std.specs.Prelude.{is_some}
+use Rattle.ndc_model_cells.specs.Cells.{Cell}
+use Rattle.ndc_model_cells.specs.Workflow.{WorkflowValue, workflow_of}
+use Rattle.ndc_shard_runs.specs.Kept.{is_due}
 use Rattle.ndc_model_cells.specs.Arrival.{arrived_at, arrival_of, learned_by}
 use Rattle.ndc_model_cells.specs.declared.job.Arrived.{Arrived}
 use Rattle.ndc_event.specs.declared.batch.Batch.{Batch}
@@ -11,7 +14,7 @@ use Rattle.ndc_shard_workflows.specs.Workflow.{after_arrival, answer_to, has_arr
 use Rattle.ndc_shard_workflows.proofs.OkLemmas.{on-ok}
 use Rattle.ndc_shard_workflows.specs.Named.{under, IsPut}
 use Rattle.ndc_shard_workflows.specs.Workflows.{AreOwn, DomainValue, workflow_or_empty}
-use Rattle.ndc_shard_workflows.proofs.ArriveLemmas.{new-there, sound-there, answer-there, learned-there, cell-there}
+use Rattle.ndc_shard_workflows.proofs.ArriveLemmas.{after-there, new-there, sound-there, answer-there, learned-there, cell-there}
 use Rattle.ndc_shard_workflows.proofs.DomainLemmas.{none-own}
 use Rattle.ndc_shard_workflows.proofs.NameLemmas.{put-holds}
 use Rattle.ndc_shard_workflows.proofs.PutLemmas.{map-put, same-put}
@@ -51,7 +54,7 @@ returns-in-Some-clause-outcome g c =
     let es = c.self.inside.domains.entries in
     let may = subst (MayArrive m) (sym c.self.view_is) c.requires in
     let at : under m.batch.domain es ≡ Some c.in-Some.domain.now = sym c.in-Some.ensures.value in
-    subst (λ (x : Arrived). IfOk c.arrive.result (λ arrival. arrival.outcome ≡ x)) (answer-there m es c.self.invariant may (Some c.in-Some.domain.now) at ∙ ap (arrival_of m) c.self.view_is) c.arrive.ensures.outcome
+    subst (λ (x : Arrived). IfOk c.arrive.result (λ received. received.arrival.outcome ≡ x)) (answer-there m es c.self.invariant may (Some c.in-Some.domain.now) at ∙ ap (arrival_of m) c.self.view_is) c.arrive.ensures.outcome
 
 pub returns-in-Some-clause-learned : goal.returns-in-Some-clause-learned
 returns-in-Some-clause-learned g c =
@@ -59,7 +62,7 @@ returns-in-Some-clause-learned g c =
     let es = c.self.inside.domains.entries in
     let may = subst (MayArrive m) (sym c.self.view_is) c.requires in
     let at : under m.batch.domain es ≡ Some c.in-Some.domain.now = sym c.in-Some.ensures.value in
-    subst (λ (x : List Batch). IfOk c.arrive.result (λ arrival. arrival.learned ≡ x)) (learned-there m es c.self.invariant may (Some c.in-Some.domain.now) at ∙ ap (learned_by m) c.self.view_is) c.arrive.ensures.learned
+    subst (λ (x : List Batch). IfOk c.arrive.result (λ received. received.arrival.learned ≡ x)) (learned-there m es c.self.invariant may (Some c.in-Some.domain.now) at ∙ ap (learned_by m) c.self.view_is) c.arrive.ensures.learned
 
 pub invariant_of-self : goal.invariant_of-self
 invariant_of-self g c =
@@ -121,7 +124,7 @@ returns-clause-outcome g c =
     let es = c.self.inside.domains.entries in
     let may = subst (MayArrive m) (sym c.self.view_is) c.requires in
     let at : under m.batch.domain es ≡ None = sym c.in_default.ensures.value in
-    c.in_ok-arrival.ensures.outcome ∙ ap (λ (ws : DomainValue). answer_to m (workflow_or_empty (under m.batch.workflow ws))) c.new-domain.ensures
+    c.in_ok-received.ensures.outcome ∙ ap (λ (ws : DomainValue). answer_to m (workflow_or_empty (under m.batch.workflow ws))) c.new-domain.ensures
     ∙ answer-there m es c.self.invariant may None at ∙ ap (arrival_of m) c.self.view_is
 
 pub returns-clause-learned : goal.returns-clause-learned
@@ -130,7 +133,7 @@ returns-clause-learned g c =
     let es = c.self.inside.domains.entries in
     let may = subst (MayArrive m) (sym c.self.view_is) c.requires in
     let at : under m.batch.domain es ≡ None = sym c.in_default.ensures.value in
-    c.in_ok-arrival.ensures.learned ∙ ap (λ (ws : DomainValue). made_learned m (workflow_or_empty (under m.batch.workflow ws))) c.new-domain.ensures
+    c.in_ok-received.ensures.learned ∙ ap (λ (ws : DomainValue). made_learned m (workflow_or_empty (under m.batch.workflow ws))) c.new-domain.ensures
     ∙ learned-there m es c.self.invariant may None at ∙ ap (learned_by m) c.self.view_is
 
 pub invariant_of-self-2 : goal.invariant_of-self-2
@@ -157,5 +160,43 @@ returns-clause-cell g c =
     (ap (λ n. n.entries) c.get_mut.follows.holds-at-none) (map-put c.in_ok-name.name c.arrive-2.new.self start after c.in_ok-insert.ensures.updates.0 c.in_ok-insert.ensures.ordered) in
     cell-there m es c.self.invariant may None at c.arrive-2.new.self after put
     (put-holds AreOwn m.batch.domain c.arrive-2.new.self es after put c.arrive-2.ensures.own c.self.invariant)
-    (subst (λ (ws : DomainValue). IsPut m.batch.workflow (after_arrival m (workflow_or_empty (under m.batch.workflow ws))) ws c.arrive-2.new.self) c.new-domain.ensures c.in_ok-arrival.ensures.ok)
+    (subst (λ (ws : DomainValue). IsPut m.batch.workflow (after_arrival m (workflow_or_empty (under m.batch.workflow ws))) ws c.arrive-2.new.self) c.new-domain.ensures c.in_ok-received.ensures.ok)
     ∙ ap (arrived_at m) c.self.view_is
+
+pub returns-in-Some-clause-due : goal.returns-in-Some-clause-due
+returns-in-Some-clause-due g c =
+    let m = c.args.message in
+    let es = c.self.inside.domains.entries in
+    let may = subst (MayArrive m) (sym c.self.view_is) c.requires in
+    let at : under m.batch.domain es ≡ Some c.in-Some.domain.now = sym c.in-Some.ensures.value in
+    subst (λ (w : WorkflowValue). IfOk c.arrive.result (λ received. received.may_be_due ≡ false → is_due (learned w.arrived) ≡ false))
+    (after-there m es c.self.invariant may (Some c.in-Some.domain.now) at ∙ ap (λ (cell : Cell). workflow_of m.batch.domain m.batch.workflow (arrived_at m cell)) c.self.view_is) c.arrive.ensures.due
+
+pub returns-in-Some-clause-behind : goal.returns-in-Some-clause-behind
+returns-in-Some-clause-behind g c =
+    let m = c.args.message in
+    let es = c.self.inside.domains.entries in
+    let may = subst (MayArrive m) (sym c.self.view_is) c.requires in
+    let at : under m.batch.domain es ≡ Some c.in-Some.domain.now = sym c.in-Some.ensures.value in
+    subst (λ (w : WorkflowValue). IfOk c.arrive.result (λ received. received.is_behind ≡ false → w.waiting ≡ []))
+    (after-there m es c.self.invariant may (Some c.in-Some.domain.now) at ∙ ap (λ (cell : Cell). workflow_of m.batch.domain m.batch.workflow (arrived_at m cell)) c.self.view_is) c.arrive.ensures.behind
+
+pub returns-clause-due : goal.returns-clause-due
+returns-clause-due g c =
+    let m = c.args.message in
+    let es = c.self.inside.domains.entries in
+    let may = subst (MayArrive m) (sym c.self.view_is) c.requires in
+    let at : under m.batch.domain es ≡ None = sym c.in_default.ensures.value in
+    subst (λ (w : WorkflowValue). c.in_ok-received.received.may_be_due ≡ false → is_due (learned w.arrived) ≡ false)
+    (ap (λ (ws : DomainValue). after_arrival m (workflow_or_empty (under m.batch.workflow ws))) c.new-domain.ensures
+    ∙ after-there m es c.self.invariant may None at ∙ ap (λ (cell : Cell). workflow_of m.batch.domain m.batch.workflow (arrived_at m cell)) c.self.view_is) c.in_ok-received.ensures.due
+
+pub returns-clause-behind : goal.returns-clause-behind
+returns-clause-behind g c =
+    let m = c.args.message in
+    let es = c.self.inside.domains.entries in
+    let may = subst (MayArrive m) (sym c.self.view_is) c.requires in
+    let at : under m.batch.domain es ≡ None = sym c.in_default.ensures.value in
+    subst (λ (w : WorkflowValue). c.in_ok-received.received.is_behind ≡ false → w.waiting ≡ [])
+    (ap (λ (ws : DomainValue). after_arrival m (workflow_or_empty (under m.batch.workflow ws))) c.new-domain.ensures
+    ∙ after-there m es c.self.invariant may None at ∙ ap (λ (cell : Cell). workflow_of m.batch.domain m.batch.workflow (arrived_at m cell)) c.self.view_is) c.in_ok-received.ensures.behind

@@ -6,7 +6,9 @@ use Rattle.ndc_model_cells.specs.Cells.{Cell}
 use Rattle.ndc_model_cells.specs.Writing.{Entry, with_batches}
 use Rattle.ndc_model_cells.specs.Messages.{carrying}
 use Rattle.ndc_shard_workflows.specs.Workflow.{with_written}
-use Rattle.ndc_model_cells.specs.Workflow.{workflow_of}
+use Rattle.ndc_model_cells.specs.Workflow.{WorkflowValue, workflow_of}
+use Rattle.ndc_model_sets.specs.Learned.{learned}
+use Rattle.ndc_shard_workflows.specs.Listed.{IsListedBefore}
 use Rattle.ndc_shard_workflows.proofs.OkLemmas.{on-ok}
 use Rattle.ndc_shard_workflows.specs.Named.{under, IsPut}
 use Rattle.ndc_shard_workflows.specs.Workflows.{AreOwn, DomainValue, cell_of, workflow_or_empty}
@@ -14,7 +16,7 @@ use Rattle.ndc_shard_workflows.specs.Writing.{MayBeWritten}
 use Rattle.ndc_shard_workflows.proofs.DomainLemmas.{none-own}
 use Rattle.ndc_shard_workflows.proofs.NameLemmas.{put-holds}
 use Rattle.ndc_shard_workflows.proofs.PutLemmas.{map-put, same-put, on-err}
-use Rattle.ndc_shard_workflows.proofs.WriteLemmas.{may-there, cell-there}
+use Rattle.ndc_shard_workflows.proofs.WriteLemmas.{found-in, may-there, cell-there}
 use Rattle.ndc_shard_workflows.proofs.domains.Domains.write.Goals as goal
 
 pub write-requires-clause-own : goal.write-requires-clause-own
@@ -102,3 +104,19 @@ returns-clause-ok g c =
     (put-holds AreOwn b.domain c.write-2.new.self es after put c.write-2.ensures.own c.self.invariant)
     (subst (λ (ws : DomainValue). IsPut b.workflow (with_written (carrying b entry.second) (workflow_or_empty (under b.workflow ws))) ws c.write-2.new.self) c.new-domain.ensures c.in_ok-write.ensures.ok)
     ∙ ap (with_batches entry) c.self.view_is
+
+pub returns-in-Some-clause-listed : goal.returns-in-Some-clause-listed
+returns-in-Some-clause-listed g c =
+    let b = c.args.batch.now in
+    let es = c.self.inside.domains.entries in
+    let at : under b.domain es ≡ Some c.in-Some.domain.now = sym c.in-Some.ensures.value in
+    on-ok c.write.result (λ e. subst (λ (v : WorkflowValue). IsListedBefore b (option_copied c.args.second) (learned v.arrived) c.args.due.now c.write.new.due)
+    (sym (found-in b.domain b.workflow es c.self.invariant (Some c.in-Some.domain.now) at) ∙ ap (workflow_of b.domain b.workflow) c.self.view_is) e) c.write.ensures.listed
+
+pub returns-clause-listed : goal.returns-clause-listed
+returns-clause-listed g c =
+    let b = c.args.batch.now in
+    let es = c.self.inside.domains.entries in
+    let at : under b.domain es ≡ None = sym c.in_default.ensures.value in
+    subst (λ (v : WorkflowValue). IsListedBefore b (option_copied c.args.second) (learned v.arrived) c.args.due.now c.write-2.new.due)
+    (ap (λ (ws : DomainValue). workflow_or_empty (under b.workflow ws)) c.new-domain.ensures ∙ sym (found-in b.domain b.workflow es c.self.invariant None at) ∙ ap (workflow_of b.domain b.workflow) c.self.view_is) c.in_ok-write.ensures.listed

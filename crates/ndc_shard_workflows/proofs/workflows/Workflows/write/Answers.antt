@@ -9,12 +9,12 @@ use Rattle.ndc_shard_workflows.proofs.HoldLemmas.{hold-either}
 use Rattle.ndc_shard_workflows.proofs.WaitLemmas.{behind-either}
 use Rattle.ndc_shard_workflows.proofs.workflows.Workflows.write.Goals as goal
 
-pub invariant_of-self-2 : goal.invariant_of-self-2
-invariant_of-self-2 g c =
+pub invariant_of-self : goal.invariant_of-self
+invariant_of-self g c =
     let b = c.args.batch.now in
     let entry : Entry = record { batch = b; second = option_copied c.args.second } in
     let may = subst (λ (cell : Cell). MayBeWritten (carrying b entry.second) (workflow_of b.domain b.workflow cell)) (sym c.self.view_is) c.requires in (
-      hold-either entry c.self.inside.domains c.in_ok-list_before.ensures.cell c.in_ok-list_before.ensures.workflow may c.write.result c.self.inside.due c.list_before.new.due c.write.new.self
-          c.write.ensures.ok c.write.ensures.err c.self.invariant.0 c.in_ok-list_before.ensures.ok,
+      hold-either entry c.self.inside.domains c.is_in_order.ensures.cell (c.is_in_order.ensures.workflows b.domain b.workflow) may c.write.result c.self.inside.due c.write.new.due c.write.new.self
+          c.write.ensures.ok c.write.ensures.err c.self.invariant.0 c.write.ensures.listed c.write.ensures.kept,
       behind-either entry c.self.inside.domains c.write.result c.self.inside.behind c.write.new.self c.write.ensures.ok c.write.ensures.err c.self.invariant.1,
     )

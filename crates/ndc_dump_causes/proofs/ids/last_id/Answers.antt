@@ -1,6 +1,0 @@
-use Rattle.ndc_tree.proofs.EventLemmas.{last-id-at}
-use Rattle.std.proofs.Common.{sym}
-use Rattle.ndc_dump_causes.proofs.ids.last_id.Goals as goal
-
-pub returns-in-Some : goal.returns-in-Some
-returns-in-Some c = last-id-at c.args.events.now c.in-Some.event.now (sym c.in-Some.ensures.value)
