@@ -145,7 +145,7 @@ pub fn bootstrap<R: Threads + Sync, G: Gate, C: Cell + Drop + Send>(
 }
 
 /// A settlement: what its jobs came to, and what they made learned.
-pub fn settlement<R: Threads + Sync, G: Gate, C: Serves + Drop + Send>(
+pub fn settlement<R: Threads + Sync, G: Gate, C: Cell + Drop + Send>(
     network: &mut Network<C>,
     rt: &R,
     alloc: Global,
