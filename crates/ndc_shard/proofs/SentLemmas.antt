@@ -1,5 +1,5 @@
 -- What a shard has written stays as it is where batches arrive, and where it writes one more.
-use Rattle.std.proofs.Common.{◌≡◌, ◌<◌, ℕ, zero, suc, Bool, true, false, List, [], ◌∷◌, ◌++◌, Option, Some, None, length, slice_get, refl, sym, ◌∙◌, ap, subst, if◌then◌else◌, append_assoc}
+use Rattle.std.proofs.Common.{◌≡◌, ◌<◌, ℕ, zero, suc, Bool, true, false, List, [], ◌∷◌, ◌++◌, Option, Some, None, length, slice_get, refl, sym, ◌∙◌, ap, subst, if◌then◌else◌, append_assoc, get_or, arith, ⊥}
 use Rattle.std.specs.Prelude.{IfSome, is_some, option_to_list, ◌&&◌}
 use Rattle.std.specs.List.{AllByRecursion, filter, filter_map}
 use Rattle.ndc_event.specs.Key.{key_eq}
@@ -241,21 +241,24 @@ many-sent cell (place ∷ places) all = by (message_at cell place) all.0 (many-s
     by None some rest = absurd (cc)
     by (Some sent) some rest = ap suc rest
 
-pub sent-at : (cell : Cell) (places : List Place) → AllByRecursion (IsSent cell) places → (i : ℕ) (place : Place) → slice_get places i ≡ Some place → slice_get (messages_at places cell) i ≡ message_at cell place
-sent-at cell [] all i place at = absurd (cc)
-sent-at cell (first ∷ places) all zero place at = by (message_at cell first) refl all.0
+pub sent-at : (cell : Cell) (places : List Place) → AllByRecursion (IsSent cell) places → (i : ℕ) (place : Place) → i < length places → place ≡ get_or places i place → slice_get (messages_at places cell) i ≡ message_at cell place
+sent-at cell [] all i place below at = absurd (omega (arith, below))
+sent-at cell (first ∷ places) all zero place below at = by (message_at cell first) refl all.0
   where
-    same : first ≡ place
-    same = cc
-
     by : (o : Option Message) → message_at cell first ≡ o → is_some o ≡ true → slice_get (option_to_list o ++ messages_at places cell) 0 ≡ message_at cell place
     by None e some = absurd (cc)
-    by (Some sent) e some = sym e ∙ ap (message_at cell) same
-sent-at cell (first ∷ places) all (suc i) place at = by (message_at cell first) all.0 (sent-at cell places all.1 i place at)
+    by (Some sent) e some = sym e ∙ ap (message_at cell) (sym at)
+sent-at cell (first ∷ places) all (suc i) place below at = by (message_at cell first) all.0 (sent-at cell places all.1 i place (omega (arith, below)) at)
   where
     by : (o : Option Message) → is_some o ≡ true → slice_get (messages_at places cell) i ≡ message_at cell place → slice_get (option_to_list o ++ messages_at places cell) (suc i) ≡ message_at cell place
     by None some rest = absurd (cc)
     by (Some sent) some rest = rest
+
+pub sent-there : (cell : Cell) (places : List Place) → AllByRecursion (IsSent cell) places → (i : ℕ) (place : Place) → i < length places → place ≡ get_or places i place → message_at cell place ≡ None → ⊥
+sent-there cell [] all i place below at none = absurd (omega (arith, below))
+sent-there cell (first ∷ places) all zero place below at none =
+    let clash : true ≡ false = sym (subst (IsSent cell) (sym at) all.0) ∙ ap is_some none in absurd (cc)
+sent-there cell (first ∷ places) all (suc i) place below at none = sent-there cell places all.1 i place (omega (arith, below)) at none
 
 -- nothing was written
 pub none-sent : (cell : Cell) → cell.arrived ≡ [] → AreSent [] cell
@@ -308,3 +311,23 @@ module _ (entry : Entry) (old : Cell) (places : List Place) (is : IsCell old) (l
       more : (ps : List Place) → AllByRecursion (IsSent (with_batches entry old)) ps → AllByRecursion (IsSent (with_batches entry old)) (ps ++ place_of entry.batch ∷ [])
       more [] all = (ap is_some there-now, tt)
       more (p ∷ ps) all = (all.0, more ps all.1)
+
+-- the same of a shard, which is seen as its workflows with what they have written
+module _ (entry : Entry) (old new : Cell) (places behind : List Place) (messages : List Message) (shard : Cell) (seen : having_written messages old ≡ shard) (is : IsCell old) (lone : entry.batch.carrier ≡ None)
+    (may : MayBeWritten (carrying entry.batch entry.second) (workflow_of entry.batch.domain entry.batch.workflow shard)) (are : AreSent places old)
+    (cell_is : new ≡ with_batches entry old) (places_are : behind ≡ places ++ place_of entry.batch ∷ []) where
+  own-may : MayBeWritten (carrying entry.batch entry.second) (workflow_of entry.batch.domain entry.batch.workflow old)
+  own-may = subst (λ (c : Cell). MayBeWritten (carrying entry.batch entry.second) (workflow_of entry.batch.domain entry.batch.workflow c)) (sym seen) may
+
+  pub behind-write : AreSent behind new
+  behind-write = subst (λ (ps : List Place). AreSent ps new) (sym places_are) (subst (AreSent (places ++ place_of entry.batch ∷ [])) (sym cell_is) (written-sent entry old places is lone own-may are))
+
+module _ (entry : Entry) (old new : Cell) (places behind : List Place) (shard : Cell) (seen : having_written (messages_at places old) old ≡ shard) (is : IsCell old) (lone : entry.batch.carrier ≡ None)
+    (may : MayBeWritten (carrying entry.batch entry.second) (workflow_of entry.batch.domain entry.batch.workflow shard)) (are : AreSent places old)
+    (cell_is : new ≡ with_batches entry old) (places_are : behind ≡ places ++ place_of entry.batch ∷ []) where
+  pub write-messages : having_written (messages_at behind new) new ≡ with_written entry shard
+  write-messages =
+      ap (λ (ps : List Place). having_written (messages_at ps new) new) places_are ∙ ap (λ (c : Cell). having_written (messages_at (places ++ place_of entry.batch ∷ []) c) c) cell_is
+      ∙ ap (λ (ms : List Message). having_written ms (with_batches entry old))
+      (written-messages entry old places is lone (own-may entry old new places behind (messages_at places old) shard seen is lone may are cell_is places_are) are)
+      ∙ ap (with_written entry) seen

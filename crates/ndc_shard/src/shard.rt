@@ -169,7 +169,7 @@ impl Shard {
         self.places.reserve(1)?;
         self.workflows
             .write(self.alloc, entry.batch(), entry.second(), steps)?;
-        self.places.push(place).unwrap();
+        self.places.push_reserved(place);
         Ok(())
     }
 
@@ -254,6 +254,7 @@ impl Shard {
     ) -> Result<Batches, CommandError>
         requires { MayBeAsked desk.now domain.now workflow.now (command_of desk.now domain.now workflow.now command.now self.old) self.old }
         ensures batches { Gives Memory (λ batches. batches) result (batches_written (command_of desk.now domain.now workflow.now command.now self.old)) }
+        ensures some { IfOk result (λ batches. 0 < length batches) }
         ensures cell { OnOk result (self.new ≡ written_at (command_of desk.now domain.now workflow.now command.now self.old) self.old) }
         ensures unchanged { OnErr result (self.new ≡ self.old) }
     {
