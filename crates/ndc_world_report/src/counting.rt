@@ -9,9 +9,9 @@ ghost use Rattle.ndc_world_report.specs.Left.{at_world};
 ghost use Rattle.ndc_world_report.specs.Counts.{is_burst, last_world, refused_by, refused_in};
 ghost use Rattle.ndc_world.specs.Running.{ran_at};
 
+use ndc_cluster_reads::Reads;
 use ndc_port::Gate;
 use ndc_script_types::{Line, Script};
-use ndc_cluster_reads::Reads;
 use ndc_world::{Ran, World};
 use std::alloc::{AllocError, Global};
 use std::thread::Threads;

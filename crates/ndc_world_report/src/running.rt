@@ -13,10 +13,10 @@ ghost use Rattle.ndc_world_report.specs.declared.error.RunError.TheVariants as r
 ghost use Rattle.ndc_world.specs.Running.{ran_at};
 
 use crate::error::RunError;
+use ndc_cluster_reads::Reads;
 use ndc_index::{Indexers, Seen};
 use ndc_port::{Gate, Sink, write_all};
 use ndc_script_types::{Line, Script};
-use ndc_cluster_reads::Reads;
 use ndc_world::{Ran, World};
 use std::alloc::{AllocError, Global};
 use std::thread::Threads;
