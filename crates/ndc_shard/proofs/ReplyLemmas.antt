@@ -36,14 +36,14 @@ cell-same asked (Err error) old new gives calm done kept = kept (λ e. calm (ap 
     by (Err other) e = refl
 
 -- what is kept anyway is kept where it is refused
-pub kept_anyway : {A P : Type 0} (r : Result A CommandError) → OnErr r P → IfErr r (λ error. error ≢ Memory → P)
-kept_anyway (Ok x) kept = tt
-kept_anyway (Err error) kept = λ calm. kept
+pub kept_anyway : {A : Type 0} (P : Type 0) (r : Result A CommandError) → OnErr r P → IfErr r (λ error. error ≢ Memory → P)
+kept_anyway P (Ok x) kept = tt
+kept_anyway P (Err error) kept = λ calm. kept
 
 -- the keys of batches that were written are no error
-pub keys-kept : {P : Type 0} (batches : List Batch) → 0 < length batches → (r : Result Written ShardError) → r ≡ keys_of batches → OnErr r P
-keys-kept [] some r e = absurd (omega (arith, some))
-keys-kept (b ∷ []) some (Ok written) e = tt
-keys-kept (b ∷ []) some (Err error) e = absurd (cc)
-keys-kept (b ∷ second ∷ batches) some (Ok written) e = tt
-keys-kept (b ∷ second ∷ batches) some (Err error) e = absurd (cc)
+pub keys-kept : (P : Type 0) (batches : List Batch) → 0 < length batches → (r : Result Written ShardError) → r ≡ keys_of batches → OnErr r P
+keys-kept P [] some r e = absurd (omega (arith, some))
+keys-kept P (b ∷ []) some (Ok written) e = tt
+keys-kept P (b ∷ []) some (Err error) e = absurd (cc)
+keys-kept P (b ∷ second ∷ batches) some (Ok written) e = tt
+keys-kept P (b ∷ second ∷ batches) some (Err error) e = absurd (cc)
