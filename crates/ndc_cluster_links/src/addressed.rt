@@ -66,12 +66,7 @@ fn is_message_learned<C: Cell>(cell: &C, sent: &Message) -> bool
 }
 
 /// Whether nothing is to be done for a message: the reader's cell has learned it, or it is not addressed to the reader.
-fn needs_nothing<C: Cell>(
-    table: &DomainTable,
-    reader: ClusterNo,
-    cell: &C,
-    sent: &Message,
-) -> bool
+fn needs_nothing<C: Cell>(table: &DomainTable, reader: ClusterNo, cell: &C, sent: &Message) -> bool
     ensures { result ≡ needs_nothing reader table.now (C.cell cell.now) sent.now }
 {
     is_message_learned(cell, sent) || !is_addressed(table, reader, sent)

@@ -3,9 +3,9 @@ ghost use Rattle.std.specs.Prelude.{◌≡◌};
 ghost use Rattle.std.specs.Option.{option_copied};
 ghost use Rattle.ndc_explain.specs.Places.{bottom_of};
 
-use crate::settlers::origin_of;
 use indexmap::IndexMap;
 use ndc_event::{Batch, BatchKey, Event, EventKind, Origin, RunId};
+use ndc_state::origin_of;
 use std::alloc::{AllocError, Global};
 use std::marker::Model;
 

@@ -1,11 +1,11 @@
 //! What settles signals.
 ghost use Rattle.std.specs.Prelude.{◌≡◌, [], IfOk};
-ghost use Rattle.ndc_state.specs.Origins.{origin_of};
 ghost use Rattle.ndc_explain.specs.Signals.{with_listed};
 
 use indexmap::IndexMap;
 use ndc_dump_causes::keys::KeySet;
-use ndc_event::{Batch, BatchKey, Event, EventKind, Origin, RunId};
+use ndc_event::{Batch, BatchKey, Event, EventKind, Origin};
+use ndc_state::origin_of;
 use std::alloc::{AllocError, Global};
 use std::marker::Model;
 
@@ -30,20 +30,6 @@ impl Model for Settlers {
     ghost Value = { List (Origin × Settler) };
 
     ghost view = { λ settlers. settlers.known.entries };
-}
-
-/// The origin of a signal event of the run.
-pub(crate) fn origin_of(run: RunId, event: &Event, origin: Option<Origin>) -> Origin
-    ensures { result ≡ origin_of run event.now.id event.now.version origin }
-{
-    match origin {
-        None => Origin {
-            run,
-            event: event.id,
-            version: event.version,
-        },
-        Some(origin) => origin,
-    }
 }
 
 impl Settlers {

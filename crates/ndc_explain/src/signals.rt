@@ -8,12 +8,13 @@ ghost use Rattle.ndc_state.specs.Origins.{origin_of};
 ghost use Rattle.ndc_explain.specs.Signals.{fate_text, said_text, settled_text, settled_words, settler_of, signal_head, signal_line, waiting_count, waiting_text};
 
 use crate::piece::{Piece, push_pieces};
-use crate::settlers::{Settler, Settlers, origin_of};
+use crate::settlers::{Settler, Settlers};
 use crate::writer::writer_name;
 use ndc_domain::Clusters;
 use ndc_event::{Batch, Event, EventKind, Name, RunId};
 use ndc_history::Item;
 use ndc_reapply::{Stray, strays};
+use ndc_state::origin_of;
 use std::alloc::{AllocError, Global};
 
 /// Appends the signal that an event of a run is.

@@ -1,5 +1,5 @@
 -- What a command or a reset replies, and the cell behind it.
-use Rattle.std.proofs.Common.{◌≡◌, ◌≢◌, List, Result, Ok, Err, IfErr, OnOk, OnErr, refl, sym, ◌∙◌, ap}
+use Rattle.std.proofs.Common.{◌≡◌, ◌≢◌, ◌<◌, List, [], ◌∷◌, length, arith, Result, Ok, Err, IfErr, OnOk, OnErr, refl, sym, ◌∙◌, ap}
 use Rattle.ndc_model_cells.specs.Cells.{Cell}
 use Rattle.ndc_model_cells.specs.Jobs.{written_at, written_now, written_outcome}
 use Rattle.ndc_model_cells.specs.Writing.{Entry}
@@ -7,7 +7,10 @@ use Rattle.ndc_command.specs.declared.refusal.CommandError.{CommandError}
 use Rattle.ndc_command.specs.declared.refusal.CommandError.TheVariants.{Memory, Refused}
 use Rattle.ndc_event.specs.Outcome.{Gives}
 use Rattle.ndc_event.specs.declared.batch.Batch.{Batch}
+use Rattle.ndc_model_cells.specs.declared.job.Written.{Written}
+use Rattle.ndc_shard.specs.Answers.{keys_of}
 use Rattle.ndc_shard.specs.Shards.{batches_written, reply_of}
+use Rattle.ndc_shard.specs.declared.error.ShardError.{ShardError}
 
 reply-by : (asked : Result (List Entry) CommandError) → reply_of (batches_written asked) ≡ record { outcome = written_outcome asked; learned = written_now asked }
 reply-by (Ok entries) = refl
@@ -33,6 +36,14 @@ cell-same asked (Err error) old new gives calm done kept = kept (λ e. calm (ap 
     by (Err other) e = refl
 
 -- what is kept anyway is kept where it is refused
-pub kept_anyway : {A P : Type 0} (r : Result A CommandError) → OnErr r P → IfErr r (λ error. error ≢ Memory → P)
-kept_anyway (Ok x) kept = tt
-kept_anyway (Err error) kept = λ calm. kept
+pub kept_anyway : {A : Type 0} (P : Type 0) (r : Result A CommandError) → OnErr r P → IfErr r (λ error. error ≢ Memory → P)
+kept_anyway P (Ok x) kept = tt
+kept_anyway P (Err error) kept = λ calm. kept
+
+-- the keys of batches that were written are no error
+pub keys-kept : (P : Type 0) (batches : List Batch) → 0 < length batches → (r : Result Written ShardError) → r ≡ keys_of batches → OnErr r P
+keys-kept P [] some r e = absurd (omega (arith, some))
+keys-kept P (b ∷ []) some (Ok written) e = tt
+keys-kept P (b ∷ []) some (Err error) e = absurd (cc)
+keys-kept P (b ∷ second ∷ batches) some (Ok written) e = tt
+keys-kept P (b ∷ second ∷ batches) some (Err error) e = absurd (cc)

@@ -1,7 +1,7 @@
 -- What a shard has written stays as it is where batches arrive, and where it writes one more.
-use Rattle.std.proofs.Common.{◌≡◌, ◌<◌, ℕ, zero, suc, Bool, true, false, List, [], ◌∷◌, ◌++◌, Option, Some, None, length, slice_get, refl, sym, ◌∙◌, ap, subst, if◌then◌else◌, append_assoc}
+use Rattle.std.proofs.Common.{◌≡◌, ◌<◌, ℕ, zero, suc, Bool, true, false, List, [], ◌∷◌, ◌++◌, Option, Some, None, length, slice_get, refl, sym, ◌∙◌, ap, subst, if◌then◌else◌, get_or, arith}
 use Rattle.std.specs.Prelude.{IfSome, is_some, option_to_list, ◌&&◌}
-use Rattle.std.specs.List.{AllByRecursion, filter, filter_map}
+use Rattle.std.specs.List.{AllByRecursion, cons_option, filter, filter_map}
 use Rattle.ndc_event.specs.Key.{key_eq}
 use Rattle.ndc_event.specs.declared.batch.Batch.{Batch}
 use Rattle.ndc_event.specs.declared.key.BatchKey.{BatchKey}
@@ -58,7 +58,7 @@ first-there first (Some s) all set back fresh = stays s (arrived first all) (arr
 -- a batch and the one that it carries arrive in a cell, where neither was
 module _ (old new : Cell) (sent : Message) (list : new.arrived ≡ placed_second sent.second (placed sent.batch old.arrived)) (is : IsCell old) (message : IsMessage sent) (lone : sent.batch.carrier ≡ None)
     (own : IfSome sent.second (λ s. is_of sent.batch.domain sent.batch.workflow s ≡ true)) (fresh : IsNewTo (arrived_of sent.batch.domain sent.batch.workflow old) sent) where
-  entry : Entry
+  abbrev entry : Entry
   entry = record { batch = sent.batch; second = sent.second }
 
   back : AllByRecursion PointsBack (sent.batch ∷ option_to_list sent.second)
@@ -69,11 +69,9 @@ module _ (old new : Cell) (sent : Message) (list : new.arrived ≡ placed_second
   here domain workflow of =
       ap (filter (is_of domain workflow)) list ∙ written_arrives domain workflow entry old is message.back of (second-of sent.second own)
     where
-      names = names-of domain workflow sent.batch of
-
       second-of : (o : Option Batch) → IfSome o (λ s. is_of sent.batch.domain sent.batch.workflow s ≡ true) → IfSome o (λ s. is_of domain workflow s ≡ true)
       second-of None e = tt
-      second-of (Some s) e = subst (λ (n : Name). is_of domain n s ≡ true) names.1 (subst (λ (n : Name). is_of n sent.batch.workflow s ≡ true) names.0 e)
+      second-of (Some s) e = subst (λ (n : Name). is_of domain n s ≡ true) (names-of domain workflow sent.batch of).1 (subst (λ (n : Name). is_of n sent.batch.workflow s ≡ true) (names-of domain workflow sent.batch of).0 e)
 
   -- and in no other one
   there : (domain workflow : Name) → is_of domain workflow sent.batch ≡ false → arrived_of domain workflow new ≡ arrived_of domain workflow old
@@ -84,22 +82,20 @@ module _ (old new : Cell) (sent : Message) (list : new.arrived ≡ placed_second
   place-stays : (place : Place) → IsSent old place → message_at new place ≡ message_at old place
   place-stays place sent_is = by (is_of place.domain place.workflow sent.batch) refl
     where
-      all = arrived_of place.domain place.workflow old
-
       by : (t : Bool) → is_of place.domain place.workflow sent.batch ≡ t → message_at new place ≡ message_at old place
       by true of =
           let names = names-of place.domain place.workflow sent.batch of in
-          let new_to : IsNewTo all sent =
+          let new_to : IsNewTo (arrived_of place.domain place.workflow old) sent =
           subst (λ (n : Name). IsNewTo (arrived_of place.domain n old) sent) names.1 (subst (λ (n : Name). IsNewTo (arrived_of n sent.batch.workflow old) sent) names.0 fresh) in
           sym (at-place new place) ∙ ap (λ (bs : List Batch). own_message_of bs (batch_at place.key (learned bs))) (here place.domain place.workflow of)
-          ∙ key-stays all (set_of_workflow place.domain place.workflow old is) sent message lone new_to place.key (ap is_some (at-place old place) ∙ sent_is) ∙ at-place old place
+          ∙ key-stays (arrived_of place.domain place.workflow old) (set_of_workflow place.domain place.workflow old is) sent message lone new_to place.key (ap is_some (at-place old place) ∙ sent_is) ∙ at-place old place
       by false other =
           sym (at-place new place) ∙ ap (λ (bs : List Batch). own_message_of bs (batch_at place.key (learned bs))) (there place.domain place.workflow other) ∙ at-place old place
 
   pub messages-stay : (places : List Place) → AllByRecursion (IsSent old) places → messages_at places new ≡ messages_at places old
   messages-stay [] all = refl
   messages-stay (place ∷ places) all =
-      ap (λ (o : Option Message). option_to_list o ++ messages_at places new) (place-stays place all.0) ∙ ap (λ (ms : List Message). option_to_list (message_at old place) ++ ms) (messages-stay places all.1)
+      ap (λ (o : Option Message). cons_option o (messages_at places new)) (place-stays place all.0) ∙ ap (λ (ms : List Message). cons_option (message_at old place) ms) (messages-stay places all.1)
 
   pub sent-stay : (places : List Place) → AllByRecursion (IsSent old) places → AllByRecursion (IsSent new) places
   sent-stay [] all = tt
@@ -109,18 +105,15 @@ module _ (old new : Cell) (sent : Message) (list : new.arrived ≡ placed_second
   key-there : (domain workflow : Name) (key : BatchKey) → has_key (Some key) (arrived_of domain workflow old) ≡ true → has_key (Some key) (arrived_of domain workflow new) ≡ true
   key-there domain workflow key has = by (is_of domain workflow sent.batch) refl
     where
-      all = arrived_of domain workflow old
-      set = set_of_workflow domain workflow old is
-
-      more : (o : Option Batch) → batch_at key all ≡ o → is_some o ≡ true → has_key (Some key) (with_message sent all) ≡ true
+      more : (o : Option Batch) → batch_at key (arrived_of domain workflow old) ≡ o → is_some o ≡ true → has_key (Some key) (with_message sent (arrived_of domain workflow old)) ≡ true
       more None at some = absurd (cc)
       more (Some b) at some =
-          let named : b.key ≡ key = found-key all key b at in
-          let has_b : Has all b = ap (λ (k : BatchKey). batch_at k all) named ∙ at in
-          ap (λ (k : BatchKey). is_some (batch_at k (with_message sent all))) (sym named) ∙ ap is_some (part-more-of sent.batch sent.second all set message.back b has_b)
+          let named : b.key ≡ key = found-key (arrived_of domain workflow old) key b at in
+          let has_b : Has (arrived_of domain workflow old) b = ap (λ (k : BatchKey). batch_at k (arrived_of domain workflow old)) named ∙ at in
+          ap (λ (k : BatchKey). is_some (batch_at k (with_message sent (arrived_of domain workflow old)))) (sym named) ∙ ap is_some (part-more-of sent.batch sent.second (arrived_of domain workflow old) (set_of_workflow domain workflow old is) message.back b has_b)
 
       by : (t : Bool) → is_of domain workflow sent.batch ≡ t → has_key (Some key) (arrived_of domain workflow new) ≡ true
-      by true of = ap (has_key (Some key)) (here domain workflow of) ∙ more (batch_at key all) refl has
+      by true of = ap (has_key (Some key)) (here domain workflow of) ∙ more (batch_at key (arrived_of domain workflow old)) refl has
       by false other = ap (has_key (Some key)) (there domain workflow other) ∙ has
 
   -- no batch has arrived without its carrier
@@ -163,17 +156,15 @@ module _ (old new : Cell) (sent : Message) (list : new.arrived ≡ placed_second
   none-carried-in [] all = tt
   none-carried-in (o ∷ bs) all = by (is_of sent.batch.domain sent.batch.workflow o) refl (none-carried-in bs all.1)
     where
-      of_workflow = is_of sent.batch.domain sent.batch.workflow
-
       not-by : is_of sent.batch.domain sent.batch.workflow o ≡ true → (c : Option BatchKey) → o.carrier ≡ c → IfSome c (λ key. has_key (Some key) (arrived_of o.domain o.workflow old) ≡ true) → carries sent.batch o ≡ false
-      not-by of None e has = ap (λ (x : Option BatchKey). of_workflow o && is_wanted x sent.batch) e ∙ and-not (of_workflow o)
+      not-by of None e has = ap (λ (x : Option BatchKey). (is_of sent.batch.domain sent.batch.workflow) o && is_wanted x sent.batch) e ∙ and-not ((is_of sent.batch.domain sent.batch.workflow) o)
         where
           and-not : (t : Bool) → (t && false) ≡ false
           and-not true = refl
           and-not false = refl
-      not-by of (Some key) e has = ap (λ (x : Option BatchKey). of_workflow o && is_wanted x sent.batch) e ∙ wanted (key_eq sent.batch.key key) refl
+      not-by of (Some key) e has = ap (λ (x : Option BatchKey). (is_of sent.batch.domain sent.batch.workflow) o && is_wanted x sent.batch) e ∙ wanted (key_eq sent.batch.key key) refl
         where
-          wanted : (t : Bool) → key_eq sent.batch.key key ≡ t → (of_workflow o && key_eq sent.batch.key key) ≡ false
+          wanted : (t : Bool) → key_eq sent.batch.key key ≡ t → ((is_of sent.batch.domain sent.batch.workflow) o && key_eq sent.batch.key key) ≡ false
           wanted true same =
               let names = names-of sent.batch.domain sent.batch.workflow o of in
               let there_is : has_key (Some key) (arrived_of sent.batch.domain sent.batch.workflow old) ≡ true =
@@ -181,45 +172,42 @@ module _ (old new : Cell) (sent : Message) (list : new.arrived ≡ placed_second
               let clash : true ≡ false =
               sym there_is ∙ ap (λ (k : BatchKey). has_key (Some k) (arrived_of sent.batch.domain sent.batch.workflow old)) (sym (same-keys sent.batch.key key same)) ∙ ap is_some fresh.0 in
               absurd (cc)
-          wanted false apart = ap (λ (t : Bool). of_workflow o && t) apart ∙ and-not (of_workflow o)
+          wanted false apart = ap (λ (t : Bool). (is_of sent.batch.domain sent.batch.workflow) o && t) apart ∙ and-not ((is_of sent.batch.domain sent.batch.workflow) o)
             where
               and-not : (t : Bool) → (t && false) ≡ false
               and-not true = refl
               and-not false = refl
 
-      by : (t : Bool) → of_workflow o ≡ t → AllByRecursion (λ (x : Batch). carries sent.batch x ≡ false) (filter of_workflow bs) → AllByRecursion (λ (x : Batch). carries sent.batch x ≡ false) (filter of_workflow (o ∷ bs))
+      by : (t : Bool) → (is_of sent.batch.domain sent.batch.workflow) o ≡ t → AllByRecursion (λ (x : Batch). carries sent.batch x ≡ false) (filter (is_of sent.batch.domain sent.batch.workflow) bs) → AllByRecursion (λ (x : Batch). carries sent.batch x ≡ false) (filter (is_of sent.batch.domain sent.batch.workflow) (o ∷ bs))
       by true e rest = rw e (not-by e o.carrier refl all.0, rest)
       by false e rest = rw e rest
 
   -- the batch is learned where its earlier key is
   is-learned : has_key (earlier sent.batch) (learned_of sent.batch.domain sent.batch.workflow old) ≡ true → Has (learned (with_message sent (arrived_of sent.batch.domain sent.batch.workflow old))) sent.batch
-  is-learned reached = reaches-learned (with_message sent all) sent.batch (with-set sent all set back) (by (earlier sent.batch) refl reached)
+  is-learned reached = reaches-learned (with_message sent (arrived_of sent.batch.domain sent.batch.workflow old)) sent.batch (with-set sent (arrived_of sent.batch.domain sent.batch.workflow old) (set_of_workflow sent.batch.domain sent.batch.workflow old is) back) (by (earlier sent.batch) refl reached)
     where
-      all = arrived_of sent.batch.domain sent.batch.workflow old
-      set = set_of_workflow sent.batch.domain sent.batch.workflow old is
+      has : Has (with_message sent (arrived_of sent.batch.domain sent.batch.workflow old)) sent.batch
+      has = first-there sent.batch sent.second (arrived_of sent.batch.domain sent.batch.workflow old) (set_of_workflow sent.batch.domain sent.batch.workflow old is) message.back fresh.0
 
-      has : Has (with_message sent all) sent.batch
-      has = first-there sent.batch sent.second all set message.back fresh.0
+      more : IsPart (arrived_of sent.batch.domain sent.batch.workflow old) (with_message sent (arrived_of sent.batch.domain sent.batch.workflow old))
+      more = part-more-of sent.batch sent.second (arrived_of sent.batch.domain sent.batch.workflow old) (set_of_workflow sent.batch.domain sent.batch.workflow old is) message.back
 
-      more : IsPart all (with_message sent all)
-      more = part-more-of sent.batch sent.second all set message.back
-
-      from : (key : BatchKey) → earlier sent.batch ≡ Some key → (o : Option Batch) → batch_at key (learned all) ≡ o → is_some o ≡ true → ReachesTop (with_message sent all) sent.batch
+      from : (key : BatchKey) → earlier sent.batch ≡ Some key → (o : Option Batch) → batch_at key (learned (arrived_of sent.batch.domain sent.batch.workflow old)) ≡ o → is_some o ≡ true → ReachesTop (with_message sent (arrived_of sent.batch.domain sent.batch.workflow old)) sent.batch
       from key e None at some = absurd (cc)
       from key e (Some before) at some =
-          let named : before.key ≡ key = found-key (learned all) key before at in
-          let has_before : Has (learned all) before = ap (λ (k : BatchKey). batch_at k (learned all)) named ∙ at in
-          let reaches : ReachesTop (with_message sent all) before = reaches-more all (with_message sent all) before more (learned-reaches all before set has_before) in
-          let there_is : batch_at key (with_message sent all) ≡ Some before = ap (λ (k : BatchKey). batch_at k (with_message sent all)) (sym named) ∙ reached-has reaches in
+          let named : before.key ≡ key = found-key (learned (arrived_of sent.batch.domain sent.batch.workflow old)) key before at in
+          let has_before : Has (learned (arrived_of sent.batch.domain sent.batch.workflow old)) before = ap (λ (k : BatchKey). batch_at k (learned (arrived_of sent.batch.domain sent.batch.workflow old))) named ∙ at in
+          let reaches : ReachesTop (with_message sent (arrived_of sent.batch.domain sent.batch.workflow old)) before = reaches-more (arrived_of sent.batch.domain sent.batch.workflow old) (with_message sent (arrived_of sent.batch.domain sent.batch.workflow old)) before more (learned-reaches (arrived_of sent.batch.domain sent.batch.workflow old) before (set_of_workflow sent.batch.domain sent.batch.workflow old is) has_before) in
+          let there_is : batch_at key (with_message sent (arrived_of sent.batch.domain sent.batch.workflow old)) ≡ Some before = ap (λ (k : BatchKey). batch_at k (with_message sent (arrived_of sent.batch.domain sent.batch.workflow old))) (sym named) ∙ reached-has reaches in
           up sent.batch before key has e there_is reaches
         where
-          reached-has : ReachesTop (with_message sent all) before → Has (with_message sent all) before
+          reached-has : ReachesTop (with_message sent (arrived_of sent.batch.domain sent.batch.workflow old)) before → Has (with_message sent (arrived_of sent.batch.domain sent.batch.workflow old)) before
           reached-has (top b h e) = h
           reached-has (up b x k h e f r) = h
 
-      by : (o : Option BatchKey) → earlier sent.batch ≡ o → has_key o (learned all) ≡ true → ReachesTop (with_message sent all) sent.batch
+      by : (o : Option BatchKey) → earlier sent.batch ≡ o → has_key o (learned (arrived_of sent.batch.domain sent.batch.workflow old)) ≡ true → ReachesTop (with_message sent (arrived_of sent.batch.domain sent.batch.workflow old)) sent.batch
       by None e h = top sent.batch has e
-      by (Some key) e h = from key e (batch_at key (learned all)) refl h
+      by (Some key) e h = from key e (batch_at key (learned (arrived_of sent.batch.domain sent.batch.workflow old))) refl h
 
   -- the message of what is written is there
   pub written-there : has_key (earlier sent.batch) (learned_of sent.batch.domain sent.batch.workflow old) ≡ true → AllByRecursion (HasCarrier old) old.arrived
@@ -237,25 +225,28 @@ pub many-sent : (cell : Cell) (places : List Place) → AllByRecursion (IsSent c
 many-sent cell [] all = refl
 many-sent cell (place ∷ places) all = by (message_at cell place) all.0 (many-sent cell places all.1)
   where
-    by : (o : Option Message) → is_some o ≡ true → length places ≡ length (messages_at places cell) → suc (length places) ≡ length (option_to_list o ++ messages_at places cell)
+    by : (o : Option Message) → is_some o ≡ true → length places ≡ length (messages_at places cell) → suc (length places) ≡ length (cons_option o (messages_at places cell))
     by None some rest = absurd (cc)
     by (Some sent) some rest = ap suc rest
 
-pub sent-at : (cell : Cell) (places : List Place) → AllByRecursion (IsSent cell) places → (i : ℕ) (place : Place) → slice_get places i ≡ Some place → slice_get (messages_at places cell) i ≡ message_at cell place
-sent-at cell [] all i place at = absurd (cc)
-sent-at cell (first ∷ places) all zero place at = by (message_at cell first) refl all.0
+pub sent-at : (cell : Cell) (places : List Place) → AllByRecursion (IsSent cell) places → (i : ℕ) (place : Place) → i < length places → place ≡ get_or places i place → slice_get (messages_at places cell) i ≡ message_at cell place
+sent-at cell [] all i place below at = absurd (omega (arith, below))
+sent-at cell (first ∷ places) all zero place below at = by (message_at cell first) refl all.0
   where
-    same : first ≡ place
-    same = cc
-
-    by : (o : Option Message) → message_at cell first ≡ o → is_some o ≡ true → slice_get (option_to_list o ++ messages_at places cell) 0 ≡ message_at cell place
+    by : (o : Option Message) → message_at cell first ≡ o → is_some o ≡ true → slice_get (cons_option o (messages_at places cell)) 0 ≡ message_at cell place
     by None e some = absurd (cc)
-    by (Some sent) e some = sym e ∙ ap (message_at cell) same
-sent-at cell (first ∷ places) all (suc i) place at = by (message_at cell first) all.0 (sent-at cell places all.1 i place at)
+    by (Some sent) e some = sym e ∙ ap (message_at cell) (sym at)
+sent-at cell (first ∷ places) all (suc i) place below at = by (message_at cell first) all.0 (sent-at cell places all.1 i place (omega (arith, below)) at)
   where
-    by : (o : Option Message) → is_some o ≡ true → slice_get (messages_at places cell) i ≡ message_at cell place → slice_get (option_to_list o ++ messages_at places cell) (suc i) ≡ message_at cell place
+    by : (o : Option Message) → is_some o ≡ true → slice_get (messages_at places cell) i ≡ message_at cell place → slice_get (cons_option o (messages_at places cell)) (suc i) ≡ message_at cell place
     by None some rest = absurd (cc)
     by (Some sent) some rest = rest
+
+pub sent-there : (cell : Cell) (places : List Place) → AllByRecursion (IsSent cell) places → (i : ℕ) (place : Place) → i < length places → place ≡ get_or places i place → message_at cell place ≡ None → ⊥
+sent-there cell [] all i place below at none = absurd (omega (arith, below))
+sent-there cell (first ∷ places) all zero place below at none =
+    let clash : true ≡ false = sym (subst (IsSent cell) (sym at) all.0) ∙ ap is_some none in absurd (cc)
+sent-there cell (first ∷ places) all (suc i) place below at none = sent-there cell places all.1 i place (omega (arith, below)) at none
 
 -- nothing was written
 pub none-sent : (cell : Cell) → cell.arrived ≡ [] → AreSent [] cell
@@ -295,10 +286,13 @@ module _ (entry : Entry) (old : Cell) (places : List Place) (is : IsCell old) (l
     where
       joined : (ps : List Place) (place : Place) (m : Message) → message_at (with_batches entry old) place ≡ Some m
           → messages_at (ps ++ place ∷ []) (with_batches entry old) ≡ messages_at ps (with_batches entry old) ++ m ∷ []
-      joined [] place m e = ap (λ (o : Option Message). option_to_list o ++ []) e
+      joined [] place m e = ap (λ (o : Option Message). cons_option o []) e
       joined (p ∷ ps) place m e =
-          ap (λ (ms : List Message). option_to_list (message_at (with_batches entry old) p) ++ ms) (joined ps place m e)
-          ∙ sym (append_assoc (option_to_list (message_at (with_batches entry old) p)) (messages_at ps (with_batches entry old)) (m ∷ []))
+          ap (λ (ms : List Message). cons_option (message_at (with_batches entry old) p) ms) (joined ps place m e) ∙ behind (message_at (with_batches entry old) p)
+        where
+          behind : (o : Option Message) → cons_option o (messages_at ps (with_batches entry old) ++ m ∷ []) ≡ cons_option o (messages_at ps (with_batches entry old)) ++ m ∷ []
+          behind None = refl
+          behind (Some first) = refl
 
   pub written-sent : AreSent (places ++ place_of entry.batch ∷ []) (with_batches entry old)
   written-sent =
@@ -308,3 +302,23 @@ module _ (entry : Entry) (old : Cell) (places : List Place) (is : IsCell old) (l
       more : (ps : List Place) → AllByRecursion (IsSent (with_batches entry old)) ps → AllByRecursion (IsSent (with_batches entry old)) (ps ++ place_of entry.batch ∷ [])
       more [] all = (ap is_some there-now, tt)
       more (p ∷ ps) all = (all.0, more ps all.1)
+
+-- the same of a shard, which is seen as its workflows with what they have written
+module _ (entry : Entry) (old new : Cell) (places behind : List Place) (messages : List Message) (shard : Cell) (seen : having_written messages old ≡ shard) (is : IsCell old) (lone : entry.batch.carrier ≡ None)
+    (may : MayBeWritten (carrying entry.batch entry.second) (workflow_of entry.batch.domain entry.batch.workflow shard)) (are : AreSent places old)
+    (cell_is : new ≡ with_batches entry old) (places_are : behind ≡ places ++ place_of entry.batch ∷ []) where
+  own-may : MayBeWritten (carrying entry.batch entry.second) (workflow_of entry.batch.domain entry.batch.workflow old)
+  own-may = subst (λ (c : Cell). MayBeWritten (carrying entry.batch entry.second) (workflow_of entry.batch.domain entry.batch.workflow c)) (sym seen) may
+
+  pub behind-write : AreSent behind new
+  behind-write = subst (λ (ps : List Place). AreSent ps new) (sym places_are) (subst (AreSent (places ++ place_of entry.batch ∷ [])) (sym cell_is) (written-sent entry old places is lone own-may are))
+
+module _ (entry : Entry) (old new : Cell) (places behind : List Place) (shard : Cell) (seen : having_written (messages_at places old) old ≡ shard) (is : IsCell old) (lone : entry.batch.carrier ≡ None)
+    (may : MayBeWritten (carrying entry.batch entry.second) (workflow_of entry.batch.domain entry.batch.workflow shard)) (are : AreSent places old)
+    (cell_is : new ≡ with_batches entry old) (places_are : behind ≡ places ++ place_of entry.batch ∷ []) where
+  pub write-messages : having_written (messages_at behind new) new ≡ with_written entry shard
+  write-messages =
+      ap (λ (ps : List Place). having_written (messages_at ps new) new) places_are ∙ ap (λ (c : Cell). having_written (messages_at (places ++ place_of entry.batch ∷ []) c) c) cell_is
+      ∙ ap (λ (ms : List Message). having_written ms (with_batches entry old))
+      (written-messages entry old places is lone (own-may entry old new places behind (messages_at places old) shard seen is lone may are cell_is places_are) are)
+      ∙ ap (with_written entry) seen

@@ -98,7 +98,13 @@ impl Shard {
         ensures { IfOk result (λ sent. slice_get self.now.written place ≡ Some sent) }
     {
         let at = &self.places[place];
-        let found = message_there(self.alloc, &self.workflows, &at.domain, &at.workflow, at.key)?;
+        let found = message_there(
+            self.alloc,
+            &self.workflows,
+            &at.domain,
+            &at.workflow,
+            at.key,
+        )?;
         match found {
             Some(message) => Ok(message),
             None => unreachable!(),
@@ -119,7 +125,12 @@ impl Shard {
     /// with the first of these that holds: [`Refusal::UnknownDomain`] where there is no record, [`Refusal::NotActive`] with
     /// the version where another cluster writes with it, or none does, and [`Refusal::Behind`] with the greatest learned
     /// version where that is above it. The workflow is looked up only where the record lets it write.
-    pub(crate) fn version_for(&self, desk: &Desk, domain: &Name, workflow: &Name) -> Result<u64, Refusal>
+    pub(crate) fn version_for(
+        &self,
+        desk: &Desk,
+        domain: &Name,
+        workflow: &Name,
+    ) -> Result<u64, Refusal>
         ensures { result ≡ may_write desk.now domain.now workflow.now self.now }
     {
         let clusters = desk.clusters();
@@ -169,7 +180,7 @@ impl Shard {
         self.places.reserve(1)?;
         self.workflows
             .write(self.alloc, entry.batch(), entry.second(), steps)?;
-        self.places.push(place).unwrap();
+        self.places.push_reserved(place);
         Ok(())
     }
 
@@ -254,6 +265,7 @@ impl Shard {
     ) -> Result<Batches, CommandError>
         requires { MayBeAsked desk.now domain.now workflow.now (command_of desk.now domain.now workflow.now command.now self.old) self.old }
         ensures batches { Gives Memory (λ batches. batches) result (batches_written (command_of desk.now domain.now workflow.now command.now self.old)) }
+        ensures some { IfOk result (λ batches. 0 < length batches) }
         ensures cell { OnOk result (self.new ≡ written_at (command_of desk.now domain.now workflow.now command.now self.old) self.old) }
         ensures unchanged { OnErr result (self.new ≡ self.old) }
     {
@@ -380,7 +392,11 @@ impl Shard {
     /// Strays are applied again in each workflow, in order, where the cell may write to it and its current run is open:
     /// the batches that are written, in order. After want of memory nothing is said of the cell. It looks only at workflows
     /// in which reapplication may be due.
-    pub(crate) fn apply_again<L>(&mut self, desk: &Desk, steps: &mut Steps<L>) -> Result<Batches, AllocError>
+    pub(crate) fn apply_again<L>(
+        &mut self,
+        desk: &Desk,
+        steps: &mut Steps<L>,
+    ) -> Result<Batches, AllocError>
         requires { MayReapply desk.now (workflows_of self.old.arrived) self.old }
         ensures cell { OnOk result (self.new ≡ reapplied_in desk.now (workflows_of self.old.arrived) self.old) }
         ensures batches { IfOk result (λ batches. batches ≡ reapplied_now desk.now (workflows_of self.old.arrived) self.old) }

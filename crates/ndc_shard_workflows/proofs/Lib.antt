@@ -24,10 +24,9 @@ pub mod OkLemmas
 pub mod OneExampleLemmas
 pub mod OneWriteLemmas
 pub mod OwnLemmas
-mod PlaceLemmas
+pub mod PlaceLemmas
 pub mod PutLemmas
 pub mod PutOffLemmas
 pub mod SameLemmas
 pub mod WaitLemmas
 pub mod WriteLemmas
-pub mod PlaceLemmas

@@ -20,7 +20,9 @@ fn a_cluster_lends_its_records(rt: HostRuntime) -> Result<(), Fail> {
     let mut cluster = Cluster::<ListCell>::new(alloc, &home, 1)?;
     let alpha = name(alloc, "alpha")?;
     let members = Members::of(&[A]);
-    cluster.table().register(&clusters, A, &alpha, A, 7, members)?;
+    cluster
+        .table()
+        .register(&clusters, A, &alpha, A, 7, members)?;
     assert_eq!(rt; cluster.records().records().len(), 1);
     assert_eq!(rt; cluster.cells().len(), 1);
     Ok(())

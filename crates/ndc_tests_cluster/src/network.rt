@@ -144,7 +144,10 @@ fn a_domain_is_registered_and_a_handover_opened(rt: HostRuntime) -> Result<(), F
     let source = ClusterNo { number: 0 };
     let alpha = name(alloc, "alpha")?;
     let members = Members::of(&[source]);
-    assert_eq!(rt; network.register(&header, source, &alpha, source, 7, members)?, 1);
+    assert_eq!(rt;
+        network.register(&header, source, &alpha, source, 7, members)?,
+        1
+    );
     network.open_handover(handover(alloc)?)?;
     assert_eq!(rt; network.handovers().len(), 1);
     Ok(())

@@ -4,8 +4,8 @@ ghost use Rattle.std.specs.Prelude.{◌≡◌, ◌<◌, ◌≤◌, length, IfOk}
 use ndc_cluster_rounds::{Cell, Desk, Home, round};
 use ndc_domain::{ClusterNo, Clusters, DomainTable};
 use ndc_event::{BatchKey, Name};
-use ndc_port::{Gate, OpenGate, PairGate};
 use ndc_model_cells::Message;
+use ndc_port::{Gate, OpenGate, PairGate};
 use ndc_shard::{Job, JobReply, ShardJob};
 use std::alloc::{AllocError, Global};
 use std::sync::atomic::{AtomicBool, Ordering};

@@ -65,9 +65,9 @@ edit-quiet before after name one new table found put names members =
       new = new;
       put = put;
       stays = λ reader old there has.
-      let same : Some one ≡ Some old = sym found ∙ ap (record_of before) (sym (names ∙ named)) ∙ there in
-      let is : one ≡ old = cc in
-      subst (λ (r : DomainRecord). has_member r.members reader.number ≡ true) is (subst (λ (ms : List ℕ). has_member ms reader.number ≡ true) members has);
+          let same : Some one ≡ Some old = sym found ∙ ap (record_of before) (sym (names ∙ named)) ∙ there in
+          let is : one ≡ old = cc in
+          subst (λ (r : DomainRecord). has_member r.members reader.number ≡ true) is (subst (λ (ms : List ℕ). has_member ms reader.number ≡ true) members has);
     }
 
 pub retain_quiet : (at : ClusterNo) (name : Name) (days : ℕ) (before : List DomainRecord) (config : ℕ) (after : List DomainRecord) → IsTable before → retain_of at name days before ≡ Ok (config, after) → Quiet before after

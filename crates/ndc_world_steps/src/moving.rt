@@ -14,8 +14,8 @@ ghost use Rattle.ndc_world_network.specs.Orderly.{IsOrderly};
 ghost use Rattle.ndc_world_steps.specs.Told.{leaving};
 
 use crate::step::Step;
-use ndc_cluster_rounds::Cell;
 use ndc_cluster_reads::Reads;
+use ndc_cluster_rounds::Cell;
 use ndc_domain::ClusterNo;
 use ndc_index::Seen;
 use ndc_port::Gate;

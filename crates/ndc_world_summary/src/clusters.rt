@@ -7,11 +7,10 @@ ghost use Rattle.ndc_world_summary.specs.Summaries.{cells_of, totals_in, totals_
 
 use crate::parts::{Totals, added, totals_in};
 use crate::tables::have_one_table;
-use ndc_world_network::Site;
-use ndc_cluster_rounds::Cell;
 use ndc_cluster_reads::Reads;
+use ndc_cluster_rounds::Cell;
 use ndc_script_types::Header;
-use ndc_world_network::Network;
+use ndc_world_network::{Network, Site};
 use std::alloc::{AllocError, Global};
 
 /// The cell of a cluster for a shard.

@@ -2,9 +2,9 @@ ghost use Rattle.std.specs.Prelude.{◌≡◌, map};
 ghost use Rattle.ndc_world_network.specs.Sites.{SiteValue};
 ghost use Rattle.ndc_world_summary.specs.Summaries.{are_one_table, same_table};
 
-use ndc_world_network::Site;
 use ndc_cluster_rounds::Cell;
 use ndc_domain::DomainTable;
+use ndc_world_network::Site;
 
 /// Whether two tables hold the same records.
 fn is_same(one: &DomainTable, two: &DomainTable) -> bool

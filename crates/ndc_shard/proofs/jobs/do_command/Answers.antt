@@ -8,7 +8,7 @@ pub returns-clause-cell : goal.returns-clause-cell
 unfolding after_job
 returns-clause-cell c =
     cell-same (command_of c.args.desk.now c.args.domain.now c.args.workflow.now c.args.command.now c.args.shard.now) c.write_command-written.result c.args.shard.now c.write_command-written.new.self
-    c.write_command-written.ensures.batches c.in_ok-reply.ensures.calm c.write_command-written.ensures.cell (kept_anyway c.write_command-written.result c.write_command-written.ensures.unchanged)
+    c.write_command-written.ensures.batches c.in_ok-reply.ensures.calm c.write_command-written.ensures.cell (kept_anyway _ c.write_command-written.result c.write_command-written.ensures.unchanged)
 
 pub returns-clause-reply : goal.returns-clause-reply
 unfolding outcome_of learned_in

@@ -1,24 +1,36 @@
-use Rattle.std.proofs.Common.{◌≡◌, ◌++◌, [], ◌∷◌, List, ap, sym, subst, ◌∙◌}
+use Rattle.std.proofs.Common.{◌≡◌, ◌++◌, [], ◌∷◌, List, Option, ap, sym, subst, ◌∙◌}
 use Rattle.std.specs.Option.{option_copied}
 use Rattle.ndc_event.specs.declared.batch.Batch.{Batch}
 use Rattle.ndc_model_cells.specs.Cells.{Cell}
-use Rattle.ndc_model_cells.specs.Messages.{carrying}
 use Rattle.ndc_model_cells.specs.Places.{place_of}
-use Rattle.ndc_model_cells.specs.Workflow.{workflow_of}
 use Rattle.ndc_model_cells.specs.Writing.{Entry, with_batches, with_written}
+use Rattle.ndc_model_cells.specs.declared.message.Message.{Message}
 use Rattle.ndc_model_cells.specs.declared.place.Place.{Place}
-use Rattle.ndc_shard.proofs.SentLemmas.{written-messages, written-sent}
+use Rattle.ndc_shard.proofs.SentLemmas.{behind-write, write-messages}
 use Rattle.ndc_shard.specs.Sent.{AreSent, messages_at}
 use Rattle.ndc_shard.specs.Shards.{having_written}
-use Rattle.ndc_shard_workflows.specs.Writing.{MayBeWritten}
 use Rattle.ndc_shard.proofs.shard.Shard.write.Goals as goal
 
--- the places behind the write
-places-then : (places then : List Place) (place : Place) (b entry : Batch) → then ≡ places ++ place ∷ [] → place ≡ place_of b → b ≡ entry → then ≡ places ++ place_of entry ∷ []
-places-then places then place b entry e f g = e ∙ ap (λ (p : Place). places ++ p ∷ []) (f ∙ ap place_of g)
-
 pub invariant_of-self-2 : goal.invariant_of-self-2
-invariant_of-self-2 g c = absurd (cc)
+invariant_of-self-2 g c =
+    let entry = c.args.entry.now in
+    let cell_is : c.write.new.self ≡ with_batches entry c.self.inside.workflows =
+    c.in_ok-write.ensures.ok ∙ ap (λ (b : Batch). with_batches (record { batch = b; second = option_copied c.second.result }) c.self.inside.workflows) c.batch-2.ensures
+    ∙ ap (λ (o : Option Batch). with_batches (record { batch = entry.batch; second = o }) c.self.inside.workflows) c.second.ensures in
+    let places_are : c.push_reserved.new.self.items ≡ c.self.inside.places.items ++ place_of entry.batch ∷ [] =
+    c.push_reserved.ensures.items ∙ ap (λ (ps : List Place). ps ++ c.in_ok-place.place ∷ []) c.in_ok-reserve.ensures.items
+    ∙ ap (λ (p : Place). c.self.inside.places.items ++ p ∷ []) (c.in_ok-place.ensures ∙ ap place_of c.batch.ensures) in
+    behind-write entry c.self.inside.workflows c.write.new.self c.self.inside.places.items c.push_reserved.new.self.items (messages_at c.self.inside.places.items c.self.inside.workflows) c.args.self.now
+    c.self.view_is c.is_in_order.ensures c.requires.lone c.requires.may c.self.invariant cell_is places_are
 
 pub returns-clause-ok : goal.returns-clause-ok
-returns-clause-ok g c = absurd (cc)
+returns-clause-ok g c =
+    let entry = c.args.entry.now in
+    let cell_is : c.write.new.self ≡ with_batches entry c.self.inside.workflows =
+    c.in_ok-write.ensures.ok ∙ ap (λ (b : Batch). with_batches (record { batch = b; second = option_copied c.second.result }) c.self.inside.workflows) c.batch-2.ensures
+    ∙ ap (λ (o : Option Batch). with_batches (record { batch = entry.batch; second = o }) c.self.inside.workflows) c.second.ensures in
+    let places_are : c.push_reserved.new.self.items ≡ c.self.inside.places.items ++ place_of entry.batch ∷ [] =
+    c.push_reserved.ensures.items ∙ ap (λ (ps : List Place). ps ++ c.in_ok-place.place ∷ []) c.in_ok-reserve.ensures.items
+    ∙ ap (λ (p : Place). c.self.inside.places.items ++ p ∷ []) (c.in_ok-place.ensures ∙ ap place_of c.batch.ensures) in
+    write-messages entry c.self.inside.workflows c.write.new.self c.self.inside.places.items c.push_reserved.new.self.items c.args.self.now
+    c.self.view_is c.is_in_order.ensures c.requires.lone c.requires.may c.self.invariant cell_is places_are
