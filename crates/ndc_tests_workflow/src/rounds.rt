@@ -12,21 +12,25 @@ use std::sync::atomic::{AtomicBool, Ordering};
 use std::test::Fail;
 use std::thread::Threads;
 
-/// A cell that finds no memory for any job.
+/// A cell that has learned nothing and finds no memory for any job.
 #[derive(Drop)]
-struct FullCell {}
+struct FullCell {
+    written: Vec<Message>,
+}
 
 impl Cell for FullCell {
     ghost use Rattle.ndc_model_cells.specs.Cells.{empty_cell};
 
-    ghost cell = { λ _. empty_cell };
+    ghost cell = { λ full. record empty_cell { written = full.written.items } };
 
     ghost allows = { λ _ _ _. Unit {0} };
 
     ghost may = { λ _ _ _ _. tt };
 
-    fn new(_alloc: Global, _home: &Home) -> Result<FullCell, AllocError> {
-        Ok(FullCell {})
+    fn new(alloc: Global, _home: &Home) -> Result<FullCell, AllocError> {
+        Ok(FullCell {
+            written: Vec::new(alloc),
+        })
     }
 
     fn has_learned(&self, _domain: &Name, _workflow: &Name, _key: BatchKey) -> bool {
@@ -34,7 +38,7 @@ impl Cell for FullCell {
     }
 
     fn written_len(&self) -> u64 {
-        0
+        self.written.len() as u64
     }
 
     fn written_at(&self, _place: u64) -> Result<Message, AllocError> {
@@ -118,8 +122,12 @@ fn two_cells(alloc: Global) -> Result<Vec<FullCell>, AllocError>
     ensures { IfOk result (λ cells. length cells.items ≡ 2) }
 {
     let mut cells = Vec::new(alloc);
-    cells.push(FullCell {})?;
-    cells.push(FullCell {})?;
+    cells.push(FullCell {
+        written: Vec::new(alloc),
+    })?;
+    cells.push(FullCell {
+        written: Vec::new(alloc),
+    })?;
     Ok(cells)
 }
 
