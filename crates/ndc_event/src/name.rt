@@ -1,5 +1,7 @@
 ghost use Rattle.std.specs.Prelude.{◌≡◌};
+ghost use Rattle.std.specs.Cmp.Lexicographic.{slice_cmp};
 ghost use Rattle.std.specs.List.{list_all};
+ghost use Rattle.std.specs.Ordering.{nat_cmp};
 ghost use Rattle.ndc_event.specs.Name.{is_name_byte};
 
 use std::alloc::{AllocError, Global};
@@ -68,6 +70,26 @@ fn are_name_bytes(bytes: &[u8]) -> bool
     ensures { result ≡ list_all is_name_byte bytes.now }
 {
     bytes.iter().all(|byte| is_name_byte(*byte))
+}
+
+/// How many bytes of names are compared one by one, before all are compared as text: most names differ early.
+const NEAR: usize = 16;
+
+/// How texts compare, byte by byte.
+fn compared(one: &str, two: &str) -> Ordering
+    ensures { result ≡ slice_cmp nat_cmp one.now two.now }
+{
+    let (front, other) = (one.as_bytes(), two.as_bytes());
+    let both = front.len().min(other.len());
+    for place in 0..both.min(NEAR) {
+        if front[place] != other[place] {
+            return front[place].cmp(&other[place]);
+        }
+    }
+    if both <= NEAR {
+        return front.len().cmp(&other.len());
+    }
+    one.cmp(two)
 }
 
 impl Name {
@@ -144,7 +166,7 @@ impl PartialEq for Name {
     ghost laws = { partial_equiv_from_equiv nat_list_eq_equiv };
 
     fn eq(&self, other: &Name) -> bool {
-        self.as_str() == other.as_str()
+        compared(self.as_str(), other.as_str()).is_eq()
     }
 }
 
@@ -182,7 +204,7 @@ impl Ord for Name {
     ghost matches_eq = { texts_ties };
 
     fn cmp(&self, other: &Name) -> Ordering {
-        self.as_str().cmp(other.as_str())
+        compared(self.as_str(), other.as_str())
     }
 }
 
