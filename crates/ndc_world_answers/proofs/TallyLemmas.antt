@@ -16,7 +16,8 @@ use Rattle.ndc_world_answers.specs.declared.tally.Tally.{Tally}
 more : (f : Note → ℕ) (note : Note) (notes : List Note) (before : ℕ) → before + sum (map f (note ∷ notes)) ≡ before + f note + sum (map f notes)
 more f note notes before = let whole : sum (map f (note ∷ notes)) ≡ f note + sum (map f notes) = sum_by-cons (λ n. n) (f note) (map f notes) in omega (arith, whole)
 
-tally : ℕ → ℕ → ℕ → ℕ → ℕ → Tally
+-- what is counted, count by count
+pub tally : ℕ → ℕ → ℕ → ℕ → ℕ → Tally
 tally learned known put_off arrived applied = record { learned = learned; known = known; put_off = put_off; arrived = arrived; applied = applied }
 
 pub same-tally : (a b c d e v w x y z : ℕ) → a ≡ v → b ≡ w → c ≡ x → d ≡ y → e ≡ z → tally a b c d e ≡ tally v w x y z

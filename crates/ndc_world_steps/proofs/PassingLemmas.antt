@@ -1,5 +1,5 @@
 -- Cells that are passed by tell nothing.
-use Rattle.std.proofs.Common.{◌≡◌, ◌==◌, ℕ, Bool, true, false, List, [], ◌∷◌, ◌++◌, if◌then◌else◌, refl, ap, sym, ◌∙◌, arith}
+use Rattle.std.proofs.Common.{◌≡◌, ◌==◌, ◌+◌, ℕ, Bool, true, false, List, [], ◌∷◌, ◌++◌, if◌then◌else◌, refl, ap, sym, ◌∙◌, arith}
 use Rattle.ndc_cluster_rounds.specs.Idle.{idle_reply}
 use Rattle.ndc_domain.specs.declared.clusters.ClusterNo.{ClusterNo}
 use Rattle.ndc_index.specs.declared.seen.Seen.{Seen}
@@ -8,7 +8,7 @@ use Rattle.ndc_model.specs.Steps.{seen_at, seen_of}
 use Rattle.ndc_model_cells.specs.declared.job.Job.TheVariants.{Reapply}
 use Rattle.ndc_model_cells.specs.declared.job.JobReply.{JobReply}
 use Rattle.ndc_model_cells.specs.declared.job.ShardJob.{ShardJob}
-use Rattle.ndc_world_answers.proofs.TallyLemmas.{same-tally, tally, with-note}
+use Rattle.ndc_world_answers.proofs.TallyLemmas.{with-note}
 use Rattle.ndc_world_answers.specs.Tallies.{with_notes, with_reply}
 use Rattle.ndc_world_answers.specs.declared.tally.Tally.{Tally}
 use Rattle.ndc_world_network.specs.Dones.{idle_note, notes_passing}
@@ -16,8 +16,10 @@ use Rattle.ndc_world_network.specs.Dones.{idle_note, notes_passing}
 module _ (cluster : ClusterNo) where
   -- an idle cell counts nothing
   idle-counts : (t : Tally) → with_reply Reapply idle_reply t ≡ t
-  unfolding tally
-  idle-counts t = same-tally _ _ _ _ _ t.learned t.known t.put_off t.arrived t.applied (omega arith) (omega arith) (omega arith) (omega arith) (omega arith)
+  idle-counts t = λ i. record { learned = none t.learned i; known = none t.known i; put_off = none t.put_off i; arrived = none t.arrived i; applied = none t.applied i }
+    where
+      none : (n : ℕ) → n + 0 ≡ n
+      none n = omega arith
 
   idle-first : (notes : List Note) (t : Tally) → with_notes (idle_note cluster ∷ notes) t ≡ with_notes notes t
   idle-first notes t = with-note (idle_note cluster) notes t ∙ ap (with_notes notes) (idle-counts t)
