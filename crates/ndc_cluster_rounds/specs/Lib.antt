@@ -1,3 +1,4 @@
 pub mod Rounds
 pub mod Each
 pub mod Homes
+pub mod Idle

@@ -6,7 +6,7 @@ use std::alloc::{AllocError, Global};
 /// A cell of a cluster: it begins with nothing, does jobs one after the other, and tells what it has learned and written. The
 /// shards of the program are cells; tests have smaller ones.
 pub trait Cell {
-    ghost use Rattle.std.specs.Prelude.{◌≡◌, ◌<◌, length, slice_get, Some, IfOk, OnOk};
+    ghost use Rattle.std.specs.Prelude.{◌≡◌, ◌<◌, length, slice_get, Some, IfOk, IsTrue, OnOk};
     ghost use Rattle.ndc_model_cells.specs.Allowed.{IsAllowed};
     ghost use Rattle.ndc_model_cells.specs.Cells.{Cell as CellValue, empty_cell, learned_of};
     ghost use Rattle.ndc_model_cells.specs.Domains.{learned_of_domains};
@@ -14,6 +14,7 @@ pub trait Cell {
     ghost use Rattle.ndc_model_cells.specs.Writing.{Desk as DeskValue};
     ghost use Rattle.ndc_model_cells.specs.declared.job.Job.{Job as Asked};
     ghost use Rattle.ndc_model_sets.specs.Learned.{has_key};
+    ghost use Rattle.ndc_cluster_rounds.specs.Idle.{IsIdle};
 
     ghost cell: { Self → CellValue };
 
@@ -29,6 +30,10 @@ pub trait Cell {
         requires { allows desk.now job.now (cell self.old) }
         ensures done { OnOk result (cell self.new ≡ after_job desk.now job.now (cell self.old)) }
         ensures reply { IfOk result (λ reply. reply ≡ reply_to desk.now job.now (cell self.old)) };
+
+    /// Whether it is known that it has nothing to apply again, so that it need not be asked to. Takes no memory.
+    fn is_idle(&self, desk: &Desk) -> bool
+        ensures { IsTrue result → IsIdle desk.now (cell self.now) };
 
     /// Whether it has learned the batch of this key of a workflow. Takes no memory.
     fn has_learned(&self, domain: &Name, workflow: &Name, key: BatchKey) -> bool

@@ -1,4 +1,4 @@
-use crate::jobs::do_job;
+use crate::jobs::{do_job, is_idle};
 use crate::lacking::lacking_in;
 use crate::shard::Shard;
 use ndc_cluster_reads::{Lacking, Reads};
@@ -24,6 +24,10 @@ impl Cell for Shard {
 
     fn do_job(&mut self, desk: &Desk, job: &Job) -> Result<JobReply, AllocError> {
         do_job(self, desk, job)
+    }
+
+    fn is_idle(&self, desk: &Desk) -> bool {
+        is_idle(self, desk)
     }
 
     fn has_learned(&self, domain: &Name, workflow: &Name, key: BatchKey) -> bool {

@@ -1,4 +1,5 @@
-ghost use Rattle.std.specs.Prelude.{◌≡◌, ◌≢◌, Err, IfOk, OnOk};
+ghost use Rattle.std.specs.Prelude.{◌≡◌, ◌≢◌, Err, IfOk, IsTrue, OnOk};
+ghost use Rattle.ndc_cluster_rounds.specs.Idle.{IsIdle};
 ghost use Rattle.ndc_model_cells.specs.Jobs.{after_job, keys_written, reply_to, workflows_of};
 ghost use Rattle.ndc_model_cells.specs.Writing.{command_of, reset_at};
 ghost use Rattle.ndc_model_cells.specs.declared.job.Job.TheVariants.{Arrive, Command as Commanded, Reapply, Reset};
@@ -89,6 +90,14 @@ fn do_reapply(shard: &mut Shard, desk: &Desk) -> Result<JobReply, AllocError>
         outcome: Outcome::Reapplied { count },
         learned,
     })
+}
+
+/// Whether there is no workflow in which reapplication may be due, so that the job changes and tells nothing.
+#[tactic(auto, unfolding(ndc_model_cells::specs::Jobs::after_job, ndc_model_cells::specs::Jobs::outcome_of, ndc_model_cells::specs::Jobs::learned_in))]
+pub(crate) fn is_idle(shard: &Shard, desk: &Desk) -> bool
+    ensures { IsTrue result → IsIdle desk.now shard.now }
+{
+    shard.applies_nothing()
 }
 
 /// A new run repeats the current one up to an event.

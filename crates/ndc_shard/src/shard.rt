@@ -44,11 +44,11 @@ impl Drop for Shard {
 }
 
 impl Shard {
-    ghost use Rattle.std.specs.Prelude.{◌≡◌, ◌≢◌, ◌<◌, ◌++◌, [], ◌∷◌, length, option_to_list, slice_get, None, Some, IfSome, IfNone, IfOk, IfErr, OnOk, OnErr};
+    ghost use Rattle.std.specs.Prelude.{◌≡◌, ◌≢◌, ◌<◌, ◌++◌, [], ◌∷◌, length, option_to_list, slice_get, None, Some, IfSome, IfNone, IfOk, IfErr, IsTrue, OnOk, OnErr};
     ghost use Rattle.ndc_model_cells.specs.Arrival.{arrival_of, arrived_at, learned_by};
     ghost use Rattle.ndc_model_cells.specs.Cells.{empty_cell, learned_of};
     ghost use Rattle.ndc_model_cells.specs.Jobs.{all_batches, reapplied_in, reapplied_now, workflows_of, written_at};
-    ghost use Rattle.ndc_model_cells.specs.Writing.{command_of, may_write, reapplication_below, reapplication_of, reset_at, with_all_written, with_written};
+    ghost use Rattle.ndc_model_cells.specs.Writing.{Desk as DeskValue, command_of, may_write, reapplication_below, reapplication_of, reset_at, with_all_written, with_written};
     ghost use Rattle.ndc_command.specs.declared.refusal.CommandError.TheVariants.{Memory};
     ghost use Rattle.ndc_event.specs.Outcome.{Gives};
     ghost use Rattle.ndc_shard_runs.specs.Kept.{is_due};
@@ -387,6 +387,15 @@ impl Shard {
             self.reapply_in(desk, &domain, &workflow, &mut batches, steps)?;
         }
         Ok(Batches::new(batches))
+    }
+
+    /// Whether there is no workflow in which reapplication may be due. Then it writes nothing, whatever versions the cell may
+    /// write with. Takes no memory.
+    pub(crate) fn applies_nothing(&self) -> bool
+        ensures cell { IsTrue result → (desk : DeskValue) → reapplied_in desk (workflows_of self.now.arrived) self.now ≡ self.now }
+        ensures batches { IsTrue result → (desk : DeskValue) → reapplied_now desk (workflows_of self.now.arrived) self.now ≡ [] }
+    {
+        self.workflows.has_none_due()
     }
 
     /// Strays are applied again in each workflow, in order, where the cell may write to it and its current run is open:

@@ -54,7 +54,7 @@ impl Drop for Workflows {
 }
 
 impl Workflows {
-    ghost use Rattle.std.specs.Prelude.{◌≡◌, map, IfSome, IfNone, IfOk, OnOk, OnErr};
+    ghost use Rattle.std.specs.Prelude.{◌≡◌, [], map, IsTrue, IfSome, IfNone, IfOk, OnOk, OnErr};
     ghost use Rattle.std.specs.Option.{option_copied};
     ghost use Rattle.ndc_model_cells.specs.Arrival.{arrival_of, arrived_at, learned_by};
     ghost use Rattle.ndc_model_cells.specs.Cells.{empty_cell, learned_of, put_off_in, IsCell};
@@ -187,6 +187,15 @@ impl Workflows {
     {
         self.domains.is_in_order();
         self.due.list(alloc)
+    }
+
+    /// Whether [`Workflows::due`] has no workflow. Takes no memory.
+    pub fn has_none_due(&self) -> bool
+        ensures none { IsTrue result → AreDue [] self.now }
+        ensures cell { IsCell self.now }
+    {
+        self.domains.is_in_order();
+        self.due.is_empty()
     }
 
     /// Whether reapplication is due in a workflow: there are strays, and the current run is open. Then the strays are known

@@ -65,6 +65,10 @@ impl Cell for ListCell {
         Err(AllocError)
     }
 
+    fn is_idle(&self, _desk: &Desk) -> bool {
+        false
+    }
+
     fn has_learned(&self, _domain: &Name, _workflow: &Name, _key: BatchKey) -> bool {
         false
     }

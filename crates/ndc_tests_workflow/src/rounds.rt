@@ -33,6 +33,10 @@ impl Cell for FullCell {
         })
     }
 
+    fn is_idle(&self, _desk: &Desk) -> bool {
+        false
+    }
+
     fn has_learned(&self, _domain: &Name, _workflow: &Name, _key: BatchKey) -> bool {
         false
     }

@@ -16,13 +16,15 @@ use Rattle.ndc_world_answers.specs.declared.tally.Tally.{Tally}
 more : (f : Note → ℕ) (note : Note) (notes : List Note) (before : ℕ) → before + sum (map f (note ∷ notes)) ≡ before + f note + sum (map f notes)
 more f note notes before = let whole : sum (map f (note ∷ notes)) ≡ f note + sum (map f notes) = sum_by-cons (λ n. n) (f note) (map f notes) in omega (arith, whole)
 
-tally : ℕ → ℕ → ℕ → ℕ → ℕ → Tally
+-- what is counted, count by count
+pub tally : ℕ → ℕ → ℕ → ℕ → ℕ → Tally
 tally learned known put_off arrived applied = record { learned = learned; known = known; put_off = put_off; arrived = arrived; applied = applied }
 
-same-tally : (a b c d e v w x y z : ℕ) → a ≡ v → b ≡ w → c ≡ x → d ≡ y → e ≡ z → tally a b c d e ≡ tally v w x y z
+pub same-tally : (a b c d e v w x y z : ℕ) → a ≡ v → b ≡ w → c ≡ x → d ≡ y → e ≡ z → tally a b c d e ≡ tally v w x y z
 same-tally a b c d e v w x y z p q r s t = cc
 
-with-note : (note : Note) (notes : List Note) (t : Tally) → with_notes (note ∷ notes) t ≡ with_notes notes (with_reply note.job note.reply t)
+-- a note in front is counted first
+pub with-note : (note : Note) (notes : List Note) (t : Tally) → with_notes (note ∷ notes) t ≡ with_notes notes (with_reply note.job note.reply t)
 unfolding tally
 with-note note notes t =
     same-tally _ _ _ _ _ _ _ _ _ _ (more learned_by note notes t.learned) (more known_by note notes t.known) (more put_off_by note notes t.put_off) (more arrived_by note notes t.arrived)

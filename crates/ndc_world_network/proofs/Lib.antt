@@ -1,8 +1,10 @@
 pub mod AgainLemmas
 pub mod AllowedLemmas
+pub mod ChosenLemmas
 pub mod FindLemmas
 pub mod FlightLemmas
 pub mod LinkLemmas
+pub mod OnTimeLemmas
 pub mod OpeningLemmas
 pub mod OrderlyLemmas
 pub mod PlaceLemmas

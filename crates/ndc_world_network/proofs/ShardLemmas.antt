@@ -3,12 +3,11 @@ use Rattle.std.proofs.Common.{◌≡◌, ◌<◌, ◌≤◌, ◌+◌, ℕ, zero,
 use Rattle.std.specs.List.{AllByRecursion, range_with_len}
 use Rattle.ndc_script_types.specs.WellFormed.{IsCluster}
 use Rattle.ndc_script_types.specs.declared.script.Header.{Header}
-use Rattle.ndc_model_cells.specs.declared.job.Job.TheVariants.{Reapply}
 use Rattle.ndc_model_cells.specs.declared.job.ShardJob.{ShardJob}
 use Rattle.ndc_model_cells.specs.declared.message.Message.{Message}
 use Rattle.ndc_domain.specs.declared.clusters.ClusterNo.{ClusterNo}
 use Rattle.ndc_model.specs.Fair.{IsShaped}
-use Rattle.ndc_model.specs.Moves.{all_arrive, all_reapply, arrives}
+use Rattle.ndc_model.specs.Moves.{all_arrive, arrives}
 use Rattle.ndc_model.specs.World.{Cluster, World, cluster_at, new_cluster, shards_of}
 use Rattle.ndc_cluster_rounds.proofs.EachLemmas.{all_there}
 
@@ -25,10 +24,6 @@ arriving-below messages count from zero most = tt {0}
 arriving-below messages count from (suc n) most =
     arriving-before count from (messages from) (all_arrive messages (range_with_len (from + 1) n)) (omega (arith, most)) (arriving-below messages count (from + 1) n (omega (arith, most)))
 
-reapplying-below : (count from n : ℕ) → from + n ≤ count → AreBelow count (map (λ shard. record { shard = shard; job = Reapply }) (range_with_len from n))
-reapplying-below count from zero most = tt {0}
-reapplying-below count from (suc n) most = (omega (arith, most), reapplying-below count (from + 1) n (omega (arith, most)))
-
 module _ (header : Header) (w : World) (cluster : ClusterNo) (known : IsCluster header cluster) (shaped : IsShaped header w) where
   -- a cluster stands there, and has a cell for each shard
   pub cluster_there : cluster.number < length w.clusters
@@ -37,9 +32,6 @@ module _ (header : Header) (w : World) (cluster : ClusterNo) (known : IsCluster 
   pub cells_there : length (cluster_at cluster w).cells ≡ header.shards
   cells_there = all_there (λ (c : Cluster). length c.cells ≡ header.shards) w.clusters cluster.number (new_cluster 0) cluster_there shaped.cells
 
-  -- messages arrive, and strays are applied, in cells of its own
+  -- messages arrive in cells of its own
   pub arriving_there : (messages : ℕ → List Message) → AreBelow (length (cluster_at cluster w).cells) (all_arrive messages (shards_of header))
   arriving_there messages = arriving-below messages (length (cluster_at cluster w).cells) 0 header.shards (omega (arith, cells_there))
-
-  pub reapplying_there : AreBelow (length (cluster_at cluster w).cells) (all_reapply header)
-  reapplying_there = reapplying-below (length (cluster_at cluster w).cells) 0 header.shards (omega (arith, cells_there))

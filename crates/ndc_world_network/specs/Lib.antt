@@ -1,7 +1,9 @@
+pub mod Chosen
 pub mod Dones
 pub mod Flights
 pub mod Found
 pub mod Networks
+pub mod OnTime
 pub mod Orderly
 pub mod Trims
 pub mod Sites

@@ -1,10 +1,11 @@
-ghost use Rattle.std.specs.Prelude.{◌≡◌, ◌<◌, map, IfOk, OnOk};
+ghost use Rattle.std.specs.Prelude.{◌≡◌, ◌<◌, false, map, IfOk, OnOk};
 ghost use Rattle.std.specs.List.{flat_map, fold};
 ghost use Rattle.ndc_script_types.specs.WellFormed.{IsCluster};
 ghost use Rattle.ndc_model.specs.Moves.{after_settlement, all_reapply, bootstrapped, due_arrived, link_without_flights, merged_all, reapplied_all, renewed, settled_once, without_flights};
 ghost use Rattle.ndc_model.specs.World.{all_clusters, others_of};
 ghost use Rattle.ndc_model.specs.Conditions.{EachStep, MayBootstrap, MayDoAll, MaySettle, MaySettleOnce, all_bootstrapped, all_due_arrived, due_jobs, late_jobs, reader_bootstrapped, tables_merged};
 ghost use Rattle.ndc_world_network.specs.Dones.{notes_in, trace_of};
+ghost use Rattle.ndc_world_network.specs.OnTime.{IsOnTime};
 ghost use Rattle.ndc_world_network.specs.Orderly.{IsOrderly};
 
 use crate::network::Network;
@@ -34,6 +35,18 @@ fn others_of(
         }
     }
     Ok(others)
+}
+
+/// Whether a reader is a member late of any domain, as to any source.
+fn may_be_late(links: &[Link], reader: ClusterNo) -> bool
+    ensures { result ≡ false → IsOnTime reader links.now }
+{
+    for link in links {
+        if link.reader().number == reader.number && !link.late().is_empty() {
+            return true;
+        }
+    }
+    false
 }
 
 /// Takes out all that is in flight.
@@ -160,7 +173,7 @@ impl<C: Cell + Drop> Network<C> {
 
 impl<C: Cell + Drop> Network<C> {
     /// A reader takes from each of these sources what it lacks, one after the other.
-    fn bootstrap_reader<R: Threads + Sync, G: Gate>(
+    fn bootstrap_each<R: Threads + Sync, G: Gate>(
         &mut self,
         rt: &R,
         alloc: Global,
@@ -184,6 +197,37 @@ impl<C: Cell + Drop> Network<C> {
         for &source in sources {
             let done = self.bootstrap(rt, alloc, gate, workers, header, reader, source)?;
             dones.push(done)?;
+        }
+        Ok(())
+    }
+
+    /// The same; where the reader is a member late of no domain, its levels are renewed once, and no source is looked at.
+    fn bootstrap_reader<R: Threads + Sync, G: Gate>(
+        &mut self,
+        rt: &R,
+        alloc: Global,
+        gate: &G,
+        workers: u32,
+        header: &Header,
+        reader: ClusterNo,
+        sources: &[ClusterNo],
+        dones: &mut Vec<Done>,
+    ) -> Result<(), AllocError>
+    where
+        C: Send,
+        requires workers { 0 < workers }
+        requires reader { IsCluster header.now reader }
+        requires sources { sources.now ≡ others_of header.now reader }
+        requires orderly { IsOrderly header.now self.old }
+        requires allowed { MayBootstrap C.allows header.now (trace_of self.old dones.old.items) reader }
+        ensures bootstrapped { OnOk result (trace_of self.new dones.new.items ≡ reader_bootstrapped header.now (trace_of self.old dones.old.items) reader) }
+        ensures orderly { OnOk result (IsOrderly header.now self.new) }
+    {
+        if may_be_late(self.links.as_slice(), reader) {
+            return self.bootstrap_each(rt, alloc, gate, workers, header, reader, sources, dones);
+        }
+        if !sources.is_empty() {
+            self.renew(header, reader);
         }
         Ok(())
     }

@@ -2,14 +2,14 @@ ghost use Rattle.std.specs.Prelude.{◌≡◌};
 
 use ndc_cluster::Cluster;
 use ndc_cluster_links::Queues;
-use ndc_cluster_rounds::{Cell, Home};
+use ndc_cluster_rounds::{Cell, Desk, Home};
 use ndc_domain::{
     ClusterNo, Clusters, DomainError, DomainTable, FailoverError, JoinError, Members, RetainError,
 };
 use ndc_event::Name;
 use ndc_graceful::{BeginError, Handover};
 use ndc_letters::Letters;
-use ndc_model_cells::{JobReply, ShardJob};
+use ndc_model_cells::{Job, JobReply, ShardJob};
 use ndc_port::Gate;
 use ndc_script_types::Header;
 use std::alloc::{AllocError, Global};
@@ -68,6 +68,7 @@ impl<C: Cell + Drop> Site<C> {
     ghost use Rattle.ndc_cluster_links.specs.Rest.{AreRests};
     ghost use Rattle.ndc_queue.specs.Queues.{QueueValue};
     ghost use Rattle.ndc_model_cells.specs.Conditions.{AreAllowed};
+    ghost use Rattle.ndc_world_network.specs.Chosen.{AreChosen};
     ghost use Rattle.ndc_world_network.specs.Networks.{opening_site};
     ghost use Rattle.ndc_world_network.specs.Sites.{with_site_cells, with_site_table};
     ghost use Rattle.ndc_domain.specs.Clusters.{count_of};
@@ -240,6 +241,28 @@ impl<C: Cell + Drop> Site<C> {
         ensures count { result ≡ max (slice_index_or self.old.trimmed shard 0) level - slice_index_or self.old.trimmed shard 0 }
     {
         self.queues.trim(shard, level)
+    }
+
+    /// A job for each of its shards to apply its strays again, but for those whose cells are idle.
+    pub(crate) fn reapply_jobs(
+        &self,
+        alloc: Global,
+        home: &Home,
+        shards: u32,
+    ) -> Result<Vec<ShardJob>, AllocError>
+        requires { length self.now.cluster.cells ≡ shards }
+        ensures { IfOk result (λ jobs. AreChosen (desk_of home.now self.now.cluster.table) self.now.cluster.cells shards 0 jobs.items) }
+    {
+        let desk = Desk::new(home.clusters, home.me, home.limit, self.cluster.records());
+        let mut jobs = Vec::new(alloc);
+        for shard in 0..shards {
+            if self.cluster.shard(shard).is_idle(&desk) {
+                continue;
+            }
+            let job = Job::Reapply;
+            jobs.push(ShardJob { shard, job })?;
+        }
+        Ok(jobs)
     }
 
     /// Its cells do jobs in a round, as [`Cluster::round`] says, and what was written stands in the queues. After want of

@@ -1,12 +1,12 @@
 ghost use Rattle.std.specs.Prelude.{◌≡◌, ◌<◌, ◌++◌, length, map, IfOk, OnOk};
-ghost use Rattle.std.specs.List.{AllByRecursion, range_with_len};
+ghost use Rattle.std.specs.List.{AllByRecursion};
 ghost use Rattle.ndc_script_types.specs.WellFormed.{IsCluster};
 ghost use Rattle.ndc_model_cells.specs.Jobs.{cells_after, replies_to};
-ghost use Rattle.ndc_model_cells.specs.declared.job.Job.TheVariants.{Reapply};
 ghost use Rattle.ndc_model.specs.Fair.{IsShaped};
 ghost use Rattle.ndc_model.specs.Moves.{all_reapply, flights_arrived, from_world, jobs_done, reapplied_all, without_flights_to, worked};
 ghost use Rattle.ndc_model.specs.World.{cluster_at, home_at, with_cells};
 ghost use Rattle.ndc_model.specs.Conditions.{MayDoAll, MayWork, flight_jobs};
+ghost use Rattle.ndc_world_network.specs.Chosen.{AreChosen};
 ghost use Rattle.ndc_world_network.specs.Dones.{notes_in};
 ghost use Rattle.ndc_world_network.specs.Orderly.{IsOrderly};
 ghost use Rattle.ndc_model_cells.specs.Conditions.{AreAllowed};
@@ -16,7 +16,7 @@ use crate::site::home_in;
 use crate::taking::take_all;
 use ndc_cluster_rounds::Cell;
 use ndc_domain::ClusterNo;
-use ndc_model_cells::{Job, JobReply, ShardJob};
+use ndc_model_cells::{JobReply, ShardJob};
 use ndc_port::Gate;
 use ndc_script_types::Header;
 use std::alloc::{AllocError, Global};
@@ -28,6 +28,9 @@ pub struct Done {
     pub cluster: ClusterNo,
     pub jobs: Vec<ShardJob>,
     pub replies: Vec<JobReply>,
+    /// How many cells were to apply their strays again, by shard from 0: of these, the ones without a job here are idle and
+    /// were passed by.
+    pub reapplied: u32,
 }
 
 /// The jobs of a cluster that works: those in which messages arrived, and those in which strays were applied again.
@@ -35,20 +38,6 @@ pub struct Done {
 pub struct Worked {
     pub arrived: Done,
     pub reapplied: Done,
-}
-
-/// A job for each shard to apply its strays again.
-fn reapply_jobs(alloc: Global, shards: u32) -> Result<Vec<ShardJob>, AllocError>
-    ensures { IfOk result (λ jobs. jobs.items ≡ map (λ shard. record { shard = shard; job = Reapply }) (range_with_len 0 shards)) }
-{
-    let mut jobs = Vec::with_capacity(alloc, shards as usize)?;
-    for shard in 0..shards {
-        jobs.push(ShardJob {
-            shard,
-            job: Job::Reapply,
-        })?;
-    }
-    Ok(jobs)
 }
 
 impl<C: Cell + Drop> Network<C> {
@@ -108,6 +97,7 @@ impl<C: Cell + Drop> Network<C> {
             cluster,
             jobs,
             replies,
+            reapplied: 0,
         })
     }
 
@@ -152,8 +142,25 @@ impl<C: Cell + Drop> Network<C> {
         Ok(done)
     }
 
-    /// Each cell of a cluster applies its strays again, by shard, where it may. After want of memory the cluster has no
-    /// cells.
+    /// A job for each shard of a cluster to apply its strays again, but for those whose cells are idle.
+    fn reapply_jobs(
+        &self,
+        alloc: Global,
+        header: &Header,
+        cluster: ClusterNo,
+    ) -> Result<Vec<ShardJob>, AllocError>
+        requires cluster { IsCluster header.now cluster }
+        requires shaped { IsShaped header.now self.now }
+        ensures { IfOk result (λ jobs. AreChosen (home_at header.now cluster self.now) (cluster_at cluster self.now).cells header.now.shards 0 jobs.items) }
+    {
+        let site = &self.sites[cluster.number as usize];
+        let home = home_in(header, cluster);
+        let jobs = site.reapply_jobs(alloc, &home, header.shards)?;
+        Ok(jobs)
+    }
+
+    /// Each cell of a cluster applies its strays again, by shard, where it may. A cell that is idle is not asked. After want of
+    /// memory the cluster has no cells.
     pub fn reapply<R: Threads + Sync, G: Gate>(
         &mut self,
         rt: &R,
@@ -172,9 +179,15 @@ impl<C: Cell + Drop> Network<C> {
         ensures reapplied { OnOk result (self.new ≡ (reapplied_all header.now (from_world self.old) cluster).world) }
         ensures notes { IfOk result (λ done. notes_in done ≡ (reapplied_all header.now (from_world self.old) cluster).notes) }
     {
-        let jobs = reapply_jobs(alloc, header.shards)?;
-        let done = self.do_all(rt, alloc, gate, workers, header, cluster, jobs)?;
-        Ok(done)
+        let jobs = self.reapply_jobs(alloc, header, cluster)?;
+        let asked = jobs.as_slice();
+        let replies = self.do_jobs(rt, alloc, gate, workers, header, cluster, asked)?;
+        Ok(Done {
+            cluster,
+            jobs,
+            replies,
+            reapplied: header.shards,
+        })
     }
 
     /// A cluster works: all that is in flight to it arrives, each of its cells applies its strays again, and its levels are

@@ -253,6 +253,7 @@ fn serve<R: Threads + Sync, G: Gate, C: Reads + Drop + Send>(
         cluster: reader,
         jobs,
         replies,
+        reapplied: 0,
     })
 }
 

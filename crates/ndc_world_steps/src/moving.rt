@@ -35,6 +35,7 @@ fn tell(tally: &mut Tally, seen: &mut Vec<Seen>, done: Done) -> Result<(), Alloc
         cluster,
         jobs,
         replies,
+        ..
     } = done;
     tally.add(jobs.as_slice(), replies.as_slice())?;
     add_seen(seen, cluster, jobs.as_slice(), replies)?;

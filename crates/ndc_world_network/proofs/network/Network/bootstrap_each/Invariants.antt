@@ -4,7 +4,7 @@ use Rattle.ndc_model.specs.Moves.{bootstrapped}
 use Rattle.ndc_model.specs.Conditions.{EachStep, MayDoAll, late_jobs}
 use Rattle.ndc_world_network.specs.Dones.{trace_of}
 use Rattle.ndc_world_network.specs.Orderly.{IsOrderly}
-use Rattle.ndc_world_network.proofs.network.Network.bootstrap_reader.Given as goal
+use Rattle.ndc_world_network.proofs.network.Network.bootstrap_each.Given as goal
 
 abbrev pub invariant-loop-source : goal.invariant-loop-source
 invariant-loop-source g l = record {
