@@ -21,7 +21,7 @@ use Rattle.ndc_model_sets.proofs.Lists.{Among, all-among, all-from, among-filter
 use Rattle.ndc_model_sets.proofs.PathLemmas.{path_is}
 use Rattle.ndc_tree.specs.Tree.{TreeValue}
 use Rattle.ndc_shard_runs.specs.RunMap.{AreInOrder, AreParts, IsRunBefore, all_of, batches_of, part_of, run_at, run_in}
-use Rattle.ndc_shard_runs.proofs.TakenLemmas.{find-passes}
+use Rattle.ndc_shard_runs.proofs.TakenLemmas.{find-passes, task-up-to}
 
 -- ids that rise
 abbrev Climb : List RunId → Type 0
@@ -90,18 +90,6 @@ climb-firsts (b ∷ batches) rise number small = by (is_none b.parent) refl (cli
     )
     by false e rest = rest
 
--- no task is above the greatest
-task-most : (batches : List Batch) (b : Batch) → Among b batches → b.key.task ≤ greatest_task batches
-task-most [] b h = absurd h
-task-most (x ∷ batches) b (inl e) = let same : b.key.task ≡ x.key.task = ap (λ (c : Batch). c.key.task) e in omega (arith, same, max-left x.key.task (greatest_task batches))
-  where
-    max-left : (m n : ℕ) → m ≤ max m n
-    max-left m n = omega arith
-task-most (x ∷ batches) b (inr h) = omega (arith, task-most batches b h, max-right x.key.task (greatest_task batches))
-  where
-    max-right : (m n : ℕ) → n ≤ max m n
-    max-right m n = omega arith
-
 -- a run is found by its id
 at-own : (list : List TreeValue) (r : TreeValue) → AreInOrder list → Among r list → run_at r.run list ≡ Some r
 at-own [] r order h = absurd h
@@ -169,4 +157,4 @@ module _ (list : List TreeValue) (order : AreInOrder list) (sound : IsSound (all
   pub runs_listed : map (λ (r : TreeValue). r.run) list ≡ runs (all_of list)
   runs_listed =
       one-list (map (λ (r : TreeValue). r.run) list) (runs (all_of list)) (climb-runs list order)
-      (climb-firsts (all_of list) sound.set.ordered number (λ b h. omega (arith, most, task-most (all_of list) b h))) to from
+      (climb-firsts (all_of list) sound.set.ordered number (λ b h. omega (arith, most, task-up-to (all_of list) b h))) to from
