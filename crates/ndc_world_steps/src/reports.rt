@@ -103,7 +103,8 @@ fn told_at<C: Reads + Drop>(
     }
 }
 
-/// `beat`. The reports that clusters hold stand beside them. In time of the versions on the current branch.
+/// `beat`. The reports that clusters hold stand beside them. What is learned of the workflow is sound. In time of the
+/// versions on the current branch.
 pub fn beat<C: Reads + Drop>(
     network: &Network<C>,
     reports: &mut Vec<Progress>,
@@ -236,7 +237,7 @@ fn shown_at<C: Reads + Drop>(
     }
 }
 
-/// `progress`.
+/// `progress`. What is learned of the workflow is sound. In time of the versions on the current branch.
 pub fn progress<C: Reads + Drop>(
     network: &Network<C>,
     reports: &[Progress],
