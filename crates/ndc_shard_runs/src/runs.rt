@@ -266,6 +266,7 @@ impl Runs {
         ensures parts { AllByRecursion (λ r. r ≡ run_in self.now r.run) result.now }
         ensures sound { IsSound self.now }
     {
+        // Its range bounds all tasks, so the ids of runs rise as the keys of their first batches do.
         let _greatest = self.greatest_task();
         self.runs.as_slice()
     }
