@@ -15,7 +15,6 @@ use Rattle.ndc_domain.specs.declared.clusters.ClusterNo.{ClusterNo}
 use Rattle.ndc_domain.specs.declared.record.DomainRecord.{DomainRecord}
 use Rattle.ndc_domain.specs.Records.{record_of}
 use Rattle.ndc_event.specs.declared.batch.Batch.{Batch}
-use Rattle.ndc_event.specs.Key.{key_eq}
 use Rattle.ndc_laws_reached.specs.Settled.{IsSettled}
 use Rattle.ndc_laws_program.specs.Shared.{SharesAll}
 use Rattle.ndc_model.specs.Facts.{IsReached}
@@ -24,7 +23,9 @@ use Rattle.ndc_model.specs.Queues.{names_cluster}
 use Rattle.ndc_model.proofs.ListLemmas.{all-append, all-weaker}
 use Rattle.ndc_model.specs.World.{Cluster, World, cell_at, cluster_at, new_cluster, shards_of}
 use Rattle.ndc_world_summary.specs.declared.parts.Totals.{Totals}
-use Rattle.ndc_world_summary.specs.Summaries.{added, are_alike, are_one_table, cells_of, learned_with, messages_of, part_of, same_keys, same_table, totals_in, totals_of, tables_alone, with_workflow, workflows_in}
+use Rattle.ndc_world_summary.specs.Summaries.{added, are_alike, are_one_table, cells_of, learned_with, messages_of, part_of, same_table, totals_in, totals_of, tables_alone, with_workflow, workflows_in}
+use Rattle.ndc_world_summary.specs.Same.{same_batches}
+use Rattle.ndc_world_summary.proofs.BatchLemmas.{batches_decide}
 use Rattle.ndc_world_summary.proofs.TableLemmas.{table_decides}
 
 both-true : (a b : Bool) → a ≡ true → b ≡ true → (a && b) ≡ true
@@ -36,23 +37,15 @@ fold-same : (parts : List Totals) (start : Totals) → start.same ≡ true → A
 fold-same [] start is all = is
 fold-same (part ∷ parts) start is all = fold-same parts (added start part) (both-true start.same part.same is all.0) all.1
 
--- a list has its own keys
-key-itself : (b : Batch) → key_eq b.key b.key ≡ true
-key-itself b = both-true (b.key.version == b.key.version) (b.key.task == b.key.task) ((Decides-eqb b.key.version b.key.version).1 refl) ((Decides-eqb b.key.task b.key.task).1 refl)
-
-keys-itself : (batches : List Batch) → same_keys batches batches ≡ true
-keys-itself [] = refl
-keys-itself (b ∷ batches) = both-true (key_eq b.key b.key) (same_keys batches batches) (key-itself b) (keys-itself batches)
-
 -- lists that are one are alike
-alike-others : (whole : List Batch) (others : List (List Batch)) → AllByRecursion (λ (list : List Batch). list ≡ whole) others → list_all (same_keys whole) others ≡ true
+alike-others : (whole : List Batch) (others : List (List Batch)) → AllByRecursion (λ (list : List Batch). list ≡ whole) others → list_all (same_batches whole) others ≡ true
 alike-others whole [] all = refl
 alike-others whole (one ∷ others) all =
-    both-true (same_keys whole one) (list_all (same_keys whole) others) (subst (λ (list : List Batch). same_keys whole list ≡ true) (sym all.0) (keys-itself whole)) (alike-others whole others all.1)
+    both-true (same_batches whole one) (list_all (same_batches whole) others) ((batches_decide whole one).1 (sym all.0)) (alike-others whole others all.1)
 
 alike-all : (whole : List Batch) (lists : List (List Batch)) → AllByRecursion (λ (list : List Batch). list ≡ whole) lists → are_alike lists ≡ true
 alike-all whole [] all = refl
-alike-all whole (one ∷ others) all = subst (λ (list : List Batch). list_all (same_keys list) others ≡ true) (sym all.0) (alike-others whole others all.1)
+alike-all whole (one ∷ others) all = subst (λ (list : List Batch). list_all (same_batches list) others ≡ true) (sym all.0) (alike-others whole others all.1)
 
 -- tables that are one pass
 tables-others : (whole : List DomainRecord) (others : List (List DomainRecord)) → AllByRecursion (λ (table : List DomainRecord). table ≡ whole) others → list_all (same_table whole) others ≡ true

@@ -2,7 +2,7 @@ ghost use Rattle.std.specs.Prelude.{◌≡◌, ◌≤◌, ◌<◌, ◌^◌, leng
 ghost use Rattle.std.specs.Map.{values_of};
 ghost use Rattle.indexmap.specs.IndexMap.{insert_all, spare};
 ghost use Rattle.ndc_progress.specs.Keyed.{AreKeyed, keyed, news};
-ghost use Rattle.ndc_progress.specs.Reports.{next_beat, replaces, same_activity};
+ghost use Rattle.ndc_progress.specs.Reports.{held, next_beat, replaces, same_activity};
 
 use crate::report::{ActivityRef, Report};
 use indexmap::IndexMap;
@@ -55,7 +55,28 @@ fn is_greater(report: &Report, held: Option<&Report>) -> bool
     }
 }
 
-/// Copies of the reports that take the place of what is held, each under its activity.
+/// What is held of an activity, and the place behind it. There is no search where it stands at the place that is given.
+fn find_near<'a>(
+    own: &'a IndexMap<ActivityRef, Report>,
+    activity: &ActivityRef,
+    near: usize,
+) -> (Option<&'a Report>, usize)
+    requires { AreKeyed own.now.entries }
+    ensures { option_copied result.0 ≡ held activity.now (values_of own.now.entries) }
+{
+    if let Some((there, report)) = own.get_index(near) {
+        if there == activity {
+            return (Some(report), near.saturating_add(1));
+        }
+    }
+    match own.get_full(activity) {
+        Some((place, _, report)) => (Some(report), place.saturating_add(1)),
+        None => (None, near),
+    }
+}
+
+/// Copies of the reports that take the place of what is held, each under its activity. Reports that stand in one order in
+/// both maps are compared place by place.
 #[tactic(auto, using(crate::proofs::HeldLemmas::news_more, crate::proofs::HeldLemmas::news_same, crate::proofs::HeldLemmas::lookup_held))]
 fn news_among(
     own: &IndexMap<ActivityRef, Report>,
@@ -66,8 +87,11 @@ fn news_among(
     ensures { IfOk result (λ taken. taken.items ≡ keyed (news (values_of own.now.entries) (values_of others.now.entries))) }
 {
     let mut taken = Vec::new(alloc);
+    let mut near = 0;
     for report in others.values() {
-        if is_greater(report, own.get(&report.activity)) {
+        let (held, behind) = find_near(own, &report.activity, near);
+        near = behind;
+        if is_greater(report, held) {
             taken.push((report.activity.try_copy()?, report.try_copy()?))?;
         }
     }

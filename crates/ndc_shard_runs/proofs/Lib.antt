@@ -14,6 +14,7 @@ pub mod ViewLemmas
 pub mod UnlistedLemmas
 pub mod FollowLemmas
 pub mod TakenLemmas
+pub mod ListedLemmas
 pub mod BesideLemmas
 pub mod DueLemmas
 pub mod ExampleLemmas

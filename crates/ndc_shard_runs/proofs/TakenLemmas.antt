@@ -53,7 +53,7 @@ path-up batches m x path set (below _ before key up has e at r) among = by (amon
     by (inr (inl same)) rest = inl same
     by (inr (inr h)) rest = absurd h
 
-find-passes : {X : Type 0} (p : X → Bool) (xs : List X) (x : X) → find p xs ≡ Some x → p x ≡ true
+pub find-passes : {X : Type 0} (p : X → Bool) (xs : List X) (x : X) → find p xs ≡ Some x → p x ≡ true
 find-passes p [] x h = absurd (cc)
 find-passes p (y ∷ ys) x h = by (p y) refl h (find-passes p ys x)
   where

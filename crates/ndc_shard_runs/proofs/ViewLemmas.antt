@@ -1,7 +1,7 @@
 -- What is shown of runs, read of their parts.
 use Rattle.std.proofs.Common.{◌≡◌, Bool, true, false, not, ◌&&◌, List, [], ◌∷◌, inl, inr, Option, Some, None, if◌then◌else◌, refl, sym, ◌∙◌, subst, ap, true≢false, ℕ, zero, suc, ◌<◌, ◌||◌, length, get_or, arith}
-use Rattle.std.specs.Prelude.{map, is_none, is_some}
-use Rattle.std.specs.List.{flat_map}
+use Rattle.std.specs.Prelude.{map, is_some}
+use Rattle.std.specs.List.{AllByRecursion}
 use Rattle.std.proofs.lemmas.Bool.{and_parts}
 use Rattle.std.specs.Option.{option_map}
 use Rattle.ndc_event.specs.declared.batch.Batch.{Batch}
@@ -29,19 +29,10 @@ use Rattle.ndc_model_sets.specs.Reading.{history_at}
 use Rattle.ndc_tree.specs.Tips.{tip_keys}
 use Rattle.ndc_tree.specs.Tree.{IsTree, TreeValue}
 use Rattle.ndc_shard_runs.specs.RunMap.{part_of, run_in}
-use Rattle.ndc_shard_runs.specs.View.{branch_with, run_with, run_from, view_at}
+use Rattle.ndc_shard_runs.specs.View.{branch_with, run_with, view_at}
 use Rattle.ndc_shard_runs.proofs.PartLemmas.{part-state, part-tip, part-tips, part-events}
 use Rattle.ndc_shard_runs.proofs.StrayLemmas.{part-current}
 use Rattle.ndc_shard_runs.proofs.TipLemmas.{none-map}
-
--- the runs of batches, by their first batches
-pub runs-from : (all batches : List Batch) → flat_map (run_from all) batches ≡ map (run_view all) (runs batches)
-runs-from all [] = refl
-runs-from all (b ∷ batches) = by (is_none b.parent) refl (runs-from all batches)
-  where
-    by : (t : Bool) → is_none b.parent ≡ t → flat_map (run_from all) batches ≡ map (run_view all) (runs batches) → flat_map (run_from all) (b ∷ batches) ≡ map (run_view all) (runs (b ∷ batches))
-    by true e rest = rw e (ap (λ l. run_view all b.run ∷ l) rest)
-    by false e rest = rw e rest
 
 -- whether a key is that of the current tip
 pub is-tip : (key : BatchKey) (o : Option Batch) → is_key key (option_map (λ tip. tip.key) o) ≡ is_tip_of key o
@@ -81,19 +72,14 @@ module _ (batches : List Batch) (sound : IsSound batches) (run : RunId) where
       shown : StateValue → List BranchView → RunView
       shown s branches = record { run = run; status = status_of s.running (is_current_run run batches); close = s.close; is_current = is_current_run run batches; branches = branches }
 
-module _ (batches : List Batch) (sound : IsSound batches) (b : Batch) (has : Has batches b) (none : is_some b.parent ≡ false) (r : TreeValue) (e : Some r ≡ option_map (λ x. run_in batches x.run) (batch_at b.key batches)) where
-  pub shown-from : run_with r (is_current_run b.run batches) ∷ [] ≡ run_from batches b
-  shown-from =
-      let one : r ≡ run_in batches b.run = same (e ∙ ap (option_map (λ x. run_in batches x.run)) has) in
-      ap (λ v. v ∷ []) (ap (λ (v : TreeValue). run_with v (is_current_run b.run batches)) one ∙ shown-run batches sound b.run)
-      ∙ ap (λ t. if t then run_view batches b.run ∷ [] else []) (sym (nothing b.parent none))
-    where
-      same : {X : Type 0} {x y : X} → Some x ≡ Some y → x ≡ y
-      same e = cc
-
-      nothing : (o : Option BatchKey) → is_some o ≡ false → is_none o ≡ true
-      nothing None e = refl
-      nothing (Some k) e = absurd (cc)
+-- runs that have their parts of the batches are shown as all runs are
+pub shown-runs : (batches : List Batch) (sound : IsSound batches) (list : List TreeValue) → AllByRecursion (λ (r : TreeValue). r ≡ run_in batches r.run) list
+    → map (λ (r : TreeValue). run_with r (is_current_run r.run batches)) list ≡ map (run_view batches) (map (λ (r : TreeValue). r.run) list)
+shown-runs batches sound [] own = refl
+shown-runs batches sound (r ∷ list) own =
+    let here : run_with r (is_current_run r.run batches) ≡ run_view batches r.run = ap (λ (v : TreeValue). run_with v (is_current_run r.run batches)) own.0 ∙ shown-run batches sound r.run in
+    let rest : map (λ (v : TreeValue). run_with v (is_current_run v.run batches)) list ≡ map (run_view batches) (map (λ (v : TreeValue). v.run) list) = shown-runs batches sound list own.1 in
+    λ i. here i ∷ rest i
 
 -- a tip has a version history
 pub tip-history : (run : RunId) (batches : List Batch) (key : BatchKey) → IsTree run batches → is_key_among key (tip_keys run batches) ≡ true → None ≡ history_at key batches → ⊥
@@ -118,8 +104,6 @@ view batches runs = record { batches = batches; runs = runs }
 views-are : (bs cs : List Batch) (rs ss : List RunView) → bs ≡ cs → rs ≡ ss → view bs rs ≡ view cs ss
 views-are bs cs rs ss p q = cc
 
-pub view-is : (batches bs : List Batch) (rs : List RunView) → is_nil batches ≡ false → bs ≡ batches → rs ≡ flat_map (run_from batches) bs → Some (record { batches = bs; runs = rs }) ≡ view_at batches
+pub view-is : (batches bs : List Batch) (rs : List RunView) → is_nil batches ≡ false → bs ≡ batches → rs ≡ (view_of batches).runs → Some (record { batches = bs; runs = rs }) ≡ view_at batches
 unfolding view
-view-is batches bs rs some p q =
-    ap Some (views-are bs batches rs (map (run_view batches) (runs batches)) p (q ∙ ap (flat_map (run_from batches)) p ∙ runs-from batches batches))
-    ∙ ap (λ t. if t then None else Some (view_of batches)) (sym some)
+view-is batches bs rs some p q = ap Some (views-are bs batches rs (map (run_view batches) (runs batches)) p q) ∙ ap (λ t. if t then None else Some (view_of batches)) (sym some)

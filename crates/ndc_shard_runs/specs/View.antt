@@ -1,5 +1,5 @@
 -- What is shown of a workflow, run by run.
-use Rattle.std.specs.Prelude.{Bool, is_none, List, [], ◌∷◌, map, Option, Some, None, if◌then◌else◌}
+use Rattle.std.specs.Prelude.{Bool, List, map, Option, Some, None, if◌then◌else◌}
 use Rattle.ndc_event.specs.declared.batch.Batch.{Batch}
 use Rattle.ndc_event.specs.declared.key.BatchKey.{BatchKey}
 use Rattle.ndc_model_sets.specs.declared.view.BranchView.{BranchView}
@@ -8,7 +8,7 @@ use Rattle.ndc_model_sets.specs.declared.view.View.{View}
 use Rattle.ndc_model_sets.specs.Branches.{current_tip}
 use Rattle.ndc_model_sets.specs.Current.{current_state, state_to, status_of}
 use Rattle.ndc_model_sets.specs.Paths.{events_to, versions_of}
-use Rattle.ndc_model_sets.specs.View.{is_tip_of, run_view, view_of}
+use Rattle.ndc_model_sets.specs.View.{is_tip_of, view_of}
 use Rattle.ndc_model_sets.specs.Last.{is_nil}
 use Rattle.ndc_tree.specs.Tips.{tip_keys}
 use Rattle.ndc_tree.specs.Tree.{TreeValue}
@@ -35,7 +35,3 @@ run_with r is_current = record {
   is_current = is_current;
   branches = map (branch_with r) (tip_keys r.run r.batches);
 }
-
--- the run of a batch, where the batch is the first of its run
-abbrev pub run_from : List Batch → Batch → List RunView
-run_from batches b = if is_none b.parent then run_view batches b.run ∷ [] else []

@@ -63,7 +63,7 @@ impl RunIndex {
     ghost use Rattle.ndc_model_sets.specs.Sound.{IsSound};
     ghost use Rattle.ndc_run.specs.Learning.{learned};
     ghost use Rattle.ndc_shard_runs.specs.Index.{run_with};
-    ghost use Rattle.ndc_shard_runs.specs.RunMap.{AreParts, all_of, batches_of, run_at, with_batch};
+    ghost use Rattle.ndc_shard_runs.specs.RunMap.{AreInOrder, AreParts, all_of, batches_of, run_at, with_batch};
     ghost use Rattle.ndc_state.specs.Counted.{counted};
     ghost use Rattle.ndc_state.specs.Replay.{CountsWithin};
 
@@ -75,6 +75,14 @@ impl RunIndex {
             runs: RunMap::new(alloc),
             places: None,
         }
+    }
+
+    /// The runs, ascending.
+    pub(crate) fn as_slice(&self) -> &[Run]
+        ensures list { result.now ≡ self.now }
+        ensures order { AreInOrder self.now }
+    {
+        self.runs.as_slice()
     }
 
     /// The run of this id.

@@ -43,7 +43,7 @@ impl RunMap {
     ghost use Rattle.std.specs.Option.{option_copied};
     ghost use Rattle.ndc_event.specs.Batch.{fault_of};
     ghost use Rattle.ndc_run.specs.Learning.{learned};
-    ghost use Rattle.ndc_shard_runs.specs.RunMap.{batches_of, run_at, with_batch, without_run};
+    ghost use Rattle.ndc_shard_runs.specs.RunMap.{AreInOrder, batches_of, run_at, with_batch, without_run};
     ghost use Rattle.ndc_model_sets.specs.Sets.{batch_at};
     ghost use Rattle.ndc_state.specs.Counted.{counted};
     ghost use Rattle.ndc_state.specs.Replay.{CountsWithin};
@@ -63,6 +63,14 @@ impl RunMap {
         ensures { option_copied result ≡ slice_get self.now 0 }
     {
         self.runs.first()
+    }
+
+    /// The runs, ascending.
+    pub(crate) fn as_slice(&self) -> &[Run]
+        ensures list { result.now ≡ self.now }
+        ensures order { AreInOrder self.now }
+    {
+        self.runs.as_slice()
     }
 
     /// The run of this id.

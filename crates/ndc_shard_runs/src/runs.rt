@@ -52,7 +52,8 @@ impl Runs {
     ghost use Rattle.ndc_model_cells.specs.Writing.{greatest_task, greatest_version, state_under};
     ghost use Rattle.ndc_shard_runs.specs.Kept.{follows, is_ahead, is_due, is_empty, is_idle, is_open, lies_beside, StaysSettled};
     ghost use Rattle.ndc_shard_runs.specs.RunMap.{part_of, run_in};
-    ghost use Rattle.ndc_model_sets.specs.Branches.{workflow_tip};
+    ghost use Rattle.std.specs.List.{AllByRecursion};
+    ghost use Rattle.ndc_model_sets.specs.Branches.{runs, workflow_tip};
     ghost use Rattle.ndc_model_sets.specs.Current.{strays};
     ghost use Rattle.ndc_model_sets.specs.Sets.{arrived, batch_at};
     ghost use Rattle.ndc_model_sets.specs.Sound.{IsSound};
@@ -257,6 +258,17 @@ impl Runs {
         let beside = self.lies_beside(batch);
         let follows = self.follows(batch);
         self.strays.stay_empty(beside, follows)
+    }
+
+    /// The runs, ascending.
+    pub(crate) fn all_runs(&self) -> &[Run]
+        ensures ids { map (λ r. r.run) result.now ≡ runs self.now }
+        ensures parts { AllByRecursion (λ r. r ≡ run_in self.now r.run) result.now }
+        ensures sound { IsSound self.now }
+    {
+        // Its range bounds all tasks, so the ids of runs rise as the keys of their first batches do.
+        let _greatest = self.greatest_task();
+        self.runs.as_slice()
     }
 
     /// The run of the batch of this key.

@@ -12,11 +12,8 @@ use ndc_state::Steps;
 use std::alloc::{AllocError, Global};
 
 impl Runs {
-    ghost use Rattle.std.specs.Prelude.{◌≡◌, ◌++◌, map, IfOk, OnOk};
-    ghost use Rattle.std.specs.List.{flat_map};
-    ghost use Rattle.ndc_shard_runs.specs.View.{run_from, view_at};
-    ghost use Rattle.ndc_model_sets.specs.Sets.{Has};
-    ghost use Rattle.ndc_model_sets.specs.Sound.{IsSound};
+    ghost use Rattle.std.specs.Prelude.{◌≡◌, IfOk};
+    ghost use Rattle.ndc_shard_runs.specs.View.{view_at};
     ghost use Rattle.ndc_model_sets.specs.View.{view_of};
 
     /// What is shown of the workflow; none exactly where nothing is learned. In time of all learned events; branches that
@@ -28,16 +25,16 @@ impl Runs {
             return Ok(None);
         }
         let batches = self.batches(alloc)?;
-        let runs = self.run_views(alloc, batches.as_slice(), steps)?;
         let copies = copies(alloc, batches.as_slice())?;
+        let runs = self.runs_shown(alloc, steps)?;
         Ok(Some(View {
             batches: Batches::new(copies),
             runs: RunViews::new(runs),
         }))
     }
 
-    /// The runs of what is shown of the workflow, ascending; no batch is copied. It takes what [`Runs::view`] takes beside
-    /// that.
+    /// The runs of what is shown of the workflow, ascending, with their branches. It looks at tips and version histories, not
+    /// at all batches; branches that are not current are restored from what is kept of their runs, which takes steps.
     pub fn runs_shown<L>(
         &self,
         alloc: Global,
@@ -45,50 +42,12 @@ impl Runs {
     ) -> Result<Vec<RunView>, AllocError>
         ensures { IfOk result (λ list. list.items ≡ (view_of self.now).runs) }
     {
-        let batches = self.batches(alloc)?;
-        let runs = self.run_views(alloc, batches.as_slice(), steps)?;
-        Ok(runs)
-    }
-
-    /// The runs of these batches, which are all that is learned.
-    fn run_views<L>(
-        &self,
-        alloc: Global,
-        batches: &[&Batch],
-        steps: &mut Steps<L>,
-    ) -> Result<Vec<RunView>, AllocError>
-        requires all { map (λ b. b.now) batches.now ≡ self.now }
-        requires sound { IsSound self.now }
-        ensures { IfOk result (λ list. list.items ≡ flat_map (run_from self.now) (map (λ b. b.now) batches.now)) }
-    {
         let mut list = Vec::new(alloc);
-        for batch in batches {
-            self.push_run(alloc, &mut list, batch, steps)?;
+        for run in self.all_runs() {
+            let is_current = self.is_current(run.tree().run());
+            list.push(run_view(alloc, run, is_current, steps)?)?;
         }
         Ok(list)
-    }
-
-    /// Adds the run of this batch, where the batch is the first of its run.
-    fn push_run<L>(
-        &self,
-        alloc: Global,
-        list: &mut Vec<RunView>,
-        batch: &Batch,
-        steps: &mut Steps<L>,
-    ) -> Result<(), AllocError>
-        requires { Has self.now batch.now }
-        ensures { OnOk result (list.new.items ≡ list.old.items ++ run_from self.now batch.now) }
-    {
-        if batch.parent.is_some() {
-            return Ok(());
-        }
-        match self.run_of(batch.key) {
-            None => Ok(()),
-            Some(run) => {
-                list.push(run_view(alloc, run, self.is_current(batch.run), steps)?)?;
-                Ok(())
-            }
-        }
     }
 }
 

@@ -6,8 +6,11 @@ ghost use Rattle.ndc_laws_jobs.specs.Standing.{IsLeftBy, StandFor};
 ghost use Rattle.ndc_domain.specs.Clusters.{count_of};
 ghost use Rattle.ndc_domain.specs.declared.clusters.ClusterNo.{ClusterNo as Number};
 ghost use Rattle.ndc_model.specs.Fair.{IsShaped};
+ghost use Rattle.ndc_event.specs.declared.name.Name.{Name as Text};
 ghost use Rattle.ndc_model.specs.Lines.{act_step};
+ghost use Rattle.ndc_model.specs.Reading.{learned_at};
 ghost use Rattle.ndc_model.specs.World.{World, all_clusters};
+ghost use Rattle.ndc_model_sets.specs.Sound.{IsSound};
 
 use ndc_cluster_reads::Reads;
 use ndc_progress::Progress;
@@ -51,6 +54,7 @@ pub(crate) fn report<C: Reads + Drop>(
     requires act { IsWellFormedAct header.now act.now }
     requires on { is_on_reports act.now ≡ true }
     requires shaped { IsShaped header.now network.now }
+    requires sound { (cluster : Number) (domain workflow : Text) → IsCluster header.now cluster → IsSound (learned_at header.now cluster domain workflow network.now) }
     requires seats { length reports.old.items ≡ count_of header.now.clusters }
     requires beats { (cluster : Number) → IsCluster header.now cluster → AllByRecursion (λ report. report.beat < 10 ^ 12) (slice_index_or reports.old.items cluster.number []) }
     ensures { IfOk result (λ step. (w : World) → StandFor network.now reports.old.items w → IsLeftBy (act_step header.now act.now w) network.now reports.new.items step.answer step.seen) }

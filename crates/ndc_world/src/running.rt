@@ -4,13 +4,16 @@ ghost use Rattle.std.specs.List.{AllByRecursion};
 ghost use Rattle.ndc_script_types.specs.WellFormed.{IsCluster, IsWellFormedAct, IsWellFormedHeader, IsWellFormedJob};
 ghost use Rattle.ndc_domain.specs.Clusters.{count_of};
 ghost use Rattle.ndc_domain.specs.declared.clusters.ClusterNo.{ClusterNo as Number};
+ghost use Rattle.ndc_event.specs.declared.name.Name.{Name as Text};
 ghost use Rattle.ndc_laws_jobs.specs.Bare.{is_on_reports};
 ghost use Rattle.ndc_laws_jobs.specs.Standing.{StandFor};
 ghost use Rattle.ndc_model.specs.Facts.{IsReached};
 ghost use Rattle.ndc_model.specs.Fair.{IsShaped};
 ghost use Rattle.ndc_model.specs.Laws.{is_refusal};
 ghost use Rattle.ndc_model.specs.Lines.{job_line, lines_of_act, ran_from};
+ghost use Rattle.ndc_model.specs.Reading.{learned_at};
 ghost use Rattle.ndc_model.specs.World.{World};
+ghost use Rattle.ndc_model_sets.specs.Sound.{IsSound};
 ghost use Rattle.ndc_world.specs.Counts.{one_if};
 ghost use Rattle.ndc_world.specs.Running.{HaveRun};
 ghost use Rattle.ndc_world.specs.Standing.{IsBehind, IsStanding};
@@ -150,6 +153,7 @@ fn run_report<C: Reads + Drop>(
     requires act { IsWellFormedAct header.now asked.now }
     requires on { is_on_reports asked.now ≡ true }
     requires shaped { IsShaped header.now network.now }
+    requires sound { (cluster : Number) (domain workflow : Text) → IsCluster header.now cluster → IsSound (learned_at header.now cluster domain workflow network.now) }
     requires seats { length reports.old.items ≡ count_of header.now.clusters }
     requires beats { (cluster : Number) → IsCluster header.now cluster → AllByRecursion (λ report. report.beat < 10 ^ 12) (slice_index_or reports.old.items cluster.number []) }
     ensures { IfOk result (λ told. (w : World) → StandFor network.now reports.old.items w

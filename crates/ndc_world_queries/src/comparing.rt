@@ -3,8 +3,9 @@ ghost use Rattle.std.specs.List.{AllByRecursion};
 ghost use Rattle.ndc_model.specs.Reading.{compare_answer};
 ghost use Rattle.ndc_world_network.specs.Found.{batches_or_none};
 ghost use Rattle.ndc_text.specs.Ranges.{InRange};
+ghost use Rattle.ndc_world_queries.specs.Learned.{last_key};
 
-use ndc_event::{Batch, Name};
+use ndc_event::{Batch, BatchKey, Name};
 use ndc_shard_runs::Runs;
 use std::alloc::{AllocError, Global};
 
@@ -33,10 +34,21 @@ fn batches_of<'a>(alloc: Global, runs: Option<&'a Runs>) -> Result<Vec<&'a Batch
     }
 }
 
-/// Whether two clusters have learned the same of a workflow. In time of the batches; no dump is made.
+/// The greatest key of what is learned.
+fn last_key(runs: Option<&Runs>) -> Option<BatchKey>
+    ensures { result ≡ last_key (batches_or_none (option_copied runs.entry)) }
+{
+    Some(runs?.tip()?.key)
+}
+
+/// Whether two clusters have learned the same of a workflow. Where their greatest keys differ, two look-ups tell that they
+/// have not; else it takes time of the batches. No dump is made.
 pub fn are_same(alloc: Global, one: Option<&Runs>, two: Option<&Runs>) -> Result<bool, AllocError>
     ensures { IfOk result (λ same. IsTrue same ↔ (batches_or_none (option_copied one.entry) ≡ batches_or_none (option_copied two.entry))) }
 {
+    if last_key(one) != last_key(two) {
+        return Ok(false);
+    }
     let first = batches_of(alloc, one)?;
     let second = batches_of(alloc, two)?;
     Ok(are_equal(first.as_slice(), second.as_slice()))

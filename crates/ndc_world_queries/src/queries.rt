@@ -71,7 +71,7 @@ pub fn state(alloc: Global, runs: &Runs) -> Result<Vec<u8>, AllocError>
     }
 }
 
-/// What `branches` answers: the runs with their branches. No batch is copied.
+/// What `branches` answers: the runs with their branches. It looks at tips and version histories, not at all batches.
 #[tactic(auto, using(crate::proofs::TipLemmas::branches_read))]
 pub fn branches<L>(alloc: Global, runs: &Runs, steps: &mut Steps<L>) -> Result<Vec<u8>, AllocError>
     ensures { IfOk result (λ text. text.items ≡ read_answer branches_answer runs.now) }

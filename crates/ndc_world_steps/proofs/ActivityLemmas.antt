@@ -1,9 +1,8 @@
 -- Activities that are told of, and versions of the events that scheduled them.
-use Rattle.std.proofs.Common.{◌≡◌, ◌≢◌, ◌==◌, ℕ, zero, suc, ◌<◌, ◌≤◌, ◌^◌, ◌+◌, Bool, true, false, List, [], ◌∷◌, ◌++◌, map, drop, get_or, length, nat_lt, slice_index_or, slice_set, Option, Some, None, Result, Ok, Err, refl, sym, ◌∙◌, ap, subst, arith, if◌then◌else◌}
+use Rattle.std.proofs.Common.{◌≡◌, ◌≢◌, ◌==◌, ℕ, zero, suc, ◌<◌, ◌≤◌, ◌^◌, ◌+◌, Bool, true, false, List, [], ◌∷◌, get_or, length, nat_lt, slice_index_or, slice_set, Option, Some, None, Result, Ok, Err, refl, sym, ◌∙◌, ap, subst, arith, if◌then◌else◌}
 use Rattle.std.specs.Prelude.{IfSome, option_map}
 use Rattle.std.specs.List.{AllByRecursion}
-use Rattle.std.proofs.lemmas.Bool.{ltb-false}
-use Rattle.std.proofs.lemmas.List.{at_drop_more}
+use Rattle.std.proofs.lemmas.Bool.{and_parts, eqb-false, eqb-true, le-ltb, lt-ltb, ltb-false}
 use Rattle.ndc_script_types.specs.declared.script.Header.{Header}
 use Rattle.ndc_laws_jobs.proofs.StandLemmas.{beat-left}
 use Rattle.ndc_laws_jobs.specs.Reporting.{told_at, told_by}
@@ -27,56 +26,120 @@ use Rattle.ndc_progress.specs.declared.report.ActivityRef.{ActivityRef}
 use Rattle.ndc_progress.specs.declared.report.Report.{Report}
 use Rattle.ndc_model_sets.specs.Branches.{workflow_tip}
 use Rattle.ndc_model_sets.specs.Current.{state_to}
-use Rattle.ndc_model_sets.specs.Paths.{events_to, path_to}
-use Rattle.ndc_model_sets.specs.Sets.{batch_at}
+use Rattle.ndc_model_sets.specs.Paths.{before_items, events_to, item_of, versions_of}
+use Rattle.ndc_model_sets.specs.Sets.{Has, batch_at}
+use Rattle.ndc_model_sets.specs.Sound.{IsSound}
+use Rattle.ndc_model_sets.proofs.PathLaws.{counts_from_one}
+use Rattle.ndc_model_sets.proofs.SetLemmas.{found-key}
+use Rattle.ndc_event.specs.Batch.{follow_from}
+use Rattle.ndc_history.specs.declared.item.Item.{Item}
 use Rattle.ndc_state.specs.Replay.{history_of}
 use Rattle.ndc_state.specs.Value.{StateValue}
-use Rattle.ndc_world_steps.specs.Versions.{told_from, version_found}
-use Rattle.ndc_model_sets.specs.Reading.{path_at}
+use Rattle.ndc_world_steps.specs.Versions.{told_from, version_in, version_reaching}
+use Rattle.ndc_model_sets.specs.Reading.{history_at}
 
--- the version of an event among those of a batch and of the others
-abbrev version-or : Option ℕ → ℕ → ℕ
-version-or None other = other
-version-or (Some version) other = version
+-- the id of the first of these items, 0 where there is none
+abbrev first-id : List Item → ℕ
+first-id [] = 0
+first-id (item ∷ items) = item.id
 
-version-both : (id : ℕ) (events rest : List Event) → version_of_event id (events ++ rest) ≡ version-or (version_found id events) (version_of_event id rest)
-version-both id [] rest = refl
-version-both id (event ∷ events) rest = by (event.id == id) (version-both id events rest)
+-- what comes first in the version history of events that follow an id is behind it
+first-behind : (last : ℕ) (events : List Event) (item : Item) (items : List Item) → follow_from last events ≡ true → versions_of events ≡ item ∷ items → last < item.id
+first-behind last [] item items f e = absurd (cc)
+first-behind last (event ∷ events) item items f e = by (versions_of events) (first-behind event.id events) e
   where
-    by : (t : Bool) → version_of_event id (events ++ rest) ≡ version-or (version_found id events) (version_of_event id rest)
-        → (if t then event.version else version_of_event id (events ++ rest)) ≡ version-or (if t then Some event.version else version_found id events) (version_of_event id rest)
-    by true more = refl
-    by false more = more
+    p : ((event.id == last + 1) ≡ true) × (follow_from event.id events ≡ true)
+    p = and_parts (event.id == last + 1) (follow_from event.id events) f
 
--- it is found in a batch, or not
-pub version_here : {X : Type 0} (f : X → Batch) (id : ℕ) (path : List X) (i : ℕ) (x : X) (b : Batch) (version : ℕ) → i < length path → b ≡ f (get_or path i x) → Some version ≡ version_found id b.events
-    → version ≡ version_of_event id (history_of (map f (drop i path)))
-version_here {X} f id path i x b version below is found =
-    sym (at_drop_more (λ (l : List X). version_of_event id (history_of (map f l))) path i x below
-    ∙ ap (λ (c : Batch). version_of_event id (history_of (c ∷ map f (drop (i + 1) path)))) (sym is)
-    ∙ version-both id b.events (history_of (map f (drop (i + 1) path)))
-    ∙ ap (λ o. version-or o (version_of_event id (history_of (map f (drop (i + 1) path))))) (sym found))
+    next : event.id ≡ last + 1
+    next = eqb-true event.id (last + 1) p.0
 
-pub version_further : {X : Type 0} (f : X → Batch) (id : ℕ) (path : List X) (i : ℕ) (x : X) (b : Batch) → i < length path → b ≡ f (get_or path i x) → None ≡ version_found id b.events
-    → version_of_event id (history_of (map f (drop (i + 1) path))) ≡ version_of_event id (history_of (map f (drop i path)))
-version_further {X} f id path i x b below is found =
-    sym (at_drop_more (λ (l : List X). version_of_event id (history_of (map f l))) path i x below
-    ∙ ap (λ (c : Batch). version_of_event id (history_of (c ∷ map f (drop (i + 1) path)))) (sym is)
-    ∙ version-both id b.events (history_of (map f (drop (i + 1) path)))
-    ∙ ap (λ o. version-or o (version_of_event id (history_of (map f (drop (i + 1) path))))) (sym found))
+    by : (rest : List Item) → ((i : Item) (is : List Item) → follow_from event.id events ≡ true → rest ≡ i ∷ is → event.id < i.id) → before_items (item_of event) rest ≡ item ∷ items → last < item.id
+    by [] more e = let same : event.id ≡ item.id = ap first-id e in omega (arith, same, next)
+    by (i ∷ is) more e = of (event.version == i.version) e
+      where
+        of : (t : Bool) → (if t then i ∷ is else item_of event ∷ i ∷ is) ≡ item ∷ items → last < item.id
+        of true e = let same : i.id ≡ item.id = ap first-id e in omega (arith, more i is p.1 refl, same, next)
+        of false e = let same : event.id ≡ item.id = ap first-id e in omega (arith, same, next)
 
--- the path to a batch, where it is found
-pub path_found : (key : BatchKey) (batches path : List Batch) → Some path ≡ path_at key batches → path ≡ path_to key batches
-path_found key batches path e = by (batch_at key batches) e
+-- an item that reaches an id goes before others that do
+reached-here : (event : Event) (items : List Item) → ((item : Item) (rest : List Item) → items ≡ item ∷ rest → event.id < item.id) → event.version ≡ version_reaching event.id (before_items (item_of event) items)
+reached-here event [] behind = sym (ap (λ t. if t then 0 else event.version) (le-ltb event.id event.id (omega arith)))
+reached-here event (item ∷ items) behind = by (event.version == item.version) refl
   where
-    by : (o : Option Batch) → Some path ≡ option_map (λ _. path_to key batches) o → path ≡ path_to key batches
-    by None f = absurd (cc)
-    by (Some b) f = cc
+    not-below : nat_lt item.id event.id ≡ false
+    not-below = le-ltb item.id event.id (omega (arith, behind item items refl))
 
-pub path_nowhere : {X : Type 0} (f : X → List Batch) (o : Option X) (id : ℕ) (key : BatchKey) (batches : List Batch) → o ≡ None → option_map f o ≡ path_at key batches → 0 ≡ version_of_event id (events_to key batches)
-path_nowhere {X} f o id key batches gone found = by (batch_at key batches) refl (sym (ap (option_map f) gone) ∙ found)
+    by : (t : Bool) → (event.version == item.version) ≡ t → event.version ≡ version_reaching event.id (if t then item ∷ items else item_of event ∷ item ∷ items)
+    by true e = eqb-true event.version item.version e ∙ sym (ap (λ t. if t then version_reaching event.id items else item.version) not-below)
+    by false e = sym (ap (λ t. if t then version_reaching event.id (item ∷ items) else event.version) (le-ltb event.id event.id (omega arith)))
+
+-- one that does not is passed
+reached-behind : (id : ℕ) (event : Event) (items : List Item) → event.id < id → version_reaching id items ≡ version_reaching id (before_items (item_of event) items)
+reached-behind id event [] below = sym (ap (λ t. if t then 0 else event.version) (lt-ltb event.id id below))
+reached-behind id event (item ∷ items) below = by (event.version == item.version)
   where
-    by : (p : Option Batch) → batch_at key batches ≡ p → None ≡ option_map (λ _. path_to key batches) p → 0 ≡ version_of_event id (events_to key batches)
+    by : (t : Bool) → version_reaching id (item ∷ items) ≡ version_reaching id (if t then item ∷ items else item_of event ∷ item ∷ items)
+    by true = refl
+    by false = sym (ap (λ t. if t then version_reaching id (item ∷ items) else event.version) (lt-ltb event.id id below))
+
+-- the version of an event is read off the version history of events that follow an id before it
+version-reached : (last id : ℕ) (events : List Event) → follow_from last events ≡ true → last < id → version_reaching id (versions_of events) ≡ version_of_event id events
+version-reached last id [] f below = refl
+version-reached last id (event ∷ events) f below = by (event.id == id) refl (version-reached event.id id events p.1)
+  where
+    p : ((event.id == last + 1) ≡ true) × (follow_from event.id events ≡ true)
+    p = and_parts (event.id == last + 1) (follow_from event.id events) f
+
+    next : event.id ≡ last + 1
+    next = eqb-true event.id (last + 1) p.0
+
+    by : (t : Bool) → (event.id == id) ≡ t → (event.id < id → version_reaching id (versions_of events) ≡ version_of_event id events)
+        → version_reaching id (before_items (item_of event) (versions_of events)) ≡ (if t then event.version else version_of_event id events)
+    by true e more =
+        ap (λ n. version_reaching n (before_items (item_of event) (versions_of events))) (sym (eqb-true event.id id e))
+        ∙ sym (reached-here event (versions_of events) (λ item rest same. first-behind event.id events item rest p.1 same))
+    by false e more =
+        let behind : event.id < id = omega (arith, below, next, eqb-false event.id id e) in
+        sym (reached-behind id event (versions_of events) behind) ∙ more behind
+
+-- no event has the id 0
+none-zero : (last : ℕ) (events : List Event) → follow_from last events ≡ true → 0 ≡ version_of_event 0 events
+none-zero last [] f = refl
+none-zero last (event ∷ events) f = by (event.id == 0) refl (none-zero event.id events p.1)
+  where
+    p : ((event.id == last + 1) ≡ true) × (follow_from event.id events ≡ true)
+    p = and_parts (event.id == last + 1) (follow_from event.id events) f
+
+    by : (t : Bool) → (event.id == 0) ≡ t → 0 ≡ version_of_event 0 events → 0 ≡ (if t then event.version else version_of_event 0 events)
+    by true e more = absurd (omega (arith, eqb-true event.id 0 e, eqb-true event.id (last + 1) p.0))
+    by false e more = more
+
+version-in : (id : ℕ) (events : List Event) → follow_from 0 events ≡ true → version_in id (versions_of events) ≡ version_of_event id events
+version-in id events f = by (id == 0) refl
+  where
+    by : (t : Bool) → (id == 0) ≡ t → (if t then 0 else version_reaching id (versions_of events)) ≡ version_of_event id events
+    by true e = none-zero 0 events f ∙ ap (λ n. version_of_event n events) (sym (eqb-true id 0 e))
+    by false e = version-reached 0 id events f (omega (arith, eqb-false id 0 e))
+
+-- the version of an event on the path to a batch, by the version history of the path
+pub version_known : (id : ℕ) (key : BatchKey) (batches : List Batch) (history : List Item) → IsSound batches → Some history ≡ history_at key batches → version_in id history ≡ version_of_event id (events_to key batches)
+version_known id key batches history sound found = by (batch_at key batches) refl found
+  where
+    by : (o : Option Batch) → batch_at key batches ≡ o → Some history ≡ option_map (λ _. versions_of (events_to key batches)) o → version_in id history ≡ version_of_event id (events_to key batches)
+    by None e f = absurd (cc)
+    by (Some b) e f =
+        let is : history ≡ versions_of (events_to key batches) = cc in
+        let own : b.key ≡ key = found-key batches key b e in
+        let has : Has batches b = subst (λ k. batch_at k batches ≡ Some b) (sym own) e in
+        let follow : follow_from 0 (events_to key batches) ≡ true = subst (λ k. follow_from 0 (events_to k batches) ≡ true) own (counts_from_one batches b sound.set sound.closed sound.faultless sound.parents has) in
+        ap (version_in id) is ∙ version-in id (events_to key batches) follow
+
+-- where there is no such batch, there is no such event
+pub version_nowhere : (id : ℕ) (key : BatchKey) (batches : List Batch) → None ≡ history_at key batches → 0 ≡ version_of_event id (events_to key batches)
+version_nowhere id key batches found = by (batch_at key batches) refl found
+  where
+    by : (o : Option Batch) → batch_at key batches ≡ o → None ≡ option_map (λ _. versions_of (events_to key batches)) o → 0 ≡ version_of_event id (events_to key batches)
     by None g e = sym (ap (λ (l : List Batch). version_of_event id (history_of l)) (no-path batches key g))
     by (Some b) g e = absurd (cc)
 

@@ -1,4 +1,4 @@
-ghost use Rattle.std.specs.Prelude.{◌≡◌, map, not, Some, IfOk};
+ghost use Rattle.std.specs.Prelude.{◌≡◌, not, Some, IfOk};
 ghost use Rattle.ndc_model_cells.specs.Writing.{as_command_error, may_write_by};
 ghost use Rattle.ndc_command.specs.Stage.{needs_started, refuse, stage_of};
 ghost use Rattle.ndc_command.specs.declared.refusal.CommandError.TheVariants.{Memory};
@@ -9,12 +9,13 @@ ghost use Rattle.ndc_model.specs.Progress.{pending_activity, started_activity, v
 ghost use Rattle.ndc_model_sets.specs.Branches.{workflow_tip};
 ghost use Rattle.ndc_model_sets.specs.Current.{state_to};
 ghost use Rattle.ndc_model_sets.specs.Paths.{events_to};
-ghost use Rattle.ndc_state.specs.Replay.{history_of};
-ghost use Rattle.ndc_world_steps.specs.Versions.{told_from, version_found};
+ghost use Rattle.ndc_model_sets.specs.Sound.{IsSound};
+ghost use Rattle.ndc_world_steps.specs.Versions.{told_from, version_in};
 
 use ndc_command::{CommandError, Refusal};
 use ndc_domain::{ClusterNo, DomainTable};
-use ndc_event::{Batch, BatchKey, Event, Name};
+use ndc_event::{Batch, BatchKey, Name};
+use ndc_history::Item;
 use ndc_progress::ActivityRef;
 use ndc_script_types::Header;
 use ndc_shard_entries::may_write;
@@ -22,36 +23,29 @@ use ndc_shard_runs::Runs;
 use ndc_state::{Pending, State};
 use std::alloc::{AllocError, Global};
 
-/// The version of the event with this id, where it is one of these.
-fn version_in(events: &[Event], id: u64) -> Option<u64>
-    ensures { result ≡ version_found id events.now }
+/// The version of the event with this id on a path with this version history, 0 where there is none: that of the first
+/// item that reaches it. Ids count from 1.
+fn version_in(items: &[Item], id: u64) -> u64
+    ensures { result ≡ version_in id items.now }
 {
-    for event in events {
-        if event.id == id {
-            return Some(event.version);
-        }
+    if id == 0 {
+        return 0;
     }
-    None
-}
-
-/// The version of the event with this id on a path, 0 where there is none.
-fn version_on(path: &[&Batch], id: u64) -> u64
-    ensures { result ≡ version_of_event id (history_of (map (λ b. b.now) path.now)) }
-{
-    for place in 0..path.len() {
-        if let Some(version) = version_in(path[place].events.as_slice(), id) {
-            return version;
+    for item in items {
+        if id <= item.id {
+            return item.version;
         }
     }
     0
 }
 
-/// The version of the event with this id on the path to a batch, 0 where there is none.
+/// The version of the event with this id on the path to a batch, 0 where there is none. In time of the versions on it.
 fn version_to(alloc: Global, runs: &Runs, key: BatchKey, id: u64) -> Result<u64, AllocError>
+    requires { IsSound runs.now }
     ensures { IfOk result (λ version. version ≡ version_of_event id (events_to key runs.now)) }
 {
-    match runs.path(alloc, key)? {
-        Some(path) => Ok(version_on(path.as_slice(), id)),
+    match runs.history_of(alloc, key)? {
+        Some(history) => Ok(version_in(history.items(), id)),
         None => Ok(0),
     }
 }
@@ -66,7 +60,8 @@ pub(crate) fn pending_activity(
     tip: &Batch,
     state: &State,
 ) -> Result<ActivityRef, CommandError>
-    requires { state.now ≡ state_to tip.now.run tip.now.key runs.now }
+    requires state { state.now ≡ state_to tip.now.run tip.now.key runs.now }
+    requires sound { IsSound runs.now }
     ensures { Gives Memory (λ activity. activity) result (pending_activity domain.now workflow.now id.now runs.now tip.now) }
 {
     let Some(pending) = state.activity(id) else {
@@ -117,7 +112,8 @@ fn started_below(
     tip: &Batch,
     state: &State,
 ) -> Result<ActivityRef, CommandError>
-    requires { state.now ≡ state_to tip.now.run tip.now.key runs.now }
+    requires state { state.now ≡ state_to tip.now.run tip.now.key runs.now }
+    requires sound { IsSound runs.now }
     ensures { Gives Memory (λ activity. activity) result (started_activity domain.now workflow.now id.now runs.now (Some tip.now)) }
 {
     needs_open(state)?;
@@ -134,6 +130,7 @@ fn started_activity(
     id: &Name,
     runs: &Runs,
 ) -> Result<ActivityRef, CommandError>
+    requires { IsSound runs.now }
     ensures { Gives Memory (λ activity. activity) result (started_activity domain.now workflow.now id.now runs.now (workflow_tip runs.now)) }
 {
     let Some(tip) = runs.tip() else {
@@ -172,6 +169,7 @@ pub(crate) fn told_of(
     id: &Name,
     runs: &Runs,
 ) -> Result<(u64, ActivityRef), CommandError>
+    requires { IsSound runs.now }
     ensures { Gives Memory (λ told. told) result (told_from (record { clusters = header.now.clusters; me = cluster; limit = header.now.limit; table = table.now }) domain.now workflow.now id.now runs.now) }
 {
     let version = version_for(header, cluster, table, domain, runs)?;

@@ -11,6 +11,7 @@ ghost use Rattle.ndc_progress.specs.declared.report.ActivityRef.{ActivityRef as 
 ghost use Rattle.ndc_model.specs.Progress.{activity_answer, beat_step, progress_answer, sync_step};
 ghost use Rattle.ndc_model.specs.Reading.{learned_at};
 ghost use Rattle.ndc_model.specs.World.{World};
+ghost use Rattle.ndc_model_sets.specs.Sound.{IsSound};
 ghost use Rattle.ndc_progress.specs.Reports.{merge_count, merged, stale_by};
 ghost use Rattle.ndc_world_steps.specs.Told.{only_answer};
 
@@ -70,6 +71,7 @@ fn told_with<C: Reads + Drop>(
 ) -> Result<(u64, ActivityRef), CommandError>
     requires there { cluster.number < length network.now.clusters }
     requires runs { runs.now ≡ learned_at header.now cluster domain.now workflow.now network.now }
+    requires sound { IsSound runs.now }
     ensures { Gives Memory (λ told. told) result (told_at header.now cluster domain.now workflow.now id.now network.now) }
 {
     let table = table_of(network, cluster);
@@ -89,6 +91,7 @@ fn told_at<C: Reads + Drop>(
     requires shards { 0 < header.now.shards }
     requires cluster { IsCluster header.now cluster }
     requires shaped { IsShaped header.now network.now }
+    requires sound { IsSound (learned_at header.now cluster domain.now workflow.now network.now) }
     ensures { Gives Memory (λ told. told) result (told_at header.now cluster domain.now workflow.now id.now network.now) }
 {
     match runs_of(network, header, cluster, domain, workflow) {
@@ -100,7 +103,8 @@ fn told_at<C: Reads + Drop>(
     }
 }
 
-/// `beat`. The reports that clusters hold stand beside them.
+/// `beat`. The reports that clusters hold stand beside them. What is learned of the workflow is sound. In time of the
+/// versions on the current branch.
 pub fn beat<C: Reads + Drop>(
     network: &Network<C>,
     reports: &mut Vec<Progress>,
@@ -115,6 +119,7 @@ pub fn beat<C: Reads + Drop>(
     requires shards { 0 < header.now.shards }
     requires cluster { IsCluster header.now cluster }
     requires shaped { IsShaped header.now network.now }
+    requires sound { IsSound (learned_at header.now cluster domain.now workflow.now network.now) }
     requires seat { cluster.number < length reports.old.items }
     requires beats { AllByRecursion (λ report. report.beat < 10 ^ 12) (slice_index_or reports.old.items cluster.number []) }
     ensures { IfOk result (λ step. (w : World) → StandFor network.now reports.old.items w
@@ -193,6 +198,7 @@ fn shown(
     id: &Name,
     runs: &Runs,
 ) -> Result<Vec<u8>, AllocError>
+    requires { IsSound runs.now }
     ensures { IfOk result (λ text. text.items ≡ shown_of domain.now workflow.now id.now own.now runs.now) }
 {
     if runs.is_empty() {
@@ -222,6 +228,7 @@ fn shown_at<C: Reads + Drop>(
     requires shards { 0 < header.now.shards }
     requires cluster { IsCluster header.now cluster }
     requires shaped { IsShaped header.now network.now }
+    requires sound { IsSound (learned_at header.now cluster domain.now workflow.now network.now) }
     ensures { IfOk result (λ text. text.items ≡ shown_of domain.now workflow.now id.now own.now (learned_at header.now cluster domain.now workflow.now network.now)) }
 {
     match runs_of(network, header, cluster, domain, workflow) {
@@ -230,7 +237,7 @@ fn shown_at<C: Reads + Drop>(
     }
 }
 
-/// `progress`.
+/// `progress`. What is learned of the workflow is sound. In time of the versions on the current branch.
 pub fn progress<C: Reads + Drop>(
     network: &Network<C>,
     reports: &[Progress],
@@ -244,6 +251,7 @@ pub fn progress<C: Reads + Drop>(
     requires shards { 0 < header.now.shards }
     requires cluster { IsCluster header.now cluster }
     requires shaped { IsShaped header.now network.now }
+    requires sound { IsSound (learned_at header.now cluster domain.now workflow.now network.now) }
     requires seat { cluster.number < length reports.now }
     ensures { IfOk result (λ text. (w : World) → StandFor network.now reports.now w → text.items ≡ progress_answer header.now cluster domain.now workflow.now id.now w) }
 {

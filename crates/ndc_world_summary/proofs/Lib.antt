@@ -1,3 +1,4 @@
+pub mod BatchLemmas
 mod FoundLemmas
 mod PartLemmas
 mod ShardLemmas

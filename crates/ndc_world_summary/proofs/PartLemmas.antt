@@ -1,14 +1,11 @@
 -- Branches counted by what is shown, and parts added up.
-use Rattle.std.proofs.Common.{◌≡◌, ◌+◌, List, [], ◌∷◌, Some, None, length, map, refl, ap, sym, ◌∙◌, arith}
+use Rattle.std.proofs.Common.{◌≡◌, ◌+◌, List, [], ◌∷◌, length, map, refl, ap, sym, ◌∙◌, arith}
 use Rattle.std.specs.List.{sum_by}
 use Rattle.std.proofs.lemmas.List.{length-map}
 use Rattle.std.proofs.lemmas.List.Sums.{sum_by-cons}
-use Rattle.std.proofs.lemmas.Option.{none-some}
 use Rattle.ndc_event.specs.declared.batch.Batch.{Batch}
 use Rattle.ndc_event.specs.declared.key.RunId.{RunId}
-use Rattle.ndc_shard_runs.specs.View.{view_at}
 use Rattle.ndc_model_sets.specs.declared.view.RunView.{RunView}
-use Rattle.ndc_model_sets.specs.declared.view.View.{View}
 use Rattle.ndc_model_sets.specs.Branches.{runs, tips}
 use Rattle.ndc_model_sets.specs.View.{branch_view, run_view, view_of}
 use Rattle.ndc_world_summary.specs.Summaries.{branch_count, first_learned}
@@ -24,26 +21,14 @@ shown batches (run ∷ list) =
     ∙ sym (sum_by-cons (λ run. length (tips run batches)) run list)
 
 -- how many branches there are, by what is shown of a workflow
-shown-branches : (batches : List Batch) → sum_by (λ (run : RunView). length run.branches) (view_of batches).runs ≡ branch_count batches
+pub shown_branches : (batches : List Batch) → sum_by (λ (run : RunView). length run.branches) (view_of batches).runs ≡ branch_count batches
 unfolding branch_count
-shown-branches batches = shown batches (runs batches)
-
--- the same, where a view is there
-pub some_shown : (batches : List Batch) (view : View) → Some view ≡ view_at batches → sum_by (λ (run : RunView). length run.branches) view.runs ≡ branch_count batches
-some_shown [] view is = absurd (none-some view (sym is))
-some_shown (b ∷ batches) view is =
-    let same : view ≡ view_of (b ∷ batches) = cc in
-    ap (λ (view : View). sum_by (λ (run : RunView). length run.branches) view.runs) same ∙ shown-branches (b ∷ batches)
+shown_branches batches = shown batches (runs batches)
 
 -- nothing has no branch
 pub no_branch : 0 ≡ branch_count []
 unfolding branch_count
 no_branch = refl
-
--- there is no branch, where there is no view
-pub none_shown : (batches : List Batch) → None ≡ view_at batches → 0 ≡ branch_count batches
-none_shown [] is = no_branch
-none_shown (b ∷ batches) is = absurd (none-some (view_of (b ∷ batches)) is)
 
 -- where there is no cell, there is no branch
 pub none_first : {X : Type 0} (cell : X → Cell) (cells : List X) (b : Batch) → length cells ≡ 0 → 0 ≡ branch_count (first_learned (map cell cells) b)

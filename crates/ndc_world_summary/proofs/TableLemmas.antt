@@ -29,11 +29,12 @@ record-decides one two = (record_eq_true one two, λ same. subst (λ (other : Do
 pub table_decides : (one two : List DomainRecord) → Decides (same_table one two) (one ≡ two)
 table_decides one two = slice_eq-Decides record-decides one two (same_table one two) refl
 
+-- what is true exactly where something holds is each test that decides it
+pub decided : {P : Type 0} (told test : Bool) → IsTrue told ↔ P → Decides test P → told ≡ test
+decided true test iff decides = sym (decides.1 (iff.0 refl))
+decided false true iff decides = absurd (true≢false (sym (iff.1 (decides.0 refl))))
+decided false false iff decides = refl
+
 -- what is true exactly where two tables are one is the test
 pub table_told : (one two : List DomainRecord) (same : Bool) → IsTrue same ↔ (one ≡ two) → same ≡ same_table one two
-table_told one two true iff = sym ((table_decides one two).1 (iff.0 refl))
-table_told one two false iff = by (same_table one two) refl
-  where
-    by : (t : Bool) → same_table one two ≡ t → false ≡ t
-    by true passes = absurd (true≢false (sym (iff.1 ((table_decides one two).0 passes))))
-    by false passes = refl
+table_told one two same iff = decided same (same_table one two) iff (table_decides one two)

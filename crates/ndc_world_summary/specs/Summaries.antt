@@ -9,11 +9,11 @@ use Rattle.ndc_model_cells.specs.Jobs.{cell_for}
 use Rattle.ndc_model_cells.specs.Places.{is_of}
 use Rattle.ndc_domain.specs.declared.record.DomainRecord.{DomainRecord}
 use Rattle.ndc_domain.specs.Records.{record_eq}
-use Rattle.ndc_event.specs.Key.{key_eq}
 use Rattle.ndc_event.specs.declared.batch.Batch.{Batch}
 use Rattle.ndc_model.specs.Reading.{is_nothing}
 use Rattle.ndc_model.specs.World.{World, shards_of}
 use Rattle.ndc_model_sets.specs.Branches.{runs, tips}
+use Rattle.ndc_world_summary.specs.Same.{same_batches}
 use Rattle.ndc_world_summary.specs.declared.parts.Totals.{Totals}
 
 -- the messages that cells have written, cell by cell
@@ -41,14 +41,10 @@ first_learned (cell ∷ cells) b = learned_with b cell
 unfoldable pub branch_count : List Batch → ℕ
 branch_count batches = sum_by (λ run. length (tips run batches)) (runs batches)
 
--- whether two lists have the same keys, in one order
-abbrev pub same_keys : List Batch → List Batch → Bool
-same_keys one two = pointwise (λ first second. key_eq first.key second.key) one two
-
--- whether all these lists have the keys of the first
+-- whether all these lists hold the batches of the first
 abbrev pub are_alike : List (List Batch) → Bool
 are_alike [] = true
-are_alike (one ∷ others) = list_all (same_keys one) others
+are_alike (one ∷ others) = list_all (same_batches one) others
 
 -- whether two tables hold the same records
 abbrev pub same_table : List DomainRecord → List DomainRecord → Bool

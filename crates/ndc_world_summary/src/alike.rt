@@ -1,24 +1,34 @@
-ghost use Rattle.std.specs.Prelude.{◌≡◌, map, IfOk};
-ghost use Rattle.ndc_world_summary.specs.Summaries.{are_alike, learned_with, same_keys};
+ghost use Rattle.std.specs.Prelude.{◌≡◌, map, option_copied, IfOk};
+ghost use Rattle.ndc_world_network.specs.Found.{batches_or_none};
+ghost use Rattle.ndc_world_summary.specs.Same.{same_batches};
+ghost use Rattle.ndc_world_summary.specs.Summaries.{are_alike, learned_with};
 
-use crate::learned::learned_of;
 use ndc_cluster_reads::Reads;
 use ndc_event::Batch;
+use ndc_shard_runs::Runs;
+use ndc_world_queries::are_same;
 use std::alloc::{AllocError, Global};
 
-/// Whether two lists have the same keys, in one order.
-fn have_same_keys(one: &[&Batch], two: &[&Batch]) -> bool
-    ensures { result ≡ same_keys (map (λ b. b.now) one.now) (map (λ b. b.now) two.now) }
+/// What a cell has learned of the workflow of a batch. There is none only where nothing is.
+fn learned_with<'a, C: Reads>(cell: &'a C, batch: &Batch) -> Option<&'a Runs>
+    ensures { batches_or_none (option_copied result) ≡ learned_with batch.now (C.cell cell.now) }
 {
-    if one.len() != two.len() {
-        return false;
-    }
-    for place in 0..one.len() {
-        if one[place].key != two[place].key {
-            return false;
-        }
-    }
-    true
+    cell.runs(&batch.domain, &batch.workflow)
+}
+
+/// Whether two cells have learned the same of the workflow of a batch.
+fn have_learned_the_same<C: Reads>(
+    alloc: Global,
+    one: &C,
+    two: &C,
+    batch: &Batch,
+) -> Result<bool, AllocError>
+    ensures { IfOk result (λ same. same ≡ same_batches (learned_with batch.now (C.cell one.now)) (learned_with batch.now (C.cell two.now))) }
+{
+    let first = learned_with(one, batch);
+    let second = learned_with(two, batch);
+    let same = are_same(alloc, first, second)?;
+    Ok(same)
 }
 
 /// Whether all cells have learned the same of the workflow of a batch.
@@ -32,10 +42,8 @@ pub(crate) fn are_alike<C: Reads>(
     let Some((first, others)) = cells.split_first() else {
         return Ok(true);
     };
-    let learned = learned_of(alloc, *first, &batch.domain, &batch.workflow)?;
     for cell in others {
-        let other = learned_of(alloc, *cell, &batch.domain, &batch.workflow)?;
-        if !have_same_keys(learned.as_slice(), other.as_slice()) {
+        if !have_learned_the_same(alloc, *first, *cell, batch)? {
             return Ok(false);
         }
     }

@@ -45,10 +45,8 @@ fn branches_of(alloc: Global, runs: &Runs) -> Result<u64, AllocError>
     ensures { IfOk result (λ count. count ≡ branch_count runs.now) }
 {
     let mut steps: Steps<Restoring> = Steps::new();
-    match runs.view(alloc, &mut steps)? {
-        Some(view) => branches_in(view.runs.as_slice()),
-        None => Ok(0),
-    }
+    let shown = runs.runs_shown(alloc, &mut steps)?;
+    branches_in(shown.as_slice())
 }
 
 /// How many branches the runs of a workflow have, by what a cell has learned of it.

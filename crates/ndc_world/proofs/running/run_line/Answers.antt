@@ -1,9 +1,14 @@
-use Rattle.std.proofs.Common.{sym, ◌∙◌}
+use Rattle.std.proofs.Common.{arith, sym, ◌∙◌}
+use Rattle.ndc_laws_reached.proofs.OneWriterLemmas.{learned_sound}
 use Rattle.ndc_world.proofs.StandingLemmas.{beats_small, behind_other, clusters_reached}
 use Rattle.ndc_world.proofs.running.run_line.Goals as goal
 
 pub run_report-requires-clause-shaped : goal.run_report-requires-clause-shaped
 run_report-requires-clause-shaped g c = (clusters_reached c.args.header.now c.args.lines c.args.network.now c.args.reports.now.items c.requires.standing).shaped
+
+pub run_report-requires-clause-sound : goal.run_report-requires-clause-sound
+run_report-requires-clause-sound g c =
+    λ cluster domain workflow known. learned_sound c.args.header.now c.args.lines c.args.network.now cluster domain workflow (omega (arith, c.requires.standing.fit.shards_least)) known (clusters_reached c.args.header.now c.args.lines c.args.network.now c.args.reports.now.items c.requires.standing)
 
 pub run_report-requires-clause-beats : goal.run_report-requires-clause-beats
 run_report-requires-clause-beats g c = beats_small c.args.header.now c.args.lines c.args.network.now c.args.reports.now.items c.requires.standing
