@@ -21,13 +21,13 @@ use Rattle.ndc_event.specs.declared.batch.Event.{Event}
 use Rattle.ndc_event.specs.declared.key.BatchKey.{BatchKey}
 use Rattle.ndc_event.specs.declared.name.Name.{Name}
 use Rattle.ndc_laws_reached.proofs.ArrivalLemmas.{none-is, own-is}
-use Rattle.ndc_laws_reached.proofs.FoundLemmas.{at-there, find-passes, order-finds, there-among}
+use Rattle.ndc_laws_cells.proofs.FoundLemmas.{at-there, find-passes, order-finds, there-among}
 use Rattle.ndc_laws_reached.proofs.WrittenLemmas.{has-written, names-of, ordered, own-names, points-back, sound-of, wanted-some}
 use Rattle.ndc_model.specs.Facts.{IsReached}
 use Rattle.ndc_model.specs.Fair.{IsMessageTrue, written_of}
 use Rattle.ndc_model.specs.Moves.{all_written}
 use Rattle.ndc_model.specs.World.{World, cell_at}
-use Rattle.ndc_model.proofs.ListLemmas.{among-is}
+use Rattle.ndc_laws_cells.proofs.Lists.{among-is}
 use Rattle.ndc_model_sets.specs.Learned.{IsPart}
 use Rattle.ndc_model_sets.specs.Paths.{is_wanted}
 use Rattle.ndc_model_sets.specs.Sets.{batch_at}

@@ -20,15 +20,15 @@ use Rattle.ndc_model.specs.Facts.{IsReached}
 use Rattle.ndc_model.specs.Fair.{IsMessageTrue, is_named}
 use Rattle.ndc_model.specs.Moves.{all_written, messages_among}
 use Rattle.ndc_model.specs.World.{World, cell_at}
-use Rattle.ndc_model.proofs.LetterLemmas.{is_at-own}
-use Rattle.ndc_model.proofs.ListLemmas.{all-filter, among-is, is-among}
+use Rattle.ndc_model.proofs.ListLemmas.{all-filter}
+use Rattle.ndc_laws_cells.proofs.Lists.{among-is, is-among}
 use Rattle.ndc_model_sets.specs.Learned.{IsPart, has_key}
 use Rattle.ndc_model_sets.specs.Paths.{is_wanted}
 use Rattle.ndc_model_sets.specs.Sets.{PointsBack, batch_at}
 use Rattle.ndc_model_sets.proofs.Lists.{Among, find-among, find-only}
 use Rattle.ndc_model_sets.proofs.SetLemmas.{found-has, found-key, has-found}
 use Rattle.ndc_laws_reached.proofs.CellLemmas.{IsGrown}
-use Rattle.ndc_laws_reached.proofs.FoundLemmas.{at-place, find-passes, or-none, order-finds, placed-stays, placed-there, there-among}
+use Rattle.ndc_laws_cells.proofs.FoundLemmas.{at-place, find-passes, is_at-own, or-none, order-finds, placed-stays, placed-there, there-among}
 use Rattle.ndc_laws_reached.proofs.WaitingLemmas.{IsFresh, filter-messages, message-there, placed-within, placed-without}
 use Rattle.ndc_laws_reached.proofs.WrittenLemmas.{carried-alone, cell-is, names-of, one-carried, one-carrier, one-written, ordered, points-back, wanted-some}
 
