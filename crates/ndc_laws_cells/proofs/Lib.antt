@@ -1,9 +1,11 @@
 pub mod AddLemmas
+pub mod AskLemmas
 pub mod CommandLemmas
 pub mod CountLemmas
 pub mod EntryLemmas
 pub mod FoundLemmas
 pub mod FreshLemmas
+pub mod KeptLemmas
 pub mod KindLemmas
 pub mod Lists
 pub mod MayLemmas

@@ -1,5 +1,5 @@
 -- Batches of one workflow; workflows, each once.
-use Rattle.std.proofs.Common.{◌≡◌, Bool, true, false, not, List, [], ◌∷◌, inl, inr, refl, sym, ◌∙◌, true≢false}
+use Rattle.std.proofs.Common.{◌≡◌, Bool, true, false, not, List, [], ◌∷◌, Option, Some, None, inl, inr, refl, sym, ◌∙◌, ap, true≢false}
 use Rattle.std.specs.List.{AllByRecursion, filter}
 use Rattle.std.specs.Str.{bytes_eq}
 use Rattle.std.proofs.lemmas.Bool.{and_from, and_parts}
@@ -7,7 +7,10 @@ use Rattle.std.proofs.lemmas.Slice.Eq.{bytes_eq-Decides}
 use Rattle.ndc_model_cells.specs.Jobs.{workflows_of}
 use Rattle.ndc_model_cells.specs.Places.{is_of}
 use Rattle.ndc_event.specs.declared.batch.Batch.{Batch}
+use Rattle.ndc_event.specs.declared.key.BatchKey.{BatchKey}
 use Rattle.ndc_event.specs.declared.name.Name.{Name}
+use Rattle.ndc_model_sets.specs.Paths.{is_wanted}
+use Rattle.ndc_model_sets.proofs.KeyLemmas.{same-keys}
 use Rattle.ndc_model_sets.proofs.Lists.{Among, all-among, all-from, filter-among, filter-cases}
 
 -- names of a batch of a workflow
@@ -62,3 +65,8 @@ pub workflows-among : (bs : List Batch) (x : Batch) → Among x (workflows_of bs
 workflows-among [] x none = absurd none
 workflows-among (b ∷ bs) x (inl same) = inl same
 workflows-among (b ∷ bs) x (inr among) = inr (workflows-among bs x ((filter-among (λ o. not (is_of b.domain b.workflow o)) (workflows_of bs) x among).1))
+
+-- a wanted batch has the key that is wanted
+pub wanted-some : (o : Option BatchKey) (b : Batch) → is_wanted o b ≡ true → o ≡ Some b.key
+wanted-some None b w = absurd (true≢false (sym w))
+wanted-some (Some key) b w = ap (λ (k : BatchKey). Some k) (sym (same-keys b.key key w))

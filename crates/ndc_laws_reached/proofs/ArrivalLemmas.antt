@@ -1,4 +1,5 @@
 -- A message that arrives lets its cell grow.
+pub use Rattle.ndc_laws_cells.proofs.KeptLemmas.{none-is}
 use Rattle.std.proofs.Common.{◌≡◌, ℕ, ◌<◌, Bool, true, false, not, cond, if◌then◌else◌, List, [], ◌∷◌, Option, Some, None, IfSome, refl, sym, ◌∙◌, subst, ap, true≢false}
 use Rattle.std.specs.List.{AllByRecursion, IsAmong, filter, filter_map}
 use Rattle.std.specs.Option.{option_or}
@@ -59,10 +60,6 @@ order-filter q (b ∷ bs) order = by (q b) (order-filter q bs order.1)
     by : (t : Bool) → AreInOrder (filter q bs) → AreInOrder (cond t (b ∷ filter q bs) (filter q bs))
     by true rest = (all-filter (λ x. place_lt (place_of b) (place_of x) ≡ true) q bs order.0, rest)
     by false rest = rest
-
-pub none-is : {X : Type 0} (o : Option X) → is_some o ≡ false → o ≡ None
-none-is None e = refl
-none-is (Some x) e = absurd (true≢false e)
 
 -- a message of its own: of a batch that is not carried, as that batch has it
 pub own-is : (own all : List Batch) (b : Batch) (sent : Message) → own_message own all b ≡ Some sent → (is_some b.carrier ≡ false) × (message_of own all b ≡ sent)

@@ -1,5 +1,6 @@
 -- What was written in a world that is as it should be.
-pub use Rattle.ndc_laws_cells.proofs.NameLemmas.{names-of, own-names}
+pub use Rattle.ndc_laws_cells.proofs.Lists.{flat-among}
+pub use Rattle.ndc_laws_cells.proofs.NameLemmas.{names-of, own-names, wanted-some}
 use Rattle.std.proofs.Common.{◌≡◌, ℕ, ◌<◌, Bool, true, false, if◌then◌else◌, List, [], ◌∷◌, length, Option, Some, None, ◌⊎◌, inl, inr, refl, sym, ◌∙◌, subst, ap, arith, true≢false}
 use Rattle.std.specs.List.{filter, flat_map, fold}
 use Rattle.std.specs.Prelude.{is_some}
@@ -29,15 +30,6 @@ use Rattle.ndc_model_sets.proofs.Lists.{Among, all-among, all-from, among-filter
 use Rattle.ndc_model_sets.proofs.SoundLemmas.{faultless-back}
 use Rattle.ndc_laws_cells.proofs.FoundLemmas.{at-there, in_order-ordered, order-finds, there-among}
 
--- what stands in a flat map stands in one of its parts
-pub flat-among : {X Y : Type 0} (f : X → List Y) (xs : List X) (y : Y) → Among y (flat_map f xs) → (x : X) × Among x xs × Among y (f x)
-flat-among f [] y none = absurd none
-flat-among {X = X} {Y = Y} f (x ∷ xs) y among = by (among-cases y (f x) (flat_map f xs) among) (flat-among f xs y)
-  where
-    by : Among y (f x) ⊎ Among y (flat_map f xs) → (Among y (flat_map f xs) → (z : X) × Among z xs × Among y (f z)) → (z : X) × Among z (x ∷ xs) × Among y (f z)
-    by (inl front) rest = (x, inl refl, front)
-    by (inr later) rest = let r = rest later in (r.0, inr r.1, r.2)
-
 -- what was put into order was there
 pub among-placed : (new x : Batch) (bs : List Batch) → Among x (placed new bs) → (x ≡ new) ⊎ Among x bs
 among-placed new x [] (inl same) = inl same
@@ -66,11 +58,6 @@ in_order-among (b ∷ bs) front x among = by (in_order-among bs (placed b front)
     by : Among x (placed b front) ⊎ Among x bs → Among x front ⊎ Among x (b ∷ bs)
     by (inl there) = old (among-placed b x front there)
     by (inr later) = inr (inr later)
-
--- a wanted batch has the key that is wanted
-pub wanted-some : (o : Option BatchKey) (b : Batch) → is_wanted o b ≡ true → o ≡ Some b.key
-wanted-some None b w = absurd (true≢false (sym w))
-wanted-some (Some key) b w = ap (λ (k : BatchKey). Some k) (sym (same-keys b.key key w))
 
 module _ (header : Header) (lines : ℕ) (w : World) (is : IsReached header lines w) (shard : ℕ) (below : shard < header.shards) where
   abbrev all : List Batch
