@@ -13,7 +13,7 @@ use Rattle.ndc_event.specs.declared.key.BatchKey.{BatchKey}
 use Rattle.ndc_event.specs.declared.name.Name.{Name}
 use Rattle.ndc_index.specs.Texts.{count_kinds, is_original}
 use Rattle.ndc_model_cells.specs.declared.message.Message.{Message}
-use Rattle.ndc_model_cells.specs.Allowed.{HasRoom, MayBeAsked, MayReapply, MayTake, MayWrite, MayWriteAll}
+use Rattle.ndc_model_cells.specs.Allowed.{HasRoom, MayReapply, MayTake, MayWrite, MayWriteAll}
 use Rattle.ndc_model_cells.specs.Cells.{Cell, IsCell, arrived_of, both, learned_of}
 use Rattle.ndc_model_cells.specs.Laws.{arrived_second}
 use Rattle.ndc_model_cells.specs.Messages.{IsNewTo, batches_of, carrying, waits_for}
@@ -493,22 +493,11 @@ module _ (home : Desk) (all : List Batch) (domain workflow : Name) (cell : Cell)
   asked (Ok entries) takes = (takes entries refl).may
   asked (Err why) takes = tt
 
-  module _ (least : 2 ≤ home.limit) (most : home.limit ≤ 204800) where
-    pub command-asked : (command : Command) → MayBeAsked home domain workflow (command_of home domain workflow command cell) cell
-    command-asked command = record {
-      least = least;
-      limit = most;
-      room = has-room all domain workflow cell fine author.named range;
-      takes = asked (command_of home domain workflow command cell) (command-takes command);
-    }
+  pub command-asked : (command : Command) → MayTake domain workflow (command_of home domain workflow command cell) cell
+  command-asked command = asked (command_of home domain workflow command cell) (command-takes command)
 
-    pub reset-asked : (event : ℕ) → MayBeAsked home domain workflow (reset_at home domain workflow event cell) cell
-    reset-asked event = record {
-      least = least;
-      limit = most;
-      room = has-room all domain workflow cell fine author.named range;
-      takes = asked (reset_at home domain workflow event cell) (reset-takes event);
-    }
+  pub reset-asked : (event : ℕ) → MayTake domain workflow (reset_at home domain workflow event cell) cell
+  reset-asked event = asked (reset_at home domain workflow event cell) (reset-takes event)
 
 -- strays may be applied again in workflows that differ
 pub reapply-asked : (home : Desk) (bs : List Batch) → AreApart bs → (cell : Cell) → ((b : Batch) → Among b bs → HasSet home b.domain b.workflow cell) → MayReapply home bs cell

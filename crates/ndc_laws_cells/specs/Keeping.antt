@@ -54,3 +54,22 @@ with_entry entry all = arrived_second entry.second (arrived entry.batch all)
 abbrev pub with_entries : List Entry → List Batch → List Batch
 with_entries [] all = all
 with_entries (entry ∷ entries) all = with_entries entries (with_entry entry all)
+
+-- a message may be handed to a cell: it is one of a set that is kept for its workflow, and in range
+pub record CanArrive (sent : Message) (cell : Cell) : Type 0 where
+  pub all : List Batch
+  pub kept : IsKept all sent.batch.domain sent.batch.workflow cell
+  pub message : IsMessageOf all sent
+  pub range : HasRange all
+
+-- a cell may be asked to write to a workflow: a set is kept for it, in range, of which the cell is an author
+pub record CanWrite (home : Desk) (domain workflow : Name) (cell : Cell) : Type 0 where
+  pub all : List Batch
+  pub kept : IsKept all domain workflow cell
+  pub author : IsAuthor home all domain workflow cell
+  pub range : HasRange all
+  pub limit_most : home.limit ≤ 204800
+
+-- the same of each workflow
+abbrev pub CanWriteEach : Desk → Cell → Type 0
+CanWriteEach home cell = (domain workflow : Name) → CanWrite home domain workflow cell

@@ -10,3 +10,4 @@ pub mod ReadingLemmas
 pub mod StayLemmas
 pub mod SentLemmas
 pub mod LoneLemmas
+pub mod KeepingLemmas
