@@ -1,6 +1,6 @@
 -- A cell of which the caller keeps sound sets: what it may write, and what writing keeps.
-use Rattle.std.proofs.Common.{◌≡◌, ◌≤◌, ◌+◌, ◌^◌, ℕ, Bool, true, false, is_some, List, [], ◌∷◌, ◌++◌, length, ◌⊎◌, inl, inr, Option, Some, None, Result, Ok, Err, IfSome, option_to_list, refl, sym, ◌∙◌, subst, ap, arith, true≢false}
-use Rattle.std.specs.List.{AllByRecursion, filter, flat_map}
+use Rattle.std.proofs.Common.{◌≡◌, ◌≤◌, ◌+◌, ◌^◌, ℕ, Bool, true, false, is_some, List, [], ◌∷◌, length, ◌⊎◌, inl, inr, Option, Some, None, Result, Ok, Err, IfSome, option_to_list, refl, sym, ◌∙◌, subst, ap, arith, true≢false}
+use Rattle.std.specs.List.{AllByRecursion, flat_map}
 use Rattle.std.proofs.lemmas.List.Sums.{count_by-le-length}
 use Rattle.ndc_command.specs.declared.command.Command.{Command}
 use Rattle.ndc_command.specs.declared.refusal.CommandError.{CommandError}
@@ -11,12 +11,12 @@ use Rattle.ndc_event.specs.declared.batch.Batch.{Batch}
 use Rattle.ndc_event.specs.declared.batch.Event.{Event}
 use Rattle.ndc_event.specs.declared.key.BatchKey.{BatchKey}
 use Rattle.ndc_event.specs.declared.name.Name.{Name}
-use Rattle.ndc_index.specs.Texts.{count_kinds, is_original}
+use Rattle.ndc_index.specs.Texts.{is_original}
 use Rattle.ndc_model_cells.specs.declared.message.Message.{Message}
 use Rattle.ndc_model_cells.specs.Allowed.{HasRoom, MayReapply, MayTake, MayWrite, MayWriteAll}
 use Rattle.ndc_model_cells.specs.Cells.{Cell, IsCell, arrived_of, both, learned_of}
 use Rattle.ndc_model_cells.specs.Laws.{arrived_second}
-use Rattle.ndc_model_cells.specs.Messages.{IsNewTo, batches_of, carrying, waits_for}
+use Rattle.ndc_model_cells.specs.Messages.{batches_of, carrying, waits_for}
 use Rattle.ndc_model_cells.specs.Places.{is_of}
 use Rattle.ndc_model_cells.specs.Workflow.{workflow_of}
 use Rattle.ndc_model_cells.specs.Writing.{Desk, Entry, command_entries, command_of, greatest_version, may_write, reapplication_below, reapplication_by, reapplication_of, reset_at, reset_below, state_under, with_all_written, with_written}
@@ -34,9 +34,9 @@ use Rattle.ndc_model_sets.proofs.LearnedLemmas.{learned-reaches, learned_closed,
 use Rattle.ndc_model_sets.proofs.Lists.{Among, all-among, all-from, find-among}
 use Rattle.ndc_model_sets.proofs.SetLemmas.{found-has, found-key, has-found}
 use Rattle.ndc_model_sets.proofs.SoundLemmas.{faultless-back}
-use Rattle.ndc_laws_cells.specs.Adding.{Added, MayAdd}
-use Rattle.ndc_laws_cells.specs.Entries.{AddsOne, AddsTwo, IsCarriedIn, IsEntryOf}
-use Rattle.ndc_laws_cells.specs.Keeping.{HasRange, IsAuthor, IsKept, with_entries, with_entry}
+use Rattle.ndc_laws_cells.specs.Adding.{MayAdd}
+use Rattle.ndc_laws_cells.specs.Entries.{AddsOne, AddsTwo, IsCarriedIn, IsEntryOf, goes_on}
+use Rattle.ndc_laws_cells.specs.Keeping.{HasRange, IsAuthor, IsKept, IsWhole, with_entries, with_entry}
 use Rattle.ndc_laws_cells.proofs.CommandLemmas.{command-adds}
 use Rattle.ndc_laws_cells.proofs.EntryLemmas.{greatest-least}
 use Rattle.ndc_laws_cells.proofs.KeptLemmas.{events-within, if-some, joined-has, some-if}
@@ -46,7 +46,7 @@ use Rattle.ndc_laws_cells.proofs.NameLemmas.{AreApart, apart-flip, names-of, own
 use Rattle.ndc_laws_cells.proofs.ReapplyLemmas.{reapplication-adds}
 use Rattle.ndc_laws_cells.proofs.ResetLemmas.{reset-adds}
 use Rattle.ndc_laws_cells.proofs.StrayLemmas.{strays-few}
-use Rattle.ndc_laws_cells.proofs.VersionLemmas.{IsWriter, WritesWith, may-have, may-parts}
+use Rattle.ndc_laws_cells.proofs.VersionLemmas.{WritesWith, may-have, may-parts}
 
 -- a message that waits beside what has arrived: its batches have arrived, and its batch has an earlier key
 pub record IsWaiting (held : List Batch) (sent : Message) : Type 0 where
@@ -372,6 +372,46 @@ module _ (all : List Batch) (domain workflow : Name) (cell : Cell) (fine : IsFin
         by b writer (inr (inl e)) = second-learned b e
         by b writer (inr (inr old)) = still-learned b (author.own b old writer)
 
+    -- what has arrived is whole still
+    pub then-whole : IsWhole domain workflow cell → IsWhole domain workflow (with_written entry cell)
+    then-whole whole b has lone on =
+        let r = by (joined-has entry.second entry.batch held b held-set.ordered (arrival_keeps_sets entry.batch held held-set first-back).ordered (subst (λ l. Has l b) then-arrived has)) in
+        (r.0, subst (λ l. Has l r.0) (sym then-arrived) r.1, r.2)
+      where
+        Found : Type 0
+        Found = (s : Batch) × Has (with_entry entry held) s × (s.carrier ≡ Some b.key)
+
+        second-here : (s : Batch) → entry.second ≡ Some s → Has (with_entry entry held) s
+        second-here s e =
+            reaches-has (with_entry entry held) s (subst (λ l. ReachesTop l s) then-arrived (learned-reaches (arrived_of domain workflow (with_written entry cell)) s then-set (second-learned s e)))
+
+        first : b ≡ entry.batch → Found
+        first same = some entry.second refl (sym write.goes ∙ ap goes_on (sym same) ∙ on)
+          where
+            some : (o : Option Batch) → entry.second ≡ o → is_some o ≡ true → Found
+            some None e none = absurd (true≢false (sym none))
+            some (Some s) e is = (s, second-here s e, (second-of s e).carrier ∙ ap (λ (x : Batch). Some x.key) (sym same))
+
+        by : (b ≡ entry.batch) ⊎ ((entry.second ≡ Some b) ⊎ Has held b) → Found
+        by (inl same) = first same
+        by (inr (inl e)) =
+            let clash : None ≡ Some entry.batch.key = sym lone ∙ (second-of b e).carrier in
+            absurd (cc)
+        by (inr (inr old)) = let r = whole b old lone on in (r.0, held-still r.0 r.1, r.2)
+
+    -- another cell keeps the set with the entry
+    pub elsewhere : (other : Cell) → IsKept all domain workflow other → IsKept (with_entry entry all) domain workflow other
+    elsewhere other kept = record { own = then-own; sound = then-sound; within = λ b has. still-there b (kept.within b has) }
+
+    -- and an author of other versions is one still
+    pub author-elsewhere : (home : Desk) (other : Cell) → (writer_of home.clusters version ≡ Some home.me → ⊥) → IsAuthor home all domain workflow other → IsAuthor home (with_entry entry all) domain workflow other
+    author-elsewhere home other theirs author = record { named = then-named; own = λ b has writer. by b writer (then-which b has) }
+      where
+        by : (b : Batch) → writer_of home.clusters b.key.version ≡ Some home.me → (b ≡ entry.batch) ⊎ ((entry.second ≡ Some b) ⊎ Has all b) → Has (learned_of domain workflow other) b
+        by b writer (inl same) = absurd (theirs (ap (writer_of home.clusters) (sym (ap (λ (x : Batch). x.key.version) same ∙ write.version_is)) ∙ writer))
+        by b writer (inr (inl e)) = absurd (theirs (ap (writer_of home.clusters) (sym ((second-of b e).version_is ∙ write.version_is)) ∙ writer))
+        by b writer (inr (inr old)) = author.own b old writer
+
     -- another workflow is as it was
     pub other-fine : (others : List Batch) (d w : Name) → is_of d w entry.batch ≡ false → IsFine others d w cell → IsFine others d w (with_written entry cell)
     other-fine others d w never f = record {
@@ -415,12 +455,31 @@ module _ (home : Desk) (all : List Batch) (domain workflow : Name) (cell : Cell)
     pub more : IsPart all (with_entries entries all)
     pub others : (set : List Batch) (d w : Name) → ((b : Batch) → (b.domain ≡ domain) → (b.workflow ≡ workflow) → is_of d w b ≡ false) → IsFine set d w cell → IsFine set d w (with_all_written entries cell)
     pub other_authors : (set : List Batch) (d w : Name) → IsAuthor home set d w cell → IsAuthor home set d w (with_all_written entries cell)
+    pub whole : IsWhole domain workflow cell → IsWhole domain workflow (with_all_written entries cell)
+    pub elsewhere_kept : (other : Cell) → IsKept all domain workflow other → IsKept (with_entries entries all) domain workflow other
+    pub elsewhere_author : (there : Desk) (other : Cell) → there.clusters ≡ home.clusters → (there.me ≡ home.me → ⊥) → IsAuthor there all domain workflow other → IsAuthor there (with_entries entries all) domain workflow other
 
   takes-none : Takes []
-  takes-none = record { may = tt; fine_then = fine; author_then = author; more = λ b has. has; others = λ set d w apart f. f; other_authors = λ set d w a. a }
+  takes-none = record {
+    may = tt;
+    fine_then = fine;
+    author_then = author;
+    more = λ b has. has;
+    others = λ set d w apart f. f;
+    other_authors = λ set d w a. a;
+    whole = λ w. w;
+    elsewhere_kept = λ other k. k;
+    elsewhere_author = λ there other same apart a. a;
+  }
 
-  pub one-takes : (version : ℕ) (entries : List Entry) → AddsOne all (learned_of domain workflow cell) domain workflow version entries → Takes entries
-  one-takes version entries one =
+  -- a version of this cluster is of no other one
+  not-theirs : (version : ℕ) → WritesWith home domain (learned_of domain workflow cell) version → (there : Desk) → there.clusters ≡ home.clusters → (there.me ≡ home.me → ⊥) → writer_of there.clusters version ≡ Some there.me → ⊥
+  not-theirs version with there same apart writer =
+      let one : Some there.me ≡ Some home.me = sym writer ∙ ap (λ c. writer_of c version) same ∙ with.by_record.writer in
+      apart (cc)
+
+  pub one-takes : (version : ℕ) → WritesWith home domain (learned_of domain workflow cell) version → (entries : List Entry) → AddsOne all (learned_of domain workflow cell) domain workflow version entries → Takes entries
+  one-takes version with entries one =
       subst Takes (sym one.are) (record {
         may = (may-be all domain workflow cell fine version one.entry one.may_be, tt);
         fine_then = then-fine all domain workflow cell fine version one.entry one.may_be;
@@ -428,10 +487,13 @@ module _ (home : Desk) (all : List Batch) (domain workflow : Name) (cell : Cell)
         more = still-there all domain workflow cell fine version one.entry one.may_be;
         others = λ set d w apart f. other-fine all domain workflow cell fine version one.entry one.may_be set d w (apart one.entry.batch one.may_be.domain_is one.may_be.workflow_is) f;
         other_authors = λ set d w a. other-author all domain workflow cell fine version one.entry one.may_be home set d w a;
+        whole = then-whole all domain workflow cell fine version one.entry one.may_be;
+        elsewhere_kept = elsewhere all domain workflow cell fine version one.entry one.may_be;
+        elsewhere_author = λ there other same apart a. author-elsewhere all domain workflow cell fine version one.entry one.may_be there other (not-theirs version with there same apart) a;
       })
 
-  pub two-takes : (version : ℕ) (entries : List Entry) → AddsTwo all (learned_of domain workflow cell) domain workflow version entries → Takes entries
-  two-takes version entries two =
+  pub two-takes : (version : ℕ) → WritesWith home domain (learned_of domain workflow cell) version → (entries : List Entry) → AddsTwo all (learned_of domain workflow cell) domain workflow version entries → Takes entries
+  two-takes version with entries two =
       subst Takes (sym two.are) (record {
         may = (may-be all domain workflow cell fine version two.closing two.may_close, (may-be middle domain workflow then-cell first version two.entry next, tt));
         fine_then = then-fine middle domain workflow then-cell first version two.entry next;
@@ -440,6 +502,10 @@ module _ (home : Desk) (all : List Batch) (domain workflow : Name) (cell : Cell)
         others = λ set d w apart f. other-fine middle domain workflow then-cell first version two.entry next set d w (apart two.entry.batch next.domain_is next.workflow_is)
             (other-fine all domain workflow cell fine version two.closing two.may_close set d w (apart two.closing.batch two.may_close.domain_is two.may_close.workflow_is) f);
         other_authors = λ set d w a. other-author middle domain workflow then-cell first version two.entry next home set d w (other-author all domain workflow cell fine version two.closing two.may_close home set d w a);
+        whole = λ w. then-whole middle domain workflow then-cell first version two.entry next (then-whole all domain workflow cell fine version two.closing two.may_close w);
+        elsewhere_kept = λ other k. elsewhere middle domain workflow then-cell first version two.entry next other (elsewhere all domain workflow cell fine version two.closing two.may_close other k);
+        elsewhere_author = λ there other same apart a. author-elsewhere middle domain workflow then-cell first version two.entry next there other (not-theirs version with there same apart)
+            (author-elsewhere all domain workflow cell fine version two.closing two.may_close there other (not-theirs version with there same apart) a);
       })
     where
       then-cell : Cell
@@ -463,17 +529,17 @@ module _ (home : Desk) (all : List Batch) (domain workflow : Name) (cell : Cell)
   unfolding command_of
   command-takes command entries e =
       let m = may-have home domain workflow cell (λ version. command_entries domain workflow command home.limit version known) entries e in
-      one-takes m.version entries (command-adds all known m.version (adds m.version m.with) range.tasks_most domain workflow home.limit command entries m.wrote)
+      one-takes m.version m.with entries (command-adds all known m.version (adds m.version m.with) range.tasks_most domain workflow home.limit command entries m.wrote)
 
   pub reset-takes : (event : ℕ) (entries : List Entry) → reset_at home domain workflow event cell ≡ Ok entries → Takes entries
   unfolding reset_at
   reset-takes event entries e =
       let m = may-have home domain workflow cell (λ version. reset_below domain workflow event home.limit version (workflow_tip known) known) entries e in
-      by m.version (reset-adds all known m.version (adds m.version m.with) range.tasks_most domain workflow home.limit event entries m.wrote)
+      by m.version m.with (reset-adds all known m.version (adds m.version m.with) range.tasks_most domain workflow home.limit event entries m.wrote)
     where
-      by : (version : ℕ) → AddsOne all known domain workflow version entries ⊎ AddsTwo all known domain workflow version entries → Takes entries
-      by version (inl one) = one-takes version entries one
-      by version (inr two) = two-takes version entries two
+      by : (version : ℕ) → WritesWith home domain known version → AddsOne all known domain workflow version entries ⊎ AddsTwo all known domain workflow version entries → Takes entries
+      by version with (inl one) = one-takes version with entries one
+      by version with (inr two) = two-takes version with entries two
 
   pub reapplication-takes : Takes (reapplication_of home domain workflow cell)
   unfolding reapplication_of
@@ -482,7 +548,7 @@ module _ (home : Desk) (all : List Batch) (domain workflow : Name) (cell : Cell)
       wrote : (version : ℕ) → WritesWith home domain known version → (entries : List Entry) → reapplication_below domain workflow version (workflow_tip known) known (strays known) ≡ entries → Takes entries
       wrote version with [] e = takes-none
       wrote version with (entry ∷ more) e =
-          one-takes version (entry ∷ more) (reapplication-adds all known version (adds version with) range.tasks_most domain workflow (workflow_tip known) refl (strays known) refl entry more e)
+          one-takes version with (entry ∷ more) (reapplication-adds all known version (adds version with) range.tasks_most domain workflow (workflow_tip known) refl (strays known) refl entry more e)
 
       by : (r : Result ℕ Refusal) → may_write home domain workflow cell ≡ r → Takes (reapplication_by domain workflow r known)
       by (Ok version) m = wrote version (may-parts home domain workflow cell version m) (reapplication_below domain workflow version (workflow_tip known) known (strays known)) refl

@@ -1,5 +1,5 @@
 -- Entries that may be written: kinds below a tip, and the first batch of a run.
-use Rattle.std.proofs.Common.{◌≡◌, ◌≤◌, ◌+◌, ◌^◌, ◌==◌, ℕ, true, false, is_some, count_by, List, [], ◌∷◌, length, map, ◌⊎◌, inl, inr, Option, Some, None, Ok, refl, sym, ◌∙◌, subst, ap, arith, IfSome, ◌<◌}
+use Rattle.std.proofs.Common.{◌≡◌, ◌≤◌, ◌+◌, ◌^◌, ◌==◌, ℕ, true, is_some, count_by, List, [], ◌∷◌, length, map, ◌⊎◌, inl, inr, Option, Some, None, Ok, refl, sym, ◌∙◌, subst, ap, arith, IfSome, ◌<◌}
 use Rattle.std.specs.List.{AllByRecursion}
 use Rattle.std.proofs.Math.Nat.{max-le}
 use Rattle.std.proofs.lemmas.Bool.{and_from, eq-eqb}
@@ -25,7 +25,7 @@ use Rattle.ndc_state.specs.Value.{StateValue, new_state}
 use Rattle.ndc_state.specs.Written.{events_from, replay_kinds}
 use Rattle.ndc_text.specs.Ranges.{IsName, OptionKeyFits}
 use Rattle.ndc_laws_cells.specs.Adding.{Added, IsNewest, MayAdd}
-use Rattle.ndc_laws_cells.specs.Entries.{goes_on, AreFew, HaveTasksUpTo, IsCarriedIn, IsEntryOf, IsSecond, IsSmall, IsWrite}
+use Rattle.ndc_laws_cells.specs.Entries.{AreFew, HaveTasksUpTo, IsCarriedIn, IsEntryOf, IsSecond, IsSmall, IsWrite}
 use Rattle.ndc_laws_cells.proofs.KindLemmas.{plain-all}
 use Rattle.ndc_laws_cells.proofs.MayLemmas.{below-added, first-added, next-many, next-newest, tip-all, tip-part}
 use Rattle.ndc_laws_cells.proofs.RangeLemmas.{IsKeySmall, KindsFit, below-ranges, first-ranges, key-fits}
@@ -104,14 +104,9 @@ begins all key workflow_type = record {
 pub begins-short : (originals : ℕ) (workflow_type : Name) → IsName workflow_type → AreShort originals (beginning workflow_type)
 begins-short originals workflow_type name = record { originals_most = omega arith; length_most = omega arith; fit = (name, (tt, tt)) }
 
--- a batch that another one carries is small, and does not go on itself
-pub record IsSecondSmall (all : List Batch) (second : Batch) : Type 0 where
-  pub stays : goes_on second ≡ false
-  pub small : IsSmall 0 (length all + 2) second
-
 -- an entry of small batches
 pub as-write : (all part : List Batch) (domain workflow : Name) (version originals : ℕ) (entry : Entry) → IsEntryOf all part domain workflow version entry
-    → IsSmall originals (length all + 1) entry.batch → IfSome entry.second (IsSecondSmall all) → IsWrite all part domain workflow version originals entry
+    → IsSmall originals (length all + 1) entry.batch → IfSome entry.second (IsSmall 0 (length all + 2)) → IsWrite all part domain workflow version originals entry
 as-write all part domain workflow version originals entry e small seconds = record {
   domain_is = e.domain_is;
   workflow_is = e.workflow_is;
@@ -124,7 +119,7 @@ as-write all part domain workflow version originals entry e small seconds = reco
   second = by entry.second e.second seconds;
 }
   where
-    by : (o : Option Batch) → IfSome o (IsCarriedIn all entry.batch) → IfSome o (IsSecondSmall all) → IfSome o (IsSecond all entry.batch)
+    by : (o : Option Batch) → IfSome o (IsCarriedIn all entry.batch) → IfSome o (IsSmall 0 (length all + 2)) → IfSome o (IsSecond all entry.batch)
     by None c s = tt
     by (Some second) c s = record {
       added = c.added;
@@ -133,8 +128,8 @@ as-write all part domain workflow version originals entry e small seconds = reco
       version_is = c.version_is;
       carrier = c.carrier;
       parent = c.parent;
-      stays = s.stays;
-      small = s.small;
+      stays = c.stays;
+      small = s;
     }
 
 -- kinds that go below a tip: they replay, their copies name originals, and where they end by going on, it is as the run of the key behind
@@ -187,6 +182,7 @@ module _ (all part : List Batch) (version : ℕ) (may : MayAdd all part version)
       version_is = refl;
       carrier = refl;
       parent = refl;
+      stays = refl;
     }
       where
         more : List Batch
@@ -268,13 +264,11 @@ module _ (all part : List Batch) (version : ℕ) (may : MayAdd all part version)
           range = below-ranges domain workflow few_key tip state_few kinds (few.range tip (tip-all all part version may tip is_tip)) d w key-small (omega (arith, many)) s.ids_most s.short.fit;
         }
 
-    second-small : (o : Option Name) → goes_on_as kinds ≡ o → IfSome (carried_by domain workflow few_key o) (IsSecondSmall all)
+    second-small : (o : Option Name) → goes_on_as kinds ≡ o → IfSome (carried_by domain workflow few_key o) (IsSmall 0 (length all + 2))
     second-small None e = tt
-    second-small (Some workflow_type) e = record {
-      stays = refl;
-      small = first-is-small domain workflow d w (key_behind few_key) behind-small (Some few_key) (key-fits few_key key-small) 0 (length all + 2) (beginning workflow_type) (begins-short 0 workflow_type (s.named workflow_type e))
-          (let t = next-task in omega (arith, t));
-    }
+    second-small (Some workflow_type) e =
+        first-is-small domain workflow d w (key_behind few_key) behind-small (Some few_key) (key-fits few_key key-small) 0 (length all + 2) (beginning workflow_type) (begins-short 0 workflow_type (s.named workflow_type e))
+        (let t = next-task in omega (arith, t))
 
     pub below-write : IsWrite all part domain workflow version originals (entry_below domain workflow few_key (Some tip) part kinds)
     below-write =

@@ -1,12 +1,11 @@
 -- A cell of which the caller keeps sound sets: what may arrive, and what arrival keeps.
-use Rattle.std.proofs.Common.{◌≡◌, ◌≤◌, ◌+◌, ◌^◌, ℕ, Bool, true, false, not, ◌&&◌, ◌==◌, is_some, List, [], ◌∷◌, length, ◌⊎◌, inl, inr, Option, Some, None, IfSome, option_to_list, refl, sym, ◌∙◌, subst, ap, arith, true≢false, All}
+use Rattle.std.proofs.Common.{◌≡◌, ◌≤◌, ◌+◌, ◌^◌, Bool, true, false, not, ◌&&◌, ◌==◌, is_some, List, [], ◌∷◌, length, ◌⊎◌, inl, inr, Option, Some, None, IfSome, option_to_list, refl, sym, ◌∙◌, subst, ap, arith, true≢false, All}
 use Rattle.std.specs.Prelude.{if◌then◌else◌}
 use Rattle.std.specs.List.{AllByRecursion, filter, flat_map}
 use Rattle.std.proofs.lemmas.Bool.{and_parts, eqb-true}
 use Rattle.std.proofs.lemmas.List.{length-append}
 use Rattle.std.proofs.lemmas.List.Elements.{All-cons, All-nil}
 use Rattle.ndc_event.specs.Batch.{is_carrier_fit}
-use Rattle.ndc_event.specs.Key.{key_eq}
 use Rattle.ndc_event.specs.declared.batch.Batch.{Batch}
 use Rattle.ndc_event.specs.declared.batch.Event.{Event}
 use Rattle.ndc_event.specs.declared.key.BatchKey.{BatchKey}
@@ -14,9 +13,9 @@ use Rattle.ndc_event.specs.declared.name.Name.{Name}
 use Rattle.ndc_model_cells.specs.declared.message.Message.{Message}
 use Rattle.ndc_model_cells.specs.Allowed.{MayArrive}
 use Rattle.ndc_model_cells.specs.Arrival.{arrived_at, cell_with, has_arrived, placed_second}
-use Rattle.ndc_model_cells.specs.Cells.{Cell, IsCell, arrived_of, both, learned_of}
+use Rattle.ndc_model_cells.specs.Cells.{Cell, IsCell, arrived_of, both, message_of, own_message}
 use Rattle.ndc_model_cells.specs.Laws.{arrived_second}
-use Rattle.ndc_model_cells.specs.Messages.{HasSmallIds, IsCarriedBy, IsMessage, IsNewTo}
+use Rattle.ndc_model_cells.specs.Messages.{HasSmallIds, IsCarriedBy, IsMessage}
 use Rattle.ndc_model_cells.specs.Places.{batch_there, is_of, place_of, placed}
 use Rattle.ndc_model_cells.specs.Writing.{Desk, key_behind}
 use Rattle.ndc_model_cells.proofs.CellLemmas.{others_arrived_by}
@@ -27,18 +26,18 @@ use Rattle.ndc_model_sets.specs.Paths.{Walk, events_to, is_wanted, path_to, walk
 use Rattle.ndc_model_sets.specs.Sets.{Has, PointsBack, Rise, arrived, batch_at}
 use Rattle.ndc_model_sets.specs.Sound.{IsSound}
 use Rattle.ndc_model_sets.proofs.ArrivalLemmas.{arrival_keeps_sets, was_or_new}
-use Rattle.ndc_model_sets.proofs.BranchLemmas.{among-has, has-among}
+use Rattle.ndc_model_sets.proofs.BranchLemmas.{has-among}
 use Rattle.ndc_model_sets.proofs.FaultLemmas.{passes}
-use Rattle.ndc_model_sets.proofs.Lists.{Among, all-among, all-from}
+use Rattle.ndc_model_sets.proofs.Lists.{Among, all-among}
 use Rattle.ndc_model_sets.proofs.PathLaws.{events-to}
 use Rattle.ndc_model_sets.proofs.PathLemmas.{path_is}
-use Rattle.ndc_model_sets.proofs.SetLemmas.{found-has, found-key, has-found}
+use Rattle.ndc_model_sets.proofs.SetLemmas.{found-has, found-key}
 use Rattle.ndc_model_sets.proofs.SoundLemmas.{faultless-back}
 use Rattle.ndc_state.specs.Replay.{history_of}
 use Rattle.ndc_laws_cells.specs.Keeping.{HasRange, IsAuthor, IsCarried, IsKept, IsMessageOf}
 use Rattle.ndc_laws_cells.proofs.FoundLemmas.{at-there}
 use Rattle.ndc_laws_cells.proofs.FreshLemmas.{follow-most}
-use Rattle.ndc_laws_cells.proofs.NameLemmas.{names-of, of-both, own-names}
+use Rattle.ndc_laws_cells.proofs.NameLemmas.{names-of, own-names}
 use Rattle.ndc_laws_cells.proofs.NamedLemmas.{history-among, path-last}
 
 -- what holds of the item that there is, where there is one
@@ -60,6 +59,14 @@ both-all P sent first second = (first, rest sent.second second)
 pub none-is : {X : Type 0} (o : Option X) → is_some o ≡ false → o ≡ None
 none-is None e = refl
 none-is (Some x) e = absurd (true≢false e)
+
+-- a message of its own: of a batch that is not carried, as that batch has it
+pub own-is : (own all : List Batch) (b : Batch) (sent : Message) → own_message own all b ≡ Some sent → (is_some b.carrier ≡ false) × (message_of own all b ≡ sent)
+own-is own all b sent e = by (is_some b.carrier) refl e
+  where
+    by : (t : Bool) → is_some b.carrier ≡ t → (if t then None else Some (message_of own all b)) ≡ Some sent → (is_some b.carrier ≡ false) × (message_of own all b ≡ sent)
+    by true at e = absurd (cc)
+    by false at e = (at, let same : message_of own all b ≡ sent = cc in same)
 
 -- the first batch of a run that goes on is the one behind its carrier
 pub carried-by : (b s : Batch) → s.carrier ≡ Some b.key → is_carrier_fit s.key s.parent s.carrier ≡ true → IsCarriedBy b s
@@ -149,7 +156,7 @@ module _ (all : List Batch) (sent : Message) (cell : Cell) (kept : IsKept all se
   abbrev held : List Batch
   held = arrived_of domain workflow cell
 
-  second-of : (s : Batch) → sent.second ≡ Some s → IsCarried all sent.batch s
+  pub second-of : (s : Batch) → sent.second ≡ Some s → IsCarried all sent.batch s
   second-of s e = some-if (IsCarried all sent.batch) sent.second s message.second e
 
   second-own : (s : Batch) → sent.second ≡ Some s → is_of domain workflow s ≡ true

@@ -18,6 +18,7 @@ pub mod PlanLemmas
 pub mod RangeLemmas
 pub mod ReapplyLemmas
 pub mod ResetLemmas
+pub mod SentLemmas
 pub mod StrayLemmas
 pub mod VersionLemmas
 pub mod WriteLaws

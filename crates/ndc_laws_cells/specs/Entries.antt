@@ -44,7 +44,7 @@ pub record IsSecond (all : List Batch) (b second : Batch) : Type 0 where
 abbrev pub HaveTasksUpTo : ℕ → List Batch → Type 0
 HaveTasksUpTo most batches = (b : Batch) → Has batches b → b.key.task ≤ most
 
--- the batch that another one carries: the first of its run, of the same workflow and version
+-- the batch that another one carries: the first of its run, of the same workflow and version, which does not go on itself
 pub record IsCarriedIn (all : List Batch) (b second : Batch) : Type 0 where
   pub added : Added (arrived b all) second
   pub domain_is : second.domain ≡ b.domain
@@ -52,6 +52,7 @@ pub record IsCarriedIn (all : List Batch) (b second : Batch) : Type 0 where
   pub version_is : second.key.version ≡ b.key.version
   pub carrier : second.carrier ≡ Some b.key
   pub parent : second.parent ≡ None
+  pub stays : goes_on second ≡ false
 
 -- an entry that a writer with this version adds to a workflow, of which this was written and that part is learned: a batch that is not
 -- carried, and the one that it carries where it goes on

@@ -1,6 +1,7 @@
 -- What the caller of a cell vouches for: of each workflow a sound set of batches that holds all that has arrived there.
-use Rattle.std.specs.Prelude.{◌≡◌, ◌≤◌, ◌^◌, true, is_some, length, List, [], ◌∷◌, Some, None, IfSome}
+use Rattle.std.specs.Prelude.{◌≡◌, ◌≤◌, ◌^◌, true, is_some, length, List, [], ◌∷◌, Some, None, IfSome, Result, Ok, Err}
 use Rattle.std.specs.List.{AllByRecursion, flat_map}
+use Rattle.ndc_command.specs.declared.refusal.CommandError.{CommandError}
 use Rattle.ndc_domain.specs.Clusters.{writer_of}
 use Rattle.ndc_event.specs.declared.batch.Batch.{Batch}
 use Rattle.ndc_event.specs.declared.name.Name.{Name}
@@ -73,3 +74,19 @@ pub record CanWrite (home : Desk) (domain workflow : Name) (cell : Cell) : Type 
 -- the same of each workflow
 abbrev pub CanWriteEach : Desk → Cell → Type 0
 CanWriteEach home cell = (domain workflow : Name) → CanWrite home domain workflow cell
+
+-- the set with what was to be written; a refusal leaves it as it was
+abbrev pub set_behind : Result (List Entry) CommandError → List Batch → List Batch
+set_behind (Ok entries) all = with_entries entries all
+set_behind (Err error) all = all
+
+-- what has arrived of a workflow is whole: each batch that no other carries, and that goes on as another run, has arrived with one that it carries
+abbrev pub IsWhole : Name → Name → Cell → Type 0
+IsWhole domain workflow cell =
+    (b : Batch) → Has (arrived_of domain workflow cell) b → b.carrier ≡ None → goes_on b ≡ true → (second : Batch) × Has (arrived_of domain workflow cell) second × (second.carrier ≡ Some b.key)
+
+-- a set that a writer keeps for a workflow
+pub record IsAuthored (home : Desk) (all : List Batch) (domain workflow : Name) (cell : Cell) : Type 0 where
+  pub kept : IsKept all domain workflow cell
+  pub author : IsAuthor home all domain workflow cell
+  pub whole : IsWhole domain workflow cell

@@ -1,5 +1,5 @@
 -- A message that arrives lets its cell grow.
-pub use Rattle.ndc_laws_cells.proofs.KeptLemmas.{none-is}
+pub use Rattle.ndc_laws_cells.proofs.KeptLemmas.{none-is, own-is}
 use Rattle.std.proofs.Common.{◌≡◌, ℕ, ◌<◌, Bool, true, false, not, cond, if◌then◌else◌, List, [], ◌∷◌, Option, Some, None, IfSome, refl, sym, ◌∙◌, subst, ap, true≢false}
 use Rattle.std.specs.List.{AllByRecursion, IsAmong, filter, filter_map}
 use Rattle.std.specs.Option.{option_or}
@@ -60,14 +60,6 @@ order-filter q (b ∷ bs) order = by (q b) (order-filter q bs order.1)
     by : (t : Bool) → AreInOrder (filter q bs) → AreInOrder (cond t (b ∷ filter q bs) (filter q bs))
     by true rest = (all-filter (λ x. place_lt (place_of b) (place_of x) ≡ true) q bs order.0, rest)
     by false rest = rest
-
--- a message of its own: of a batch that is not carried, as that batch has it
-pub own-is : (own all : List Batch) (b : Batch) (sent : Message) → own_message own all b ≡ Some sent → (is_some b.carrier ≡ false) × (message_of own all b ≡ sent)
-own-is own all b sent e = by (is_some b.carrier) refl e
-  where
-    by : (t : Bool) → is_some b.carrier ≡ t → (if t then None else Some (message_of own all b)) ≡ Some sent → (is_some b.carrier ≡ false) × (message_of own all b ≡ sent)
-    by true at e = absurd (cc)
-    by false at e = (at, let same : message_of own all b ≡ sent = cc in same)
 
 -- a message that is true
 module _ (header : Header) (lines : ℕ) (w : World) (is : IsReached header lines w) (cluster : ClusterNo) (shard : ℕ) (known : IsCluster header cluster) (below : shard < header.shards)

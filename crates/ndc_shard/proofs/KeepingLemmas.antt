@@ -1,20 +1,19 @@
 -- What the conditions of the calls of a shard come to: what they ask of one cell, where a set is kept for each workflow.
-use Rattle.std.proofs.Common.{◌≡◌, ℕ, true, false, List, [], ◌∷◌, Option, Some, None, IfSome, inl, inr, refl, sym, ◌∙◌, subst, ap, true≢false}
+use Rattle.std.proofs.Common.{◌≡◌, ℕ, true, List, [], ◌∷◌, Option, Some, None, IfSome, inl, inr, sym, ◌∙◌, subst, ap, true≢false}
 use Rattle.std.specs.Prelude.{IsSome, is_some}
-use Rattle.std.specs.List.{AllByRecursion, flat_map}
+use Rattle.std.specs.List.{AllByRecursion}
 use Rattle.std.specs.Option.{option_or}
 use Rattle.ndc_command.specs.declared.command.Command.{Command}
-use Rattle.ndc_event.specs.Key.{key_eq}
 use Rattle.ndc_event.specs.declared.batch.Batch.{Batch}
 use Rattle.ndc_event.specs.declared.key.BatchKey.{BatchKey}
 use Rattle.ndc_event.specs.declared.name.Name.{Name}
 use Rattle.ndc_laws_cells.specs.Keeping.{CanArrive, CanWrite, CanWriteEach, IsKept}
-use Rattle.ndc_laws_cells.proofs.AskLemmas.{AllWait, HasSet, IsFine, IsWaiting, command-asked, has-room, reapply-asked, reset-asked}
+use Rattle.ndc_laws_cells.proofs.AskLemmas.{AllWait, IsFine, command-asked, has-room, reapply-asked, reset-asked}
 use Rattle.ndc_laws_cells.proofs.KeptLemmas.{HaveCarriers, may-arrive}
 use Rattle.ndc_laws_cells.proofs.NameLemmas.{names-of, workflows-apart}
 use Rattle.ndc_model_cells.specs.declared.message.Message.{Message}
 use Rattle.ndc_model_cells.specs.Allowed.{MayArrive, MayReapply}
-use Rattle.ndc_model_cells.specs.Cells.{Cell, IsCell, arrived_of, both, learned_of}
+use Rattle.ndc_model_cells.specs.Cells.{Cell, IsCell, arrived_of, both}
 use Rattle.ndc_model_cells.specs.Jobs.{workflows_of}
 use Rattle.ndc_model_cells.specs.Messages.{batches_of}
 use Rattle.ndc_model_cells.specs.Places.{is_of}

@@ -11,3 +11,4 @@ pub mod StayLemmas
 pub mod SentLemmas
 pub mod LoneLemmas
 pub mod KeepingLemmas
+pub mod KeepLaws

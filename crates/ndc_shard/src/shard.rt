@@ -91,7 +91,7 @@ impl Shard {
     }
 
     /// It is in order, and so is each workflow of it; no batch has arrived without its carrier. Takes no time.
-    pub(crate) fn is_in_order(&self)
+    pub fn is_in_order(&self)
         ensures cell { IsCell self.now }
         ensures workflows { (domain workflow : Text) → IsWorkflow (workflow_of domain workflow self.now) }
         ensures carried { AllByRecursion (HasCarrier self.now) self.now.arrived }
