@@ -12,13 +12,13 @@ use Rattle.ndc_domain.specs.declared.clusters.ClusterNo.{ClusterNo}
 use Rattle.ndc_event.specs.declared.batch.Batch.{Batch}
 use Rattle.ndc_event.specs.declared.key.BatchKey.{BatchKey}
 use Rattle.ndc_event.specs.declared.name.Name.{Name}
-use Rattle.ndc_laws_reached.proofs.FoundLemmas.{at-there}
+use Rattle.ndc_laws_cells.proofs.FoundLemmas.{at-there}
 use Rattle.ndc_laws_reached.proofs.WrittenLemmas.{arrived-written, cell-is, has-written, names-of, own-names}
 use Rattle.ndc_laws.specs.Promised.{LacksAncestor, WaitsForAncestors}
 use Rattle.ndc_model.specs.Facts.{IsReached}
 use Rattle.ndc_model.specs.Fair.{written_of}
 use Rattle.ndc_model.specs.World.{World, cell_at}
-use Rattle.ndc_model.proofs.ListLemmas.{among-is, is-among}
+use Rattle.ndc_laws_cells.proofs.Lists.{among-is, is-among}
 use Rattle.ndc_model_sets.specs.Learned.{IsPart, ReachesTop, WaitsFor, behind, itself, learned, top, up}
 use Rattle.ndc_model_sets.specs.Sets.{Has, IsSet, batch_at, earlier}
 use Rattle.ndc_model_sets.proofs.BranchLemmas.{among-has, has-among, same-batch}

@@ -16,7 +16,7 @@ use Rattle.ndc_domain.specs.declared.clusters.ClusterNo.{ClusterNo}
 use Rattle.ndc_event.specs.declared.batch.Batch.{Batch}
 use Rattle.ndc_event.specs.declared.key.BatchKey.{BatchKey}
 use Rattle.ndc_laws_reached.proofs.BringLemmas.{HasCome, IsBrought, MayArrive, one-arrives, world_after}
-use Rattle.ndc_laws_reached.proofs.FoundLemmas.{at-there, order-finds, there-among, there-place}
+use Rattle.ndc_laws_cells.proofs.FoundLemmas.{at-there, order-finds, there-among, there-place}
 use Rattle.ndc_laws_reached.proofs.WrittenLemmas.{arrived-written, ordered, own-names}
 use Rattle.ndc_laws_reached.proofs.LandLemmas.{cell-here}
 use Rattle.ndc_laws.specs.Promised.{FirstMissing, LacksAncestor}
@@ -27,7 +27,7 @@ use Rattle.ndc_model.specs.Facts.{IsReached}
 use Rattle.ndc_model.specs.Fair.{IsMessageTrue, is_named, written_of}
 use Rattle.ndc_model.specs.Moves.{all_written, arrives}
 use Rattle.ndc_model.specs.World.{World, cell_at}
-use Rattle.ndc_model.proofs.ListLemmas.{among-is, is-among}
+use Rattle.ndc_laws_cells.proofs.Lists.{among-is, is-among}
 use Rattle.ndc_model_sets.specs.Learned.{WaitsFor, has_key}
 use Rattle.ndc_model_sets.specs.Sets.{batch_at, Has, IsSet, Rise}
 use Rattle.ndc_model_sets.proofs.BranchLemmas.{Rise-filter, among-has, has-among}

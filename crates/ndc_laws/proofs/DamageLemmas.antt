@@ -12,7 +12,7 @@ use Rattle.ndc_model_cells.specs.Places.{place_of}
 use Rattle.ndc_model_cells.specs.Writing.{same_cluster}
 use Rattle.ndc_domain.specs.declared.clusters.ClusterNo.{ClusterNo}
 use Rattle.ndc_event.specs.Batch.{fault_of}
-use Rattle.ndc_laws_reached.proofs.FoundLemmas.{find-passes, there-among}
+use Rattle.ndc_laws_cells.proofs.FoundLemmas.{find-passes, there-among}
 use Rattle.ndc_laws_reached.proofs.ManyLemmas.{one-cluster}
 use Rattle.ndc_laws_reached.proofs.WrittenLemmas.{has-written}
 use Rattle.ndc_laws_reached.proofs.LinkLemmas.{IsLinkFit, links-fit}
@@ -29,7 +29,8 @@ use Rattle.ndc_model.specs.Steps.{Stepped, answered}
 use Rattle.ndc_model.specs.Texts.{ok}
 use Rattle.ndc_model.specs.World.{Link, World, cluster_at, flight_at, is_link, lane_in, link_found, queue_at, with_flight}
 use Rattle.ndc_model.proofs.LetterLemmas.{whole_where_uncut}
-use Rattle.ndc_model.proofs.ListLemmas.{all-got, is-among}
+use Rattle.ndc_model.proofs.ListLemmas.{all-got}
+use Rattle.ndc_laws_cells.proofs.Lists.{is-among}
 use Rattle.ndc_model_sets.proofs.BranchLemmas.{has-among}
 use Rattle.ndc_model_sets.proofs.Lists.{Among, all-among, find-among}
 use Rattle.ndc_text.specs.Ranges.{InRange}

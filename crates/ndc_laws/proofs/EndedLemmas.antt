@@ -31,7 +31,7 @@ use Rattle.ndc_model.specs.Lines.{act_step}
 use Rattle.ndc_model.specs.Moves.{all_written}
 use Rattle.ndc_model.specs.World.{World, all_clusters, cell_at, cell_of, cluster_at, home_at}
 use Rattle.ndc_model.proofs.FairLemmas.{clusters-among}
-use Rattle.ndc_model.proofs.ListLemmas.{is-among}
+use Rattle.ndc_laws_cells.proofs.Lists.{is-among}
 use Rattle.ndc_model_sets.specs.Sets.{Has}
 use Rattle.ndc_model_sets.proofs.BranchLemmas.{has-among}
 use Rattle.ndc_model_sets.proofs.Lists.{Among, all-among, filter-among}

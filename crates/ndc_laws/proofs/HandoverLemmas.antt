@@ -8,7 +8,7 @@ use Rattle.std.proofs.lemmas.Bool.Decides.{nat_tests}
 use Rattle.std.proofs.lemmas.List.{take-append-drop}
 use Rattle.std.proofs.lemmas.Slice.Eq.{bytes_eq-Decides}
 use Rattle.ndc_domain.specs.declared.record.DomainRecord.{DomainRecord}
-use Rattle.ndc_model.proofs.ListLemmas.{is-among}
+use Rattle.ndc_laws_cells.proofs.Lists.{is-among}
 use Rattle.ndc_script_types.specs.WellFormed.{AreTwoClusters, IsCluster, IsWellFormedHeader}
 use Rattle.ndc_script_types.specs.declared.script.Header.{Header}
 use Rattle.ndc_model_cells.specs.declared.message.Message.{Message}
@@ -24,7 +24,7 @@ use Rattle.ndc_event.specs.declared.key.BatchKey.{BatchKey}
 use Rattle.ndc_event.specs.declared.name.Name.{Name}
 use Rattle.ndc_event.specs.Batch.{is_carrier_fit}
 use Rattle.ndc_laws_reached.proofs.ArrivalLemmas.{own-is}
-use Rattle.ndc_laws_reached.proofs.FoundLemmas.{find-passes}
+use Rattle.ndc_laws_cells.proofs.FoundLemmas.{find-passes}
 use Rattle.ndc_laws_reached.proofs.LetterLemmas.{shard-below}
 use Rattle.ndc_laws_reached.proofs.ManyLemmas.{among-flat, one-cluster}
 use Rattle.ndc_laws_reached.proofs.WrittenLemmas.{names-of, wanted-some}

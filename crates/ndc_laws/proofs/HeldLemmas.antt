@@ -6,7 +6,7 @@ use Rattle.ndc_script_types.specs.declared.script.Header.{Header}
 use Rattle.ndc_domain.specs.declared.clusters.ClusterNo.{ClusterNo}
 use Rattle.ndc_model.specs.Facts.{IsReached}
 use Rattle.ndc_model.specs.World.{World, cluster_at}
-use Rattle.ndc_model.proofs.ListLemmas.{among-is, is-among}
+use Rattle.ndc_laws_cells.proofs.Lists.{among-is, is-among}
 use Rattle.ndc_laws.specs.Promised.{HaveTheSameReports}
 use Rattle.ndc_progress.proofs.HeldLemmas.{same_is_one}
 use Rattle.ndc_progress.proofs.OrderLemmas.{not-before}

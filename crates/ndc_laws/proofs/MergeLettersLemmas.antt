@@ -18,7 +18,7 @@ use Rattle.ndc_event.specs.declared.batch.Batch.{Batch}
 use Rattle.ndc_event.specs.declared.name.Name.{Name}
 use Rattle.ndc_laws_reached.proofs.ArrivalLemmas.{own-is}
 use Rattle.ndc_laws_reached.proofs.BringLemmas.{HasCome, IsArrival, world_after}
-use Rattle.ndc_laws_reached.proofs.FoundLemmas.{at-place}
+use Rattle.ndc_laws_cells.proofs.FoundLemmas.{at-place}
 use Rattle.ndc_laws_reached.proofs.LetterLemmas.{shard-below}
 use Rattle.ndc_laws_reached.proofs.ManyLemmas.{among-flat, many}
 use Rattle.ndc_laws_reached.proofs.MessageLemmas.{learned-true}

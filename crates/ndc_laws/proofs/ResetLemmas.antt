@@ -63,10 +63,10 @@ use Rattle.ndc_state.specs.Replay.{history_of, replay_of}
 use Rattle.ndc_state.specs.Value.{StateValue}
 use Rattle.ndc_state.specs.Written.{events_from}
 use Rattle.ndc_state.specs.declared.rule.StateError.{StateError}
-use Rattle.ndc_laws_reached.specs.Adding.{MayAdd}
-use Rattle.ndc_laws_reached.specs.Entries.{AreFew, IsWrite}
-use Rattle.ndc_laws_reached.proofs.MayLemmas.{new-above, tip-part, tip-state, part-sound}
-use Rattle.ndc_laws_reached.proofs.ResetLemmas.{IsReset, behind-write, close-write, one-write, reset-is}
+use Rattle.ndc_laws_cells.specs.Adding.{MayAdd}
+use Rattle.ndc_laws_cells.specs.Entries.{AreFew, IsWrite}
+use Rattle.ndc_laws_cells.proofs.MayLemmas.{new-above, tip-part, tip-state, part-sound}
+use Rattle.ndc_laws_cells.proofs.ResetLemmas.{IsReset, behind-write, close-write, one-write, reset-is}
 
 -- a batch of a key that nothing in a closed set has makes nothing else of it learned
 module _ (all held : List Batch) (new : Batch) (closed : IsClosed all) (set : IsSet held) (part : IsPart held all) (fresh : batch_at new.key all ≡ None) (back : PointsBack new) where

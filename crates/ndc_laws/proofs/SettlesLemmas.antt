@@ -41,10 +41,10 @@ use Rattle.ndc_model_sets.proofs.Lists.{Among, all-among, among-map, filter-amon
 use Rattle.ndc_state.specs.Value.{StateValue}
 use Rattle.ndc_state.specs.Written.{events_from, failover_close, wake}
 use Rattle.ndc_text.specs.Ranges.{InRange}
-use Rattle.ndc_laws_reached.specs.Adding.{MayAdd}
-use Rattle.ndc_laws_reached.specs.Entries.{AreFew, IsWrite}
-use Rattle.ndc_laws_reached.proofs.MayLemmas.{new-above, tip-all}
-use Rattle.ndc_laws_reached.proofs.ReapplyLemmas.{reapplication-writes}
+use Rattle.ndc_laws_cells.specs.Adding.{MayAdd}
+use Rattle.ndc_laws_cells.specs.Entries.{AreFew, IsWrite}
+use Rattle.ndc_laws_cells.proofs.MayLemmas.{new-above, tip-all}
+use Rattle.ndc_laws_cells.proofs.ReapplyLemmas.{reapplication-writes}
 
 -- where there is none, there is none where the run is open
 none-at-all : (o : Option Batch) (batches : List Batch) (list : List Stray) → list ≡ [] → NoneWhereOpen o batches list

@@ -10,7 +10,7 @@ use Rattle.ndc_event.specs.declared.batch.Batch.{Batch}
 use Rattle.ndc_event.specs.declared.batch.Event.{Event}
 use Rattle.ndc_event.specs.declared.key.Origin.{Origin}
 use Rattle.ndc_event.specs.declared.key.RunId.{RunId}
-use Rattle.ndc_laws_reached.proofs.StrayLemmas.{signal-batch}
+use Rattle.ndc_laws_cells.proofs.StrayLemmas.{signal-batch}
 use Rattle.ndc_model.proofs.ListLemmas.{any-one}
 use Rattle.ndc_reapply.specs.Strays.{origins_of, strays_of}
 use Rattle.ndc_reapply.specs.declared.stray.Stray.{Stray}

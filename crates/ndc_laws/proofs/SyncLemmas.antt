@@ -12,7 +12,8 @@ use Rattle.ndc_model.specs.Facts.{IsReached}
 use Rattle.ndc_model.specs.Lines.{act_step}
 use Rattle.ndc_model.specs.Progress.{with_reports}
 use Rattle.ndc_model.specs.World.{Cluster, World, cluster_at, new_cluster}
-use Rattle.ndc_model.proofs.ListLemmas.{among-is, is-among, set-length}
+use Rattle.ndc_model.proofs.ListLemmas.{set-length}
+use Rattle.ndc_laws_cells.proofs.Lists.{among-is, is-among}
 use Rattle.ndc_model.proofs.WorldLemmas.{set-cases}
 use Rattle.ndc_model_sets.proofs.ForkLemmas.{among-cases, among-left, among-right}
 use Rattle.ndc_model_sets.proofs.Lists.{Among, all-among}

@@ -20,12 +20,12 @@ use Rattle.ndc_event.specs.declared.batch.Batch.{Batch}
 use Rattle.ndc_event.specs.declared.key.BatchKey.{BatchKey}
 use Rattle.ndc_event.specs.declared.name.Name.{Name}
 use Rattle.ndc_laws_reached.proofs.ArrivalLemmas.{none-is}
-use Rattle.ndc_laws_reached.proofs.FoundLemmas.{at-there}
+use Rattle.ndc_laws_cells.proofs.FoundLemmas.{at-there}
 use Rattle.ndc_laws_reached.proofs.WrittenLemmas.{arrived-written, cell-is, ordered, points-back}
 use Rattle.ndc_model.specs.Facts.{IsReached}
 use Rattle.ndc_model.specs.Moves.{all_written}
 use Rattle.ndc_model.specs.World.{World, cell_at}
-use Rattle.ndc_model.proofs.ListLemmas.{among-is}
+use Rattle.ndc_laws_cells.proofs.Lists.{among-is}
 use Rattle.ndc_model_sets.specs.Learned.{IsPart}
 use Rattle.ndc_model_sets.specs.Sets.{Has, batch_at, earlier}
 use Rattle.ndc_model_sets.proofs.BranchLemmas.{among-has, has-among}

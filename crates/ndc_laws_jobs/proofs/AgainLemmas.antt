@@ -26,7 +26,7 @@ use Rattle.ndc_event.specs.declared.batch.Batch.{Batch}
 use Rattle.ndc_event.specs.declared.key.BatchKey.{BatchKey}
 use Rattle.ndc_event.specs.declared.name.Name.{Name}
 use Rattle.ndc_laws_reached.proofs.ArrivalLemmas.{none-is}
-use Rattle.ndc_laws_reached.proofs.FoundLemmas.{at-there, in_order-ordered}
+use Rattle.ndc_laws_cells.proofs.FoundLemmas.{at-there, in_order-ordered}
 use Rattle.ndc_laws_reached.proofs.ManyLemmas.{among-flat}
 use Rattle.ndc_laws_reached.proofs.MessageLemmas.{learned-arrived, learned-true}
 use Rattle.ndc_laws_reached.proofs.WrittenLemmas.{arrived-written, cell-is, flat-among, in_order-among, names-of, one-written, own-names, sound-of}
@@ -35,7 +35,7 @@ use Rattle.ndc_laws_reached.proofs.WayLemmas.{way-inside}
 use Rattle.ndc_model.specs.Facts.{IsReached}
 use Rattle.ndc_model.specs.Moves.{all_written, ancestors_of, missing_ancestors, sent_again}
 use Rattle.ndc_model.specs.World.{World, cell_at}
-use Rattle.ndc_model.proofs.ListLemmas.{is-among}
+use Rattle.ndc_laws_cells.proofs.Lists.{is-among}
 use Rattle.ndc_model_sets.specs.Learned.{IsPart, WaitsFor, has_key, learned}
 use Rattle.ndc_model_sets.specs.Sets.{Has, IsSet, Rise, batch_at}
 use Rattle.ndc_model_sets.specs.Sound.{IsSound}

@@ -17,7 +17,7 @@ use Rattle.ndc_laws_reached.specs.Writing.{with_cell}
 use Rattle.ndc_laws_reached.proofs.LineLemmas.{more-lines}
 use Rattle.ndc_laws_reached.proofs.LandLemmas.{cell-here}
 use Rattle.ndc_laws_reached.proofs.MoveLemmas.{Leaves, entry-leaves, news-few}
-use Rattle.ndc_laws_reached.proofs.PairLemmas.{joined}
+use Rattle.ndc_laws_cells.proofs.PairLemmas.{joined}
 use Rattle.ndc_laws_reached.proofs.WriterLemmas.{IsWriter, WritesWith, are-few, may-add}
 use Rattle.ndc_model.specs.Facts.{IsReached}
 use Rattle.ndc_model.specs.Fair.{written_of}
@@ -25,10 +25,10 @@ use Rattle.ndc_model.specs.World.{World, cell_at, home_at}
 use Rattle.ndc_model_sets.specs.Branches.{workflow_tip}
 use Rattle.ndc_model_sets.specs.Sets.{arrived}
 use Rattle.ndc_model_cells.specs.Allowed.{IsAllowed, MayTake, MayWrite, MayWriteAll}
-use Rattle.ndc_laws_reached.specs.Entries.{IsWrite, WritesAlone, WritesBehind}
-use Rattle.ndc_laws_reached.proofs.CommandLemmas.{command-writes}
+use Rattle.ndc_laws_cells.specs.Entries.{IsWrite, WritesAlone, WritesBehind}
+use Rattle.ndc_laws_cells.proofs.CommandLemmas.{command-writes}
 use Rattle.ndc_laws_reached.proofs.MoveLemmas.{may-have}
-use Rattle.ndc_laws_reached.proofs.ResetLemmas.{reset-writes}
+use Rattle.ndc_laws_cells.proofs.ResetLemmas.{reset-writes}
 use Rattle.ndc_laws_jobs.proofs.EntryLemmas.{entry-may}
 use Rattle.ndc_laws_jobs.proofs.RoomLemmas.{has-room}
 

@@ -11,7 +11,7 @@ use Rattle.ndc_domain.specs.Clusters.{count_of, writer_of}
 use Rattle.ndc_domain.proofs.Writers.{rest_of_writer}
 use Rattle.ndc_domain.specs.declared.clusters.ClusterNo.{ClusterNo}
 use Rattle.ndc_event.specs.declared.batch.Batch.{Batch}
-use Rattle.ndc_laws_reached.proofs.FoundLemmas.{order-finds, there-among, there-place}
+use Rattle.ndc_laws_cells.proofs.FoundLemmas.{order-finds, there-among, there-place}
 use Rattle.ndc_laws_reached.proofs.MessageLemmas.{learned-arrived}
 use Rattle.ndc_laws_reached.proofs.WrittenLemmas.{arrived-written, flat-among, in_order-among, names-of, ordered}
 use Rattle.ndc_model.specs.Facts.{IsReached}

@@ -20,7 +20,7 @@ use Rattle.ndc_event.specs.declared.name.Name.{Name}
 use Rattle.ndc_laws_reached.proofs.ArrivalLemmas.{own-is}
 use Rattle.ndc_laws_reached.proofs.BootstrapLemmas.{learned-itself}
 use Rattle.ndc_laws_reached.proofs.BringLemmas.{IsArrival, MayArrive, may-still, world_after}
-use Rattle.ndc_laws_reached.proofs.FoundLemmas.{find-passes}
+use Rattle.ndc_laws_cells.proofs.FoundLemmas.{find-passes}
 use Rattle.ndc_laws_reached.proofs.ManyLemmas.{due-may, flights-may, many, one-cluster, range-below}
 use Rattle.ndc_laws_reached.proofs.MessageLemmas.{again-may, learned-true}
 use Rattle.ndc_laws_reached.proofs.LaneLemmas.{named-there}

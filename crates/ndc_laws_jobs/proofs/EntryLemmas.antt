@@ -20,7 +20,7 @@ use Rattle.ndc_laws_reached.proofs.WrittenLemmas.{arrived-written, flat-among, h
 use Rattle.ndc_laws_reached.proofs.FitLemmas.{arrivals-kept, place-new}
 use Rattle.ndc_laws_reached.proofs.HeldLemmas.{held-set, news-names}
 use Rattle.ndc_laws_reached.proofs.LandLemmas.{Write, behind, cell-here, here}
-use Rattle.ndc_laws_reached.proofs.PairLemmas.{entry_with, news}
+use Rattle.ndc_laws_cells.proofs.PairLemmas.{entry_with, news}
 use Rattle.ndc_laws_reached.proofs.WriterLemmas.{IsWriter, writable}
 use Rattle.ndc_laws_reached.proofs.WroteLemmas.{writing-kept}
 use Rattle.ndc_model.specs.Facts.{IsReached}
@@ -36,7 +36,7 @@ use Rattle.ndc_model_sets.proofs.Lists.{Among, all-from, among-filter, filter-am
 use Rattle.ndc_model_sets.proofs.SetLemmas.{found-key}
 use Rattle.ndc_model_cells.specs.Messages.{batches_of, waits_for}
 use Rattle.ndc_model_cells.specs.Allowed.{MayWrite}
-use Rattle.ndc_laws_reached.specs.Entries.{IsWrite}
+use Rattle.ndc_laws_cells.specs.Entries.{IsWrite}
 use Rattle.ndc_laws_jobs.proofs.OneLemmas.{first-among, found-sound, second-among, second-parts}
 
 module _ (it : Write) where

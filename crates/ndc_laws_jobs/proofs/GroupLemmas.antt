@@ -9,7 +9,7 @@ use Rattle.std.specs.declared.cmp.Ordering.TheVariants.{Less}
 use Rattle.ndc_model_cells.specs.Jobs.{workflows_of}
 use Rattle.ndc_model_cells.specs.Places.{AreInOrder, is_of, place_lt, place_of}
 use Rattle.ndc_model_cells.proofs.PlaceLemmas.{PlaceIsBefore, WorkflowIsBefore, place-from, place-parts, place-trans}
-use Rattle.ndc_laws_reached.proofs.FoundLemmas.{place-irrefl}
+use Rattle.ndc_laws_cells.proofs.FoundLemmas.{place-irrefl}
 use Rattle.ndc_laws_reached.proofs.OwnLemmas.{workflows-among}
 use Rattle.ndc_domain.specs.Records.{names_cmp}
 use Rattle.ndc_event.specs.declared.batch.Batch.{Batch}

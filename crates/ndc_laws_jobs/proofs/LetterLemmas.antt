@@ -15,7 +15,7 @@ use Rattle.ndc_event.specs.declared.batch.Batch.{Batch}
 use Rattle.ndc_event.specs.declared.name.Name.{Name}
 use Rattle.ndc_laws_reached.proofs.ArrivalLemmas.{own-is}
 use Rattle.ndc_laws_reached.proofs.BringLemmas.{IsArrival}
-use Rattle.ndc_laws_reached.proofs.FoundLemmas.{there-among}
+use Rattle.ndc_laws_cells.proofs.FoundLemmas.{there-among}
 use Rattle.ndc_laws_reached.proofs.LetterLemmas.{shard-below}
 use Rattle.ndc_laws_reached.proofs.MessageLemmas.{learned-arrived, learned-true}
 use Rattle.ndc_laws_reached.proofs.WrittenLemmas.{cell-is, names-of}

@@ -21,13 +21,13 @@ use Rattle.ndc_event.specs.declared.batch.Event.{Event}
 use Rattle.ndc_event.specs.declared.key.BatchKey.{BatchKey}
 use Rattle.ndc_event.specs.declared.name.Name.{Name}
 use Rattle.ndc_laws_reached.proofs.ArrivalLemmas.{none-is, own-is}
-use Rattle.ndc_laws_reached.proofs.FoundLemmas.{at-there, find-passes, order-finds, there-among}
+use Rattle.ndc_laws_cells.proofs.FoundLemmas.{at-there, find-passes, order-finds, there-among}
 use Rattle.ndc_laws_reached.proofs.WrittenLemmas.{has-written, names-of, ordered, own-names, points-back, sound-of, wanted-some}
 use Rattle.ndc_model.specs.Facts.{IsReached}
 use Rattle.ndc_model.specs.Fair.{IsMessageTrue, written_of}
 use Rattle.ndc_model.specs.Moves.{all_written}
 use Rattle.ndc_model.specs.World.{World, cell_at}
-use Rattle.ndc_model.proofs.ListLemmas.{among-is}
+use Rattle.ndc_laws_cells.proofs.Lists.{among-is}
 use Rattle.ndc_model_sets.specs.Learned.{IsPart}
 use Rattle.ndc_model_sets.specs.Paths.{is_wanted}
 use Rattle.ndc_model_sets.specs.Sets.{batch_at}
@@ -38,19 +38,7 @@ use Rattle.ndc_model_sets.proofs.Lists.{Among, all-among, among-filter, filter-a
 use Rattle.ndc_text.specs.Ranges.{EventsFit, InRange}
 use Rattle.ndc_model_cells.specs.Messages.{IsCarriedBy, IsMessage, IsNewTo, HasSmallIds}
 use Rattle.ndc_model_cells.specs.Allowed.{MayArrive}
-
--- what holds of the item that there is, where there is one
-if-some : {X : Type 0} (P : X → Type 0) (o : Option X) → ((x : X) → o ≡ Some x → P x) → IfSome o P
-if-some P None each = tt
-if-some P (Some x) each = each x refl
-
--- what holds of both batches of a message
-pub both-all : (P : Batch → Type 0) (sent : Message) → P sent.batch → ((s : Batch) → sent.second ≡ Some s → P s) → AllByRecursion P (both sent)
-both-all P sent first second = (first, rest sent.second second)
-  where
-    rest : (o : Option Batch) → ((s : Batch) → o ≡ Some s → P s) → AllByRecursion P (option_to_list o)
-    rest None each = tt
-    rest (Some s) each = (each s refl, tt)
+use Rattle.ndc_laws_cells.proofs.KeptLemmas.{both-all, carried-by, if-some}
 
 -- ids of events that are in range are small
 ids-fit : (n : ℕ) → (nat_le 1 n && nat_le n (10 ^ 12)) ≡ true → n ≤ 10 ^ 12
@@ -62,29 +50,6 @@ events-small (event ∷ events) fit = All-cons (λ (event : Event). event.id ≤
 
 pub range-small : (b : Batch) → InRange b → HasSmallIds b
 range-small b range = events-small b.events range.events
-
--- the first batch of a run that goes on is the one behind its carrier
-carried-by : (b s : Batch) → s.carrier ≡ Some b.key → is_carrier_fit s.key s.parent s.carrier ≡ true → IsCarriedBy b s
-carried-by b s e fit = record { key = key; parent = none-is s.parent (alone (is_some s.parent) p.0); carrier = e }
-  where
-    p : (not (is_some s.parent) ≡ true) × (((b.key.version == s.key.version) && (b.key.task + 1 == s.key.task)) ≡ true)
-    p = and_parts (not (is_some s.parent)) ((b.key.version == s.key.version) && (b.key.task + 1 == s.key.task)) (subst (λ (o : Option BatchKey). is_carrier_fit s.key s.parent o ≡ true) e fit)
-
-    q : ((b.key.version == s.key.version) ≡ true) × ((b.key.task + 1 == s.key.task) ≡ true)
-    q = and_parts (b.key.version == s.key.version) (b.key.task + 1 == s.key.task) p.1
-
-    version : b.key.version ≡ s.key.version
-    version = eqb-true b.key.version s.key.version q.0
-
-    task : b.key.task + 1 ≡ s.key.task
-    task = eqb-true (b.key.task + 1) s.key.task q.1
-
-    key : s.key ≡ key_behind b.key
-    key = λ i. record { version = sym version i; task = sym task i }
-
-    alone : (t : Bool) → not t ≡ true → t ≡ false
-    alone true e = sym e
-    alone false e = refl
 
 -- what is learned in a cell is sound, where all that has arrived there was written, and what was written of the workflow is sound
 pub found-sound : (all : List Batch) (domain workflow : Name) (cell : Cell) → IsSound (filter (is_of domain workflow) all) → AreInOrder cell.arrived

@@ -34,8 +34,8 @@ use Rattle.ndc_model_sets.proofs.BranchLemmas.{has-among}
 use Rattle.ndc_model_sets.proofs.Lists.{Among, all-among, all-from, filter-among}
 use Rattle.ndc_text.specs.Ranges.{InRange}
 use Rattle.ndc_model_cells.specs.Allowed.{HasRoom, IsAllowed, MayReapply, MayWriteAll}
-use Rattle.ndc_laws_reached.proofs.MayLemmas.{tip-all}
-use Rattle.ndc_laws_reached.proofs.ReapplyLemmas.{reapplication-writes}
+use Rattle.ndc_laws_cells.proofs.MayLemmas.{tip-all}
+use Rattle.ndc_laws_cells.proofs.ReapplyLemmas.{reapplication-writes}
 use Rattle.ndc_laws_jobs.proofs.ComeLemmas.{allowed-more}
 use Rattle.ndc_laws_jobs.proofs.EntryLemmas.{entry-may}
 use Rattle.ndc_laws_jobs.proofs.RoomLemmas.{has-room}

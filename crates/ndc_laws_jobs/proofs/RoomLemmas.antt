@@ -21,11 +21,11 @@ use Rattle.ndc_model_sets.proofs.BranchLemmas.{among-has, has-among}
 use Rattle.ndc_model_sets.proofs.LearnedLemmas.{learned_closed}
 use Rattle.ndc_model_sets.proofs.Lists.{Among, all-among}
 use Rattle.ndc_model_cells.specs.Allowed.{HasRoom}
-use Rattle.ndc_laws_reached.specs.Adding.{MayAdd}
-use Rattle.ndc_laws_reached.proofs.CountLemmas.{events-most}
-use Rattle.ndc_laws_reached.proofs.EntryLemmas.{greatest-least}
-use Rattle.ndc_laws_reached.proofs.MayLemmas.{events-same, next-counts, version-most}
-use Rattle.ndc_laws_reached.proofs.StrayLemmas.{strays-few}
+use Rattle.ndc_laws_cells.specs.Adding.{MayAdd}
+use Rattle.ndc_laws_cells.proofs.CountLemmas.{events-most}
+use Rattle.ndc_laws_cells.proofs.EntryLemmas.{greatest-least}
+use Rattle.ndc_laws_cells.proofs.MayLemmas.{events-same, next-counts, version-most}
+use Rattle.ndc_laws_cells.proofs.StrayLemmas.{strays-few}
 
 module _ (header : Header) (lines : ℕ) (w : World) (is : IsReached header lines w) (cluster : ClusterNo) (known : IsCluster header cluster) (domain workflow : Name)
     (below : shard_of domain workflow header.shards < header.shards) where

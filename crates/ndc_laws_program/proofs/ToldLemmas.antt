@@ -1,5 +1,5 @@
 -- Each progress report was told by a line of the cluster that writes with its version.
-use Rattle.std.proofs.Common.{◌≡◌, ℕ, zero, suc, ◌+◌, ◌<◌, ◌≤◌, true, List, [], ◌∷◌, ◌++◌, length, map, slice_index_or, Option, Some, None, Result, Ok, Err, ◌⊎◌, inl, inr, append-nil, append_assoc, refl, sym, ◌∙◌, subst, ap, arith}
+use Rattle.std.proofs.Common.{◌≡◌, ℕ, zero, suc, ◌+◌, ◌<◌, ◌≤◌, List, [], ◌∷◌, ◌++◌, length, map, slice_index_or, Option, Some, None, Result, Ok, Err, ◌⊎◌, inl, inr, append-nil, append_assoc, refl, sym, ◌∙◌, subst, ap, arith}
 use Rattle.std.specs.List.{AllByRecursion}
 use Rattle.std.proofs.Math.ListN.{get_or-map}
 use Rattle.std.proofs.lemmas.List.{get_or-set_same, length-append}
@@ -9,13 +9,9 @@ use Rattle.ndc_script_types.specs.declared.script.Act.{Act}
 use Rattle.ndc_script_types.specs.declared.script.Act.TheVariants as act
 use Rattle.ndc_script_types.specs.declared.script.Header.{Header}
 use Rattle.ndc_script_types.specs.declared.script.Line.{Line}
-use Rattle.ndc_model_cells.specs.Cells.{Cell, learned_of}
-use Rattle.ndc_model_cells.specs.Writing.{Desk, as_command_error, is_writer, may_write}
 use Rattle.ndc_command.specs.declared.refusal.CommandError.{CommandError}
-use Rattle.ndc_command.specs.declared.refusal.Refusal.{Refusal}
 use Rattle.ndc_domain.specs.Clusters.{writer_of}
 use Rattle.ndc_domain.specs.declared.clusters.ClusterNo.{ClusterNo}
-use Rattle.ndc_event.specs.Outcome.{◌>>=◌}
 use Rattle.ndc_event.specs.declared.name.Name.{Name}
 use Rattle.ndc_laws.specs.Grown.{IsWellFormedLine, world_after}
 use Rattle.ndc_laws.specs.Promised.{world_before}
@@ -25,19 +21,18 @@ use Rattle.ndc_laws.proofs.ScriptLemmas.{after-both}
 use Rattle.ndc_laws_jobs.specs.Standing.{reports_of}
 use Rattle.ndc_laws_jobs.proofs.KeepLemmas.{line-keeps}
 use Rattle.ndc_laws_program.specs.Told.{Tells, WasTold}
-use Rattle.ndc_laws_reached.proofs.BeatLemmas.{may-own}
+use Rattle.ndc_laws_reached.proofs.BeatLemmas.{told-own}
 use Rattle.ndc_laws_reached.proofs.HandoverLemmas.{writer-is}
 use Rattle.ndc_laws_reached.proofs.ReachedLemmas.{line_reached}
 use Rattle.ndc_laws_reached.proofs.ScriptLemmas.{lines-short}
 use Rattle.ndc_model.specs.Facts.{IsReached}
 use Rattle.ndc_model.specs.Laws.{script_of}
 use Rattle.ndc_model.specs.Lines.{act_step, plain_lines}
-use Rattle.ndc_model.specs.Progress.{beat_by, beat_unless, started_activity, told_of, with_reports}
+use Rattle.ndc_model.specs.Progress.{beat_by, beat_unless, told_of, with_reports}
 use Rattle.ndc_model.specs.World.{Cluster, World, all_clusters, cell_of, cluster_at, home_at, new_cluster, opening_world}
 use Rattle.ndc_model.proofs.FairLemmas.{opening_reached}
 use Rattle.ndc_model.proofs.ListLemmas.{all-listed}
 use Rattle.ndc_model.proofs.WorldLemmas.{set-cases}
-use Rattle.ndc_model_sets.specs.Branches.{workflow_tip}
 use Rattle.ndc_model_sets.proofs.ForkLemmas.{among-cases}
 use Rattle.ndc_model_sets.proofs.Lists.{Among, all-from}
 use Rattle.ndc_progress.specs.Reports.{held, next_report, stale_by}
@@ -78,18 +73,6 @@ sync-stood header to from w here there cluster known report among = by (more-sto
     by : Stood header w report ⊎ Among report (cluster_at from w).reports → Stood header w report ⊎ Tells header (act.Sync to from) w (with_reports to ((cluster_at to w).reports ++ (cluster_at from w).reports) w) report
     by (inl stood) = inl stood
     by (inr theirs) = inl (from, there, theirs)
-
--- what a cluster tells is of a version of its own
-told-own : (home : Desk) (domain workflow id : Name) (cell : Cell) (told : ℕ × ActivityRef) → told_of home domain workflow id cell ≡ Ok told → is_writer home.me (writer_of home.clusters told.0) ≡ true
-told-own home domain workflow id cell told =
-    by (may_write home domain workflow cell) refl (started_activity domain workflow id (learned_of domain workflow cell) (workflow_tip (learned_of domain workflow cell)))
-  where
-    by : (may : Result ℕ Refusal) → may_write home domain workflow cell ≡ may → (activity : Result ActivityRef CommandError)
-        → (as_command_error may >>= λ version. activity >>= λ one. Ok (version, one)) ≡ Ok told → is_writer home.me (writer_of home.clusters told.0) ≡ true
-    by (Ok version) may (Ok one) e =
-        let same : version ≡ told.0 = cc in subst (λ (n : ℕ). is_writer home.me (writer_of home.clusters n) ≡ true) same (may-own home domain workflow cell version may)
-    by (Ok version) may (Err error) e = absurd (cc)
-    by (Err why) may activity e = absurd (cc)
 
 -- `beat`
 module _ (header : Header) (cluster : ClusterNo) (domain workflow id details : Name) (w : World) (known : IsCluster header cluster) (within : cluster.number < length w.clusters) where

@@ -9,7 +9,7 @@ use Rattle.ndc_event.specs.declared.name.Name.{Name}
 use Rattle.ndc_laws.specs.Promised.{HaveTheSameReports}
 use Rattle.ndc_laws.specs.TakenOver.{HaveTheSameClusters, synced}
 use Rattle.ndc_laws_reached.specs.OneWriter.{EachHasOneCurrent}
-use Rattle.ndc_laws_reached.specs.Past.{EventsAreOne}
+use Rattle.ndc_laws_cells.specs.Past.{EventsAreOne}
 use Rattle.ndc_laws_reached.specs.Trimmed.{IsLearnedOrLate, trimmed_of}
 use Rattle.ndc_model.specs.Facts.{ReportsAgree}
 use Rattle.ndc_model.specs.Fair.{written_of}

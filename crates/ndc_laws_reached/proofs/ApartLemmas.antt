@@ -4,10 +4,10 @@ use Rattle.std.specs.List.{flat_map}
 use Rattle.std.proofs.lemmas.List.{map-append}
 use Rattle.std.proofs.lemmas.List.Elements.{All-from_recursion}
 use Rattle.std.proofs.lemmas.List.Kept.{AllPairs-cons}
-use Rattle.ndc_model.proofs.ListLemmas.{among-is}
+use Rattle.ndc_laws_cells.proofs.Lists.{among-is}
 use Rattle.ndc_model_sets.proofs.ForkLemmas.{among-cases, among-left, among-right}
 use Rattle.ndc_model_sets.proofs.Lists.{Among, all-from}
-use Rattle.ndc_laws_reached.proofs.OrderLemmas.{IsMore}
+use Rattle.ndc_laws_cells.proofs.OrderLemmas.{IsMore}
 
 -- items that differ, by the first and the rest
 abbrev pub Differ : {X : Type 0} → List X → Type 0

@@ -1,4 +1,5 @@
 -- A message that arrives lets its cell grow.
+pub use Rattle.ndc_laws_cells.proofs.KeptLemmas.{none-is, own-is}
 use Rattle.std.proofs.Common.{◌≡◌, ℕ, ◌<◌, Bool, true, false, not, cond, if◌then◌else◌, List, [], ◌∷◌, Option, Some, None, IfSome, refl, sym, ◌∙◌, subst, ap, true≢false}
 use Rattle.std.specs.List.{AllByRecursion, IsAmong, filter, filter_map}
 use Rattle.std.specs.Option.{option_or}
@@ -20,15 +21,15 @@ use Rattle.ndc_model.specs.Facts.{IsReached}
 use Rattle.ndc_model.specs.Fair.{IsMessageTrue, is_named}
 use Rattle.ndc_model.specs.Moves.{all_written, messages_among}
 use Rattle.ndc_model.specs.World.{World, cell_at}
-use Rattle.ndc_model.proofs.LetterLemmas.{is_at-own}
-use Rattle.ndc_model.proofs.ListLemmas.{all-filter, among-is, is-among}
+use Rattle.ndc_model.proofs.ListLemmas.{all-filter}
+use Rattle.ndc_laws_cells.proofs.Lists.{among-is, is-among}
 use Rattle.ndc_model_sets.specs.Learned.{IsPart, has_key}
 use Rattle.ndc_model_sets.specs.Paths.{is_wanted}
 use Rattle.ndc_model_sets.specs.Sets.{PointsBack, batch_at}
 use Rattle.ndc_model_sets.proofs.Lists.{Among, find-among, find-only}
 use Rattle.ndc_model_sets.proofs.SetLemmas.{found-has, found-key, has-found}
 use Rattle.ndc_laws_reached.proofs.CellLemmas.{IsGrown}
-use Rattle.ndc_laws_reached.proofs.FoundLemmas.{at-place, find-passes, or-none, order-finds, placed-stays, placed-there, there-among}
+use Rattle.ndc_laws_cells.proofs.FoundLemmas.{at-place, find-passes, is_at-own, or-none, order-finds, placed-stays, placed-there, there-among}
 use Rattle.ndc_laws_reached.proofs.WaitingLemmas.{IsFresh, filter-messages, message-there, placed-within, placed-without}
 use Rattle.ndc_laws_reached.proofs.WrittenLemmas.{carried-alone, cell-is, names-of, one-carried, one-carrier, one-written, ordered, points-back, wanted-some}
 
@@ -59,18 +60,6 @@ order-filter q (b ∷ bs) order = by (q b) (order-filter q bs order.1)
     by : (t : Bool) → AreInOrder (filter q bs) → AreInOrder (cond t (b ∷ filter q bs) (filter q bs))
     by true rest = (all-filter (λ x. place_lt (place_of b) (place_of x) ≡ true) q bs order.0, rest)
     by false rest = rest
-
-pub none-is : {X : Type 0} (o : Option X) → is_some o ≡ false → o ≡ None
-none-is None e = refl
-none-is (Some x) e = absurd (true≢false e)
-
--- a message of its own: of a batch that is not carried, as that batch has it
-pub own-is : (own all : List Batch) (b : Batch) (sent : Message) → own_message own all b ≡ Some sent → (is_some b.carrier ≡ false) × (message_of own all b ≡ sent)
-own-is own all b sent e = by (is_some b.carrier) refl e
-  where
-    by : (t : Bool) → is_some b.carrier ≡ t → (if t then None else Some (message_of own all b)) ≡ Some sent → (is_some b.carrier ≡ false) × (message_of own all b ≡ sent)
-    by true at e = absurd (cc)
-    by false at e = (at, let same : message_of own all b ≡ sent = cc in same)
 
 -- a message that is true
 module _ (header : Header) (lines : ℕ) (w : World) (is : IsReached header lines w) (cluster : ClusterNo) (shard : ℕ) (known : IsCluster header cluster) (below : shard < header.shards)

@@ -20,7 +20,7 @@ use Rattle.ndc_event.specs.declared.name.Name.{Name}
 use Rattle.ndc_model.specs.Facts.{IsReached}
 use Rattle.ndc_model.specs.Progress.{beat_by, beat_step, beat_unless, started_activity, told_of}
 use Rattle.ndc_model.specs.World.{World, cell_of, cluster_at, home_at}
-use Rattle.ndc_model.proofs.ListLemmas.{among-is, is-among}
+use Rattle.ndc_laws_cells.proofs.Lists.{among-is, is-among}
 use Rattle.ndc_progress.specs.Reports.{greater_report, held, next_beat, next_report, report_lt, same_activity, stale_by}
 use Rattle.ndc_progress.specs.declared.report.ActivityRef.{ActivityRef}
 use Rattle.ndc_progress.specs.declared.report.Report.{Report}
@@ -50,7 +50,7 @@ unfolding may_write
 may-own home domain workflow cell answer e = may-by-own home (record_of home.table domain) (learned_of domain workflow cell) answer e
 
 -- what a cluster tells is of a version of its own
-told-own : (home : Desk) (domain workflow id : Name) (cell : Cell) (told : ℕ × ActivityRef) → told_of home domain workflow id cell ≡ Ok told → is_writer home.me (writer_of home.clusters told.0) ≡ true
+pub told-own : (home : Desk) (domain workflow id : Name) (cell : Cell) (told : ℕ × ActivityRef) → told_of home domain workflow id cell ≡ Ok told → is_writer home.me (writer_of home.clusters told.0) ≡ true
 told-own home domain workflow id cell told =
     by (may_write home domain workflow cell) refl (started_activity domain workflow id (learned_of domain workflow cell) (workflow_tip (learned_of domain workflow cell)))
   where

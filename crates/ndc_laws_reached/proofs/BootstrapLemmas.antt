@@ -25,7 +25,8 @@ use Rattle.ndc_model.specs.Moves.{all_arrive, all_written, renewed}
 use Rattle.ndc_model_cells.specs.Domains.{learned_of_domains}
 use Rattle.ndc_model.specs.Queues.{is_addressed, names_cluster, needs_nothing}
 use Rattle.ndc_model.specs.World.{Link, World, cell_at, cluster_at, is_late_in, is_link, lane_in, link_at, link_found, queue_at, shards_of, with_link}
-use Rattle.ndc_model.proofs.ListLemmas.{all-self, all-take, is-among, any-one}
+use Rattle.ndc_model.proofs.ListLemmas.{all-self, all-take, any-one}
+use Rattle.ndc_laws_cells.proofs.Lists.{is-among}
 use Rattle.ndc_model_sets.specs.Learned.{IsPart, has_key}
 use Rattle.ndc_model_sets.specs.Paths.{is_wanted}
 use Rattle.ndc_model_sets.specs.Sets.{Has, batch_at, earlier_of}
@@ -39,7 +40,7 @@ use Rattle.ndc_laws_reached.proofs.LaneLemmas.{named-there, renewed-all}
 use Rattle.ndc_laws_reached.proofs.LinkLemmas.{IsLinkFit, links-fit, one-link}
 use Rattle.ndc_laws_reached.proofs.ArrivalLemmas.{none-is, own-is}
 use Rattle.ndc_laws_reached.proofs.BringLemmas.{HasCome, IsBrought, MayArrive, world_after}
-use Rattle.ndc_laws_reached.proofs.FoundLemmas.{find-passes, there-among, there-place}
+use Rattle.ndc_laws_cells.proofs.FoundLemmas.{find-passes, there-among, there-place}
 use Rattle.ndc_laws_reached.proofs.ManyLemmas.{among-flat, by-shard, one-cluster}
 use Rattle.ndc_laws_reached.proofs.MessageLemmas.{learned-arrived, learned-true, second-same}
 use Rattle.ndc_laws_reached.proofs.WrittenLemmas.{arrived-written, carried-alone, cell-is, has-written, names-of, one-carried, one-written}

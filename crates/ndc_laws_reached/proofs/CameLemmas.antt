@@ -36,7 +36,7 @@ use Rattle.ndc_laws_reached.proofs.LinkLemmas.{IsLinkFit, links-fit}
 use Rattle.ndc_laws_reached.proofs.ArrivalLemmas.{own-is}
 use Rattle.ndc_laws_reached.proofs.BringLemmas.{HasCome, IsBrought, kept-none, kept-then}
 use Rattle.ndc_laws_reached.proofs.CellLemmas.{IsKept}
-use Rattle.ndc_laws_reached.proofs.FoundLemmas.{find-passes, order-finds}
+use Rattle.ndc_laws_cells.proofs.FoundLemmas.{find-passes, order-finds}
 use Rattle.ndc_laws_reached.proofs.ManyLemmas.{among-flat, by-shard, due-may, one-cluster}
 use Rattle.ndc_laws_reached.proofs.MessageLemmas.{learned-arrived}
 use Rattle.ndc_laws_reached.proofs.WrittenLemmas.{flat-among, in_order-among, names-of}

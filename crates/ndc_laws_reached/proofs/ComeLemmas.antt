@@ -17,7 +17,7 @@ use Rattle.ndc_event.specs.declared.batch.Batch.{Batch}
 use Rattle.ndc_model.specs.Moves.{all_arrive, arrives}
 use Rattle.ndc_model.proofs.WorldLemmas.{set-cases}
 use Rattle.ndc_model_sets.proofs.Lists.{Among, map-among}
-use Rattle.ndc_laws_reached.proofs.FoundLemmas.{in_order-ordered, order-finds, placed-stays, placed-there, there-among, there-place}
+use Rattle.ndc_laws_cells.proofs.FoundLemmas.{in_order-ordered, order-finds, placed-stays, placed-there, there-among, there-place}
 use Rattle.ndc_laws_reached.proofs.WrittenLemmas.{flat-among, in_order-among, among-placed}
 
 -- what has arrived behind an arrival had arrived, or is of the message

@@ -14,21 +14,22 @@ use Rattle.ndc_event.specs.declared.batch.Batch.{Batch}
 use Rattle.ndc_model.specs.Fair.{ArrivalsWereWritten, IsArrivedFit, written_of}
 use Rattle.ndc_model.specs.Moves.{all_written}
 use Rattle.ndc_model.specs.World.{World, cell_at}
-use Rattle.ndc_model.proofs.ListLemmas.{all-weaker, among-is, is-among}
+use Rattle.ndc_model.proofs.ListLemmas.{all-weaker}
+use Rattle.ndc_laws_cells.proofs.Lists.{among-is, is-among}
 use Rattle.ndc_model_sets.specs.Paths.{is_wanted}
 use Rattle.ndc_model_sets.specs.Sets.{Has, arrived}
 use Rattle.ndc_model_sets.specs.Sound.{IsSound}
 use Rattle.ndc_model_sets.proofs.ArrivalLemmas.{stays}
 use Rattle.ndc_model_sets.proofs.BranchLemmas.{has-among}
 use Rattle.ndc_model_sets.proofs.Lists.{Among}
-use Rattle.ndc_laws_reached.proofs.FoundLemmas.{order-finds, there-among}
+use Rattle.ndc_laws_cells.proofs.FoundLemmas.{order-finds, there-among}
 use Rattle.ndc_laws_reached.proofs.WrittenLemmas.{has-written, names-of, wanted-some}
 use Rattle.ndc_laws_reached.proofs.HeldLemmas.{news-names}
 use Rattle.ndc_laws_reached.proofs.JoinedLemmas.{carries-none, new-carries}
 use Rattle.ndc_laws_reached.proofs.LandLemmas.{Write, all-here, are-new, behind, by-cell, cell-ordered, here, here-ordered, new-to-cell, none-arrived, shard-cases}
-use Rattle.ndc_laws_reached.proofs.PairLemmas.{AreNew, entry_with, more, more-all, more-apart, more-either, more-new, more-order, more-stays, new-none, news, second-apart}
+use Rattle.ndc_laws_cells.proofs.PairLemmas.{AreNew, entry_with, more, more-all, more-apart, more-either, more-new, more-order, more-stays, new-none, news, second-apart}
 use Rattle.ndc_laws_reached.proofs.WroteLemmas.{old-sound, there-some}
-use Rattle.ndc_laws_reached.specs.Entries.{IsSecond}
+use Rattle.ndc_laws_cells.specs.Entries.{IsSecond}
 
 -- what has arrived in a cell, and all that was written in its shard
 pub record FitsWith (all : List Batch) (cell : Cell) : Type 0 where

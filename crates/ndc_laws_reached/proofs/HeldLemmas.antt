@@ -24,13 +24,13 @@ use Rattle.ndc_model_sets.proofs.ArrivalLemmas.{arrival_keeps_sets, is_there, on
 use Rattle.ndc_model_sets.proofs.BranchLemmas.{has-among}
 use Rattle.ndc_model_sets.proofs.Lists.{Among, all-from, filter-among}
 use Rattle.ndc_model_sets.proofs.SetLemmas.{found-has, found-key}
-use Rattle.ndc_laws_reached.proofs.FoundLemmas.{at-there}
+use Rattle.ndc_laws_cells.proofs.FoundLemmas.{at-there}
 use Rattle.ndc_laws_reached.proofs.WrittenLemmas.{arrived-written, cell-is, has-written, names-of, own-names}
 use Rattle.ndc_laws_reached.proofs.JoinedLemmas.{first-back, second-back}
 use Rattle.ndc_laws_reached.proofs.LandLemmas.{Write, behind, by-cell, by-part, new-to-cell, second-own}
-use Rattle.ndc_laws_reached.proofs.PairLemmas.{entry_with, joined, news}
+use Rattle.ndc_laws_cells.proofs.PairLemmas.{entry_with, joined, news}
 use Rattle.ndc_laws_reached.proofs.WroteLemmas.{old-sound}
-use Rattle.ndc_laws_reached.specs.Entries.{IsSecond}
+use Rattle.ndc_laws_cells.specs.Entries.{IsSecond}
 
 -- what is new to a set, and learned as its earlier key is
 module _ (bs : List Batch) (set : IsSet bs) (b : Batch) (back : PointsBack b) (fresh : batch_at b.key bs ≡ None) (reached : has_key (earlier b) (learned bs) ≡ true) where

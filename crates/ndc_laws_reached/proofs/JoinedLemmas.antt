@@ -9,7 +9,7 @@ use Rattle.ndc_event.specs.declared.batch.Batch.{Batch}
 use Rattle.ndc_event.specs.declared.key.BatchKey.{BatchKey}
 use Rattle.ndc_event.specs.declared.name.Name.{Name}
 use Rattle.ndc_model.proofs.ListLemmas.{all-weaker}
-use Rattle.ndc_model.specs.Fair.{AreNumbersSmall, goes_on, originals_in}
+use Rattle.ndc_model.specs.Fair.{AreNumbersSmall}
 use Rattle.ndc_model_sets.specs.Learned.{has_key}
 use Rattle.ndc_model_sets.specs.Paths.{is_wanted}
 use Rattle.ndc_model_sets.specs.Sets.{Has, PointsBack, arrived, batch_at, earlier_of}
@@ -20,11 +20,11 @@ use Rattle.ndc_model_sets.proofs.KeyLemmas.{key_eq-self, same-keys}
 use Rattle.ndc_model_sets.proofs.Lists.{Among, filter-cases}
 use Rattle.ndc_model_sets.proofs.SoundLemmas.{faultless-back, parent-alone}
 use Rattle.ndc_laws_reached.proofs.WrittenLemmas.{own-names, wanted-some}
-use Rattle.ndc_laws_reached.proofs.OrderLemmas.{filter-arrived, filter-one-more}
-use Rattle.ndc_laws_reached.proofs.PairLemmas.{joined, news}
-use Rattle.ndc_laws_reached.specs.Adding.{Added}
-use Rattle.ndc_laws_reached.specs.Entries.{IsSecond, IsSmall}
-use Rattle.ndc_laws_reached.proofs.CountLemmas.{arrived-all, arrived-length, arrived-originals}
+use Rattle.ndc_laws_cells.proofs.OrderLemmas.{filter-arrived, filter-one-more}
+use Rattle.ndc_laws_cells.proofs.PairLemmas.{joined, news}
+use Rattle.ndc_laws_cells.specs.Adding.{Added}
+use Rattle.ndc_laws_cells.specs.Entries.{IsSecond, IsSmall, goes_on, originals_in}
+use Rattle.ndc_laws_cells.proofs.CountLemmas.{arrived-all, arrived-length, arrived-originals}
 
 -- nothing is kept where nothing passes
 pub filter-none : {X : Type 0} (p : X → Bool) (xs : List X) → ((x : X) → Among x xs → p x ≡ true → ⊥) → filter p xs ≡ []

@@ -29,12 +29,12 @@ use Rattle.ndc_model.proofs.ListLemmas.{all-set, set-there}
 use Rattle.ndc_model.proofs.WorldLemmas.{cells-cases, set-cases}
 use Rattle.ndc_model_sets.specs.Sets.{batch_at}
 use Rattle.ndc_laws_reached.specs.Writing.{with_cell}
-use Rattle.ndc_laws_reached.proofs.FoundLemmas.{at-there, in_order-ordered, order-finds, there-among, there-place}
+use Rattle.ndc_laws_cells.proofs.FoundLemmas.{at-there, in_order-ordered, order-finds, there-among, there-place}
 use Rattle.ndc_laws_reached.proofs.WrittenLemmas.{arrived-written, names-of, ordered, own-names}
-use Rattle.ndc_laws_reached.proofs.OrderLemmas.{IsMore, flat-more, flat-same, order-there, same-arrivals}
-use Rattle.ndc_laws_reached.proofs.PairLemmas.{AreNew, entry_with, joined, middle-there, more, more-order, more-own, more-there, new-less, new-none, news}
-use Rattle.ndc_laws_reached.specs.Entries.{IsSecond, IsWrite}
-use Rattle.ndc_laws_reached.proofs.NamedLemmas.{either-way}
+use Rattle.ndc_laws_cells.proofs.OrderLemmas.{IsMore, flat-more, flat-same, order-there, same-arrivals}
+use Rattle.ndc_laws_cells.proofs.PairLemmas.{AreNew, entry_with, joined, middle-there, more, more-order, more-own, more-there, new-less, new-none, news}
+use Rattle.ndc_laws_cells.specs.Entries.{IsSecond, IsWrite}
+use Rattle.ndc_laws_cells.proofs.NamedLemmas.{either-way}
 
 all-at : {X : Type 0} (P : X → Type 0) (xs : List X) (i : ℕ) (d : X) → AllByRecursion P xs → i < length xs → P (slice_index_or xs i d)
 all-at P [] i d all less = absurd (omega (arith, less))

@@ -17,7 +17,7 @@ use Rattle.ndc_model_sets.proofs.Lists.{filter_map-among, find-among}
 use Rattle.ndc_laws_reached.proofs.FrameLemmas.{fair-alike, queues-same, wrote-same}
 use Rattle.ndc_laws_reached.proofs.ArrivalLemmas.{own-is}
 use Rattle.ndc_laws_reached.proofs.BringLemmas.{IsArrival}
-use Rattle.ndc_laws_reached.proofs.FoundLemmas.{find-passes, there-among}
+use Rattle.ndc_laws_cells.proofs.FoundLemmas.{find-passes, is_at-own, there-among}
 use Rattle.ndc_laws_reached.proofs.ManyLemmas.{many, one-cluster}
 use Rattle.ndc_laws_reached.proofs.MessageLemmas.{learned-arrived, learned-true}
 use Rattle.ndc_laws_reached.proofs.WrittenLemmas.{cell-is, lives, names-of}
@@ -41,8 +41,8 @@ use Rattle.ndc_model.specs.Fair.{IsShaped, is_named}
 use Rattle.ndc_model.specs.Letters.{damage_at, damage_step, damaged, letter_job, letters_merged, purge_step, with_letters}
 use Rattle.ndc_model.specs.Moves.{arrives}
 use Rattle.ndc_model.specs.World.{Cluster, Link, World, cell_of, cluster_at, flight_at, new_cluster, queue_at, with_flight}
-use Rattle.ndc_model.proofs.LetterLemmas.{is_at-own}
-use Rattle.ndc_model.proofs.ListLemmas.{all-append, all-got, all-remove, all-set, is-among}
+use Rattle.ndc_model.proofs.ListLemmas.{all-append, all-got, all-remove, all-set}
+use Rattle.ndc_laws_cells.proofs.Lists.{is-among}
 use Rattle.ndc_model.proofs.WorldLemmas.{set-cases}
 use Rattle.ndc_model_sets.proofs.Lists.{Among, all-among, all-from, list_any-one}
 use Rattle.ndc_laws_reached.proofs.FrameLemmas.{beats-alike, cells_in, handovers-alike, letter-alike, queues_in, ranges-alike, reports-alike, reports_in, tables_in}

@@ -1,7 +1,7 @@
 -- Many messages that arrive at a cluster: what is in flight, and what is due.
+pub use Rattle.ndc_laws_cells.proofs.VersionLemmas.{one-cluster}
 use Rattle.std.proofs.Common.{◌≡◌, ℕ, zero, suc, ◌+◌, ◌<◌, Bool, true, false, if◌then◌else◌, List, [], ◌∷◌, map, drop, inl, inr, refl, sym, subst, arith}
 use Rattle.std.specs.List.{AllByRecursion, IsAmong, flat_map, range_with_len}
-use Rattle.std.proofs.lemmas.Bool.{eqb-true}
 use Rattle.ndc_script_types.specs.WellFormed.{IsCluster}
 use Rattle.ndc_script_types.specs.declared.script.Header.{Header}
 use Rattle.ndc_model_cells.specs.declared.job.Job.TheVariants.{Arrive}
@@ -15,7 +15,8 @@ use Rattle.ndc_model.specs.Fair.{IsMessageTrue, is_named}
 use Rattle.ndc_model.specs.Moves.{all_arrive, arrives, by_link, due, in_flight}
 use Rattle.ndc_model.specs.Queues.{is_addressed}
 use Rattle.ndc_model.specs.World.{Link, World, cluster_at, lane_in, queue_at, shards_of}
-use Rattle.ndc_model.proofs.ListLemmas.{all-drop, all-flat, all-self, all-weaker, is-among}
+use Rattle.ndc_model.proofs.ListLemmas.{all-drop, all-flat, all-self, all-weaker}
+use Rattle.ndc_laws_cells.proofs.Lists.{is-among}
 use Rattle.ndc_model.proofs.WorldLemmas.{same-cells}
 use Rattle.ndc_model_sets.proofs.ForkLemmas.{among-left, among-right}
 use Rattle.ndc_model_sets.proofs.Lists.{Among, all-among, all-from, among-map, filter-among}
@@ -33,10 +34,6 @@ pub range-among : (from n shard i : ℕ) → i < n → shard ≡ from + i → Am
 range-among from zero shard i below at = absurd (omega (arith, below))
 range-among from (suc n) shard zero below at = inl (omega (arith, at))
 range-among from (suc n) shard (suc i) below at = inr (range-among (from + 1) n shard i (omega (arith, below)) (omega (arith, at)))
-
--- clusters of one number are one
-pub one-cluster : (one two : ClusterNo) → same_cluster one two ≡ true → one ≡ two
-one-cluster one two e = let same : one.number ≡ two.number = eqb-true one.number two.number e in λ i. record { number = same i }
 
 -- what stands in a part stands in a flat map
 pub among-flat : {X Y : Type 0} (f : X → List Y) (xs : List X) (x : X) (y : Y) → Among x xs → Among y (f x) → Among y (flat_map f xs)

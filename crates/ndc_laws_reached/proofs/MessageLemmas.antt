@@ -17,7 +17,7 @@ use Rattle.ndc_model.specs.Facts.{IsReached}
 use Rattle.ndc_model.specs.Fair.{IsMessageTrue, is_named}
 use Rattle.ndc_model.specs.Moves.{all_written, ancestors_of, missing_ancestors, sent_again}
 use Rattle.ndc_model.specs.World.{World, cell_at}
-use Rattle.ndc_model.proofs.ListLemmas.{among-is}
+use Rattle.ndc_laws_cells.proofs.Lists.{among-is}
 use Rattle.ndc_model_sets.specs.Learned.{IsPart}
 use Rattle.ndc_model_sets.specs.Paths.{Walk, events_to, is_wanted, path_to, versions_of}
 use Rattle.ndc_model_sets.specs.Sets.{Has, IsSet, earlier}
@@ -28,7 +28,7 @@ use Rattle.ndc_model_sets.proofs.PathLemmas.{part-path}
 use Rattle.ndc_state.specs.Replay.{history_of}
 use Rattle.ndc_laws_reached.proofs.ArrivalLemmas.{own-is}
 use Rattle.ndc_laws_reached.proofs.BringLemmas.{MayArrive}
-use Rattle.ndc_laws_reached.proofs.FoundLemmas.{find-passes, order-finds, there-among, there-place}
+use Rattle.ndc_laws_cells.proofs.FoundLemmas.{find-passes, order-finds, there-among, there-place}
 use Rattle.ndc_laws_reached.proofs.WrittenLemmas.{arrived-written, cell-is, flat-among, in_order-among, names-of, one-carried, one-written, ordered, sound-of}
 
 -- where one passes, one is found

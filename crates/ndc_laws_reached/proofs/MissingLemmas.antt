@@ -1,5 +1,5 @@
 -- The way up from a batch through earlier keys.
-use Rattle.std.proofs.Common.{◌≡◌, Bool, true, false, cond, List, [], ◌∷◌, ◌⊎◌, inl, inr, Option, Some, None, refl, sym, ◌∙◌, subst, ap, true≢false}
+use Rattle.std.proofs.Common.{◌≡◌, Bool, true, false, cond, List, [], ◌∷◌, ◌⊎◌, inl, inr, Option, Some, None, refl, sym, ◌∙◌, subst}
 use Rattle.ndc_model_cells.specs.Cells.{ancestors_down, missing_of}
 use Rattle.ndc_event.specs.Key.{key_eq, key_lt}
 use Rattle.ndc_event.specs.declared.batch.Batch.{Batch}
@@ -9,9 +9,9 @@ use Rattle.ndc_model_sets.specs.Learned.{ReachesTop, top, up}
 use Rattle.ndc_model_sets.specs.Paths.{is_wanted}
 use Rattle.ndc_model_sets.specs.Sets.{Has, IsSet, PointsBack, Rise, batch_at, earlier}
 use Rattle.ndc_model_sets.proofs.BranchLemmas.{among-has, has-among}
-use Rattle.ndc_model_sets.proofs.KeyLemmas.{before-irrefl, before-trans, key_eq-self, same-keys}
+use Rattle.ndc_model_sets.proofs.KeyLemmas.{before-irrefl, before-trans, same-keys}
 use Rattle.ndc_model_sets.proofs.Lists.{Among, all-among}
-use Rattle.ndc_model_sets.proofs.SetLemmas.{found-has, found-key}
+use Rattle.ndc_model_sets.proofs.SetLemmas.{found-has}
 
 -- following earlier keys upwards through a set, from what is wanted first to what is wanted last
 pub data Up (held : List Batch) (first : Option BatchKey) : Option BatchKey → Type 0 where

@@ -1,4 +1,5 @@
 -- Commands, resets and reapplication keep worlds as they should be.
+pub use Rattle.ndc_laws_cells.proofs.VersionLemmas.{may-have}
 use Rattle.std.proofs.Common.{◌≡◌, ◌<◌, ◌≤◌, ◌+◌, ◌*◌, ℕ, false, List, length, slice_set, ◌⊎◌, inl, inr, Option, Some, None, Result, Ok, Err, refl, sym, ◌∙◌, subst, ap, arith}
 use Rattle.ndc_script_types.specs.WellFormed.{IsCluster, IsWellFormedCommand, IsWellFormedHeader, IsWorkflowAt}
 use Rattle.ndc_script_types.specs.declared.script.Header.{Header}
@@ -6,18 +7,16 @@ use Rattle.ndc_model_cells.specs.Cells.{Cell, empty_cell, learned_of}
 use Rattle.ndc_model_cells.specs.Jobs.{after_job, cells_after, written_at}
 use Rattle.ndc_model_cells.specs.Places.{is_of}
 use Rattle.ndc_model_cells.specs.Shards.{shard_of}
-use Rattle.ndc_model_cells.specs.Writing.{Entry, Desk, as_command_error, command_entries, command_of, may_write, reset_at, reset_below, with_all_written, with_written}
+use Rattle.ndc_model_cells.specs.Writing.{Entry, command_entries, command_of, reset_at, reset_below, with_all_written, with_written}
 use Rattle.ndc_command.specs.declared.command.Command.{Command}
 use Rattle.ndc_command.specs.declared.refusal.CommandError.{CommandError}
-use Rattle.ndc_command.specs.declared.refusal.Refusal.{Refusal}
 use Rattle.ndc_domain.specs.Records.{record_of}
 use Rattle.ndc_domain.specs.declared.clusters.ClusterNo.{ClusterNo}
-use Rattle.ndc_event.specs.Outcome.{◌>>=◌}
 use Rattle.ndc_event.specs.declared.batch.Batch.{Batch}
 use Rattle.ndc_event.specs.declared.name.Name.{Name}
 use Rattle.ndc_model.proofs.ListLemmas.{set-twice, set-there}
 use Rattle.ndc_model.specs.Facts.{IsReached}
-use Rattle.ndc_model.specs.Fair.{originals_in, written_of}
+use Rattle.ndc_model.specs.Fair.{written_of}
 use Rattle.ndc_model.specs.Moves.{jobs_done}
 use Rattle.ndc_model.specs.Steps.{command_step, reset_step}
 use Rattle.ndc_model.specs.World.{Cluster, World, cell_at, cluster_at, home_at, new_cluster, with_cells}
@@ -29,14 +28,14 @@ use Rattle.ndc_laws_reached.proofs.LetterLemmas.{shard-below}
 use Rattle.ndc_laws_reached.proofs.PutLemmas.{lines_pass}
 use Rattle.ndc_laws_reached.proofs.HeldLemmas.{table-same}
 use Rattle.ndc_laws_reached.proofs.LandLemmas.{Write, cell-here, written-other, written-own}
-use Rattle.ndc_laws_reached.proofs.PairLemmas.{joined, news}
+use Rattle.ndc_laws_cells.proofs.PairLemmas.{joined, news}
 use Rattle.ndc_laws_reached.proofs.RestLemmas.{entry-kept}
-use Rattle.ndc_laws_reached.proofs.WriterLemmas.{IsWriter, WritesWith, are-few, may-add, may-parts, writable}
-use Rattle.ndc_laws_reached.specs.Adding.{MayAdd}
-use Rattle.ndc_laws_reached.specs.Entries.{AreFew, IsWrite, WritesAlone, WritesBehind}
-use Rattle.ndc_laws_reached.proofs.CommandLemmas.{command-writes}
-use Rattle.ndc_laws_reached.proofs.CountLemmas.{arrived-length, arrived-originals}
-use Rattle.ndc_laws_reached.proofs.ResetLemmas.{reset-writes}
+use Rattle.ndc_laws_reached.proofs.WriterLemmas.{IsWriter, WritesWith, are-few, may-add, writable}
+use Rattle.ndc_laws_cells.specs.Adding.{MayAdd}
+use Rattle.ndc_laws_cells.specs.Entries.{AreFew, IsWrite, WritesAlone, WritesBehind, originals_in}
+use Rattle.ndc_laws_cells.proofs.CommandLemmas.{command-writes}
+use Rattle.ndc_laws_cells.proofs.CountLemmas.{arrived-length, arrived-originals}
+use Rattle.ndc_laws_cells.proofs.ResetLemmas.{reset-writes}
 
 -- there are two batches in an entry at most
 pub news-few : (b : Batch) (second : Option Batch) → length (news b second) ≤ 2
@@ -125,20 +124,6 @@ reset-world : (header : Header) (cluster : ClusterNo) (domain workflow : Name) (
     ≡ with_cell cluster (shard_of domain workflow header.shards) (written_at (reset_at (home_at header cluster w) domain workflow event (cell_at cluster (shard_of domain workflow header.shards) w)) (cell_at cluster (shard_of domain workflow header.shards) w)) w
 unfolding reset_step jobs_done cells_after after_job
 reset-world header cluster domain workflow event w = refl
-
--- what a cluster writes where it may: the version, and what is written with it
-pub record MayHave (home : Desk) (domain workflow : Name) (cell : Cell) (next : ℕ → Result (List Entry) CommandError) (entries : List Entry) : Type 0 where
-  pub version : ℕ
-  pub with : WritesWith home domain (learned_of domain workflow cell) version
-  pub wrote : next version ≡ Ok entries
-
-pub may-have : (home : Desk) (domain workflow : Name) (cell : Cell) (next : ℕ → Result (List Entry) CommandError) (entries : List Entry) → (as_command_error (may_write home domain workflow cell) >>= next) ≡ Ok entries
-    → MayHave home domain workflow cell next entries
-may-have home domain workflow cell next entries e = by (may_write home domain workflow cell) refl e
-  where
-    by : (r : Result ℕ Refusal) → may_write home domain workflow cell ≡ r → (as_command_error r >>= next) ≡ Ok entries → MayHave home domain workflow cell next entries
-    by (Ok version) at h = record { version = version; with = may-parts home domain workflow cell version at; wrote = h }
-    by (Err why) at h = absurd (cc)
 
 module _ (header : Header) (well : IsWellFormedHeader header) (lines : ℕ) (few : lines < 100000) (w : World) (is : IsReached header lines w) (cluster : ClusterNo) (domain workflow : Name) (names : IsWorkflowAt header cluster domain workflow) where
   abbrev place : ℕ

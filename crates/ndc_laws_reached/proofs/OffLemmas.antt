@@ -18,11 +18,11 @@ use Rattle.ndc_model_sets.proofs.LearnedLemmas.{learned-reaches, reaches-has, re
 use Rattle.ndc_model_sets.proofs.Lists.{Among, among-filter, filter-among}
 use Rattle.ndc_model_sets.proofs.SetLemmas.{found-has, found-key, has-found}
 use Rattle.ndc_laws_reached.proofs.ArrivalLemmas.{key-more}
-use Rattle.ndc_laws_reached.proofs.FoundLemmas.{at-there, order-finds, there-among}
+use Rattle.ndc_laws_cells.proofs.FoundLemmas.{at-there, order-finds, there-among}
 use Rattle.ndc_laws_reached.proofs.WrittenLemmas.{names-of, own-names}
 use Rattle.ndc_laws_reached.proofs.HeldLemmas.{held-set, held-within, learned-more, new-fit, news-own-learned}
 use Rattle.ndc_laws_reached.proofs.LandLemmas.{Write, are-new, here, here-ordered, second-other}
-use Rattle.ndc_laws_reached.proofs.PairLemmas.{AreNew, entry_with, more, more-either, new-none, news}
+use Rattle.ndc_laws_cells.proofs.PairLemmas.{AreNew, entry_with, more, more-either, new-none, news}
 use Rattle.ndc_laws_reached.proofs.WroteLemmas.{old-sound}
 use Rattle.ndc_model_cells.proofs.PlaceLemmas.{set_of_workflow}
 

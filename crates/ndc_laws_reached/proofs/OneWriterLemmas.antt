@@ -22,9 +22,9 @@ use Rattle.ndc_laws_reached.proofs.WrittenLemmas.{cell-is}
 use Rattle.ndc_laws_reached.specs.OneWriter.{EachHasOneCurrent}
 use Rattle.ndc_model.specs.Reading.{learned_at}
 use Rattle.ndc_laws_reached.proofs.WriterLemmas.{within}
-use Rattle.ndc_laws_reached.specs.Past.{EventsAreOne}
-use Rattle.ndc_laws_reached.proofs.NamedLemmas.{chained}
-use Rattle.ndc_laws_reached.proofs.PastLemmas.{events_are_one}
+use Rattle.ndc_laws_cells.specs.Past.{EventsAreOne}
+use Rattle.ndc_laws_cells.proofs.NamedLemmas.{chained}
+use Rattle.ndc_laws_cells.proofs.PastLemmas.{events_are_one}
 
 pub one_chain : (header : Header) (lines : ℕ) (w : World) (domain workflow : Name) → IsReached header lines w → VersionsAreChains (written_of header domain workflow w)
 one_chain header lines w domain workflow is = (is.fair.writing.sound domain workflow).chains

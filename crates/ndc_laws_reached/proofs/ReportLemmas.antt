@@ -12,7 +12,8 @@ use Rattle.ndc_model.specs.Facts.{IsReached}
 use Rattle.ndc_model.specs.Fair.{IsShaped}
 use Rattle.ndc_model.specs.Progress.{sync_step, with_reports}
 use Rattle.ndc_model.specs.World.{Cluster, World, cluster_at, new_cluster}
-use Rattle.ndc_model.proofs.ListLemmas.{all-set, among-is, is-among}
+use Rattle.ndc_model.proofs.ListLemmas.{all-set}
+use Rattle.ndc_laws_cells.proofs.Lists.{among-is, is-among}
 use Rattle.ndc_model.proofs.WorldLemmas.{set-cases}
 use Rattle.ndc_progress.specs.declared.report.Report.{Report}
 use Rattle.ndc_model_sets.proofs.ForkLemmas.{among-cases, among-left, among-right}

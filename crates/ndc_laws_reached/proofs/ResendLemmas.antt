@@ -22,7 +22,8 @@ use Rattle.ndc_event.specs.declared.name.Name.{Name}
 use Rattle.ndc_model.specs.Facts.{IsReached}
 use Rattle.ndc_model.specs.Moves.{all_arrive, all_written, ancestors_of, arrives, jobs_done, missing_ancestors, renewed, resent, sent_again}
 use Rattle.ndc_model.specs.World.{Cluster, World, cell_at, cluster_at, home_at, new_cluster, shards_of}
-use Rattle.ndc_model.proofs.ListLemmas.{all-flat, all-map, among-is, filter-none}
+use Rattle.ndc_model.proofs.ListLemmas.{all-flat, all-map, filter-none}
+use Rattle.ndc_laws_cells.proofs.Lists.{among-is}
 use Rattle.ndc_model_sets.specs.Learned.{IsClosed, has_key}
 use Rattle.ndc_model_sets.specs.Paths.{is_wanted}
 use Rattle.ndc_model_sets.specs.Sets.{Has, IsSet, batch_at, earlier, earlier_of}
@@ -36,7 +37,7 @@ use Rattle.ndc_model_sets.proofs.SoundLemmas.{parent-alone}
 use Rattle.ndc_laws_reached.proofs.ArrivalLemmas.{none-is, own-is}
 use Rattle.ndc_laws_reached.proofs.BootstrapLemmas.{come-itself, learned-itself}
 use Rattle.ndc_laws_reached.proofs.BringLemmas.{HasCome, IsBrought, world_after}
-use Rattle.ndc_laws_reached.proofs.FoundLemmas.{find-passes, order-finds}
+use Rattle.ndc_laws_cells.proofs.FoundLemmas.{find-passes, order-finds}
 use Rattle.ndc_laws_reached.proofs.ManyLemmas.{among-flat, by-shard}
 use Rattle.ndc_laws_reached.proofs.MessageLemmas.{again-may, learned-arrived}
 use Rattle.ndc_laws_reached.proofs.WrittenLemmas.{arrived-written, carried-alone, cell-is, flat-among, has-written, in_order-among, names-of, one-carried, one-written, own-names, sound-of, wanted-some}

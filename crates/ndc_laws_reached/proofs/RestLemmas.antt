@@ -1,5 +1,5 @@
 -- An entry that is written keeps worlds as they should be.
-use Rattle.std.proofs.Common.{◌≡◌, ◌<◌, ◌≤◌, ◌+◌, ◌*◌, ◌&&◌, ◌||◌, ◌==◌, not, take, drop, ℕ, Bool, true, false, List, [], ◌∷◌, ◌++◌, length, Option, Some, None, refl, sym, ◌∙◌, subst, ap, arith, IfSome, IsSomeAnd, IsTrue}
+use Rattle.std.proofs.Common.{◌≡◌, ◌<◌, ◌≤◌, ◌+◌, ◌*◌, ◌&&◌, ◌||◌, ◌==◌, not, take, drop, ℕ, Bool, true, false, List, [], ◌++◌, length, Option, Some, None, refl, sym, ◌∙◌, subst, ap, arith, IfSome, IsSomeAnd, IsTrue}
 use Rattle.std.specs.List.{AllByRecursion, IsAmong, list_any}
 use Rattle.std.specs.Str.{bytes_eq}
 use Rattle.std.proofs.lemmas.Bool.{and_from, and_parts, eqb-true, or_left, or_right}
@@ -21,10 +21,11 @@ use Rattle.ndc_graceful.specs.declared.handover.Handover.{Handover}
 use Rattle.ndc_letters.specs.declared.letter.Letter.{Letter}
 use Rattle.ndc_letters.specs.Letters.{place_of_letter}
 use Rattle.ndc_model.specs.Facts.{HandoversFit, IsHandoverFit, IsLetterFit, IsReached, LettersFit, is_old, place_in}
-use Rattle.ndc_model.specs.Fair.{AreMembersKnown, HasRecordFrom, IsLaneTrue, is_named, originals_in, written_of}
+use Rattle.ndc_model.specs.Fair.{AreMembersKnown, HasRecordFrom, IsLaneTrue, is_named, written_of}
 use Rattle.ndc_model.specs.Queues.{is_addressed, names_cluster, needs_nothing}
 use Rattle.ndc_model.specs.World.{Link, World, cell_at, cluster_at, is_late_in, lane_in, queue_at}
-use Rattle.ndc_model.proofs.ListLemmas.{all-append, all-weaker, among-is, is-among}
+use Rattle.ndc_model.proofs.ListLemmas.{all-append, all-weaker}
+use Rattle.ndc_laws_cells.proofs.Lists.{among-is, is-among}
 use Rattle.ndc_model_sets.proofs.ForkLemmas.{among-left}
 use Rattle.ndc_model_sets.proofs.Lists.{all-among, find-among}
 use Rattle.ndc_laws_reached.proofs.FrameLemmas.{beats-alike, letters_in, named_by, records-alike, reports-alike, reports_in, tables_in}
@@ -33,10 +34,10 @@ use Rattle.ndc_laws_reached.proofs.ArrivalLemmas.{key-more}
 use Rattle.ndc_laws_reached.proofs.FitLemmas.{arrivals-kept}
 use Rattle.ndc_laws_reached.proofs.HeldLemmas.{learned-more, table-same, writers-kept}
 use Rattle.ndc_laws_reached.proofs.LandLemmas.{Write, behind, by-cell, by-part, still-shaped}
-use Rattle.ndc_laws_reached.proofs.PairLemmas.{entry_with, more-all, news}
+use Rattle.ndc_laws_cells.proofs.PairLemmas.{entry_with, more-all, news}
 use Rattle.ndc_laws_reached.proofs.SentLemmas.{messages-kept}
 use Rattle.ndc_laws_reached.proofs.WroteLemmas.{copies-kept, numbers-kept, ranges-kept, writing-kept}
-use Rattle.ndc_laws_reached.specs.Entries.{IsSecond}
+use Rattle.ndc_laws_cells.specs.Entries.{IsSecond, originals_in}
 use Rattle.ndc_laws_reached.proofs.Lists.{each-link}
 
 module _ (it : Write) where

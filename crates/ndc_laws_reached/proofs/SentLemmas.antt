@@ -31,18 +31,18 @@ use Rattle.ndc_model_sets.proofs.PathLemmas.{part-path}
 use Rattle.ndc_model_sets.proofs.SoundLemmas.{old-path}
 use Rattle.ndc_state.specs.Replay.{history_of}
 use Rattle.ndc_laws_reached.proofs.ArrivalLemmas.{key-more}
-use Rattle.ndc_laws_reached.proofs.FoundLemmas.{order-finds, there-among}
+use Rattle.ndc_laws_cells.proofs.FoundLemmas.{order-finds, there-among}
 use Rattle.ndc_laws_reached.proofs.WrittenLemmas.{arrived-written, has-written, names-of, own-names}
 use Rattle.ndc_laws_reached.proofs.FitLemmas.{among-more, carried-cases, new-among, place-new}
 use Rattle.ndc_laws_reached.proofs.HeldLemmas.{held-set, held-within, new-fit, news-learned}
 use Rattle.ndc_laws_reached.proofs.JoinedLemmas.{joined-sound, never-true}
 use Rattle.ndc_laws_reached.proofs.LandLemmas.{Write, all-here, are-new, behind, by-cell, here, here-ordered, second-other, second-own, shard-cases}
 use Rattle.ndc_laws_reached.proofs.OffLemmas.{off-same}
-use Rattle.ndc_laws_reached.proofs.PairLemmas.{AreNew, entry_with, find-more, joined, more, more-new, more-either, more-own, more-stays, news}
+use Rattle.ndc_laws_cells.proofs.PairLemmas.{AreNew, entry_with, find-more, joined, more, more-new, more-either, more-own, more-stays, news}
 use Rattle.ndc_laws_reached.proofs.WroteLemmas.{old-sound}
 use Rattle.ndc_model_cells.proofs.PlaceLemmas.{set_of_workflow}
-use Rattle.ndc_laws_reached.specs.Adding.{Added}
-use Rattle.ndc_laws_reached.specs.Entries.{IsSecond}
+use Rattle.ndc_laws_cells.specs.Adding.{Added}
+use Rattle.ndc_laws_cells.specs.Entries.{IsSecond}
 
 -- paths of a sound set stay, with an entry more
 joined-path : (all : List Batch) (b : Batch) (second : Option Batch) → IsSound all → Added all b → IfSome second (IsSecond all b) → has_key (earlier b) all ≡ true

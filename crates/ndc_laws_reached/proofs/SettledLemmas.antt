@@ -32,7 +32,7 @@ use Rattle.ndc_laws_reached.proofs.LaneLemmas.{below-among, emptied, renewed-all
 use Rattle.ndc_laws_reached.proofs.LinkLemmas.{IsLinkFit, links-fit}
 use Rattle.ndc_laws_reached.proofs.ArrivalLemmas.{own-is}
 use Rattle.ndc_laws_reached.proofs.CellLemmas.{IsKept}
-use Rattle.ndc_laws_reached.proofs.FoundLemmas.{find-passes, there-among}
+use Rattle.ndc_laws_cells.proofs.FoundLemmas.{find-passes, there-among}
 use Rattle.ndc_laws_reached.proofs.LetterLemmas.{shard-below}
 use Rattle.ndc_laws_reached.proofs.ManyLemmas.{one-cluster}
 use Rattle.ndc_laws_reached.proofs.WrittenLemmas.{has-written, lives}

@@ -25,7 +25,8 @@ use Rattle.ndc_model.specs.Facts.{IsHandoverFit, IsLetterFit, IsReached, is_old,
 use Rattle.ndc_model.specs.Fair.{AreMembersKnown, EachRecord, HasRecordFrom, IsConfigKnown, IsLaneTrue, IsOwn, IsRecordInRange, IsShaped, ends_of, is_named, primary}
 use Rattle.ndc_model.specs.Queues.{is_addressed, names_cluster, needs_nothing}
 use Rattle.ndc_model.specs.World.{Cluster, Link, World, all_clusters, cell_at, cluster_at, is_late_in, lane_in, new_cluster, newly_naming, queue_at, with_late, with_table}
-use Rattle.ndc_model.proofs.ListLemmas.{all-append, all-self, all-set, all-take, all-weaker, is-among, map-alike, any-one}
+use Rattle.ndc_model.proofs.ListLemmas.{all-append, all-self, all-set, all-take, all-weaker, map-alike, any-one}
+use Rattle.ndc_laws_cells.proofs.Lists.{is-among}
 use Rattle.ndc_model.proofs.WorldLemmas.{set-cases}
 use Rattle.ndc_model_sets.proofs.ForkLemmas.{among-left, among-right}
 use Rattle.std.proofs.lemmas.Bool.Decides.{nat_tests}

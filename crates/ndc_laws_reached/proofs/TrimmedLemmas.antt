@@ -21,7 +21,7 @@ use Rattle.ndc_model.specs.World.{Link, World, all_clusters, cell_at, changed_fi
 use Rattle.ndc_model_sets.proofs.Lists.{Among, all-among, among-filter, among-map, find-among, map-among}
 use Rattle.ndc_laws_reached.proofs.LaneLemmas.{below-among}
 use Rattle.ndc_laws_reached.proofs.LinkLemmas.{IsLinkFit, links-fit}
-use Rattle.ndc_laws_reached.proofs.FoundLemmas.{find-passes}
+use Rattle.ndc_laws_cells.proofs.FoundLemmas.{find-passes}
 use Rattle.ndc_laws_reached.proofs.ArrivalLaws.{bootstrapped_kept}
 use Rattle.ndc_laws_reached.proofs.ManyLemmas.{among-flat, one-cluster}
 use Rattle.ndc_laws_reached.specs.Trimmed.{IsLearnedOrLate, IsLearnedWhereAddressed, trimmed_of}

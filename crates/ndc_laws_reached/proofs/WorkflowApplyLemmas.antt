@@ -24,11 +24,11 @@ use Rattle.ndc_laws_reached.specs.Writing.{ApplyingKeeps, IsApplied, WritingKeep
 use Rattle.ndc_laws_reached.proofs.WrittenLemmas.{names-of}
 use Rattle.ndc_laws_reached.proofs.JoinedLemmas.{joined-length}
 use Rattle.ndc_laws_reached.proofs.MoveLemmas.{Leaves, command-kept, entry-leaves, reset-kept, same-world}
-use Rattle.ndc_laws_reached.proofs.PairLemmas.{news}
+use Rattle.ndc_laws_cells.proofs.PairLemmas.{news}
 use Rattle.ndc_laws_reached.proofs.WriterLemmas.{WritesWith, are-few, may-add, may-parts}
-use Rattle.ndc_laws_reached.specs.Entries.{IsWrite}
-use Rattle.ndc_laws_reached.proofs.MayLemmas.{tip-all}
-use Rattle.ndc_laws_reached.proofs.ReapplyLemmas.{reapplication-writes}
+use Rattle.ndc_laws_cells.specs.Entries.{IsWrite}
+use Rattle.ndc_laws_cells.proofs.MayLemmas.{tip-all}
+use Rattle.ndc_laws_cells.proofs.ReapplyLemmas.{reapplication-writes}
 
 module _ (header : Header) (lines : ℕ) (w : World) (is : IsReached header lines w) (cluster : ClusterNo) (known : IsCluster header cluster) (b : Batch)
     (below : shard_of b.domain b.workflow header.shards < header.shards) (room : count_in header b.domain b.workflow w + 1 ≤ 2 * lines) where

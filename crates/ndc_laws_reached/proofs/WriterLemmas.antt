@@ -1,20 +1,17 @@
 -- In a world that is as it should be, a cluster that may write has learned all that was written with its version, and nothing later.
-use Rattle.std.proofs.Common.{◌≡◌, ◌<◌, ◌≤◌, not, nat_lt, ℕ, Bool, true, false, List, [], length, ◌⊎◌, inl, inr, Option, Some, None, Result, Ok, Err, refl, sym, ◌∙◌, subst, ap, arith, if◌then◌else◌}
+pub use Rattle.ndc_laws_cells.proofs.VersionLemmas.{IsWriter, WritesWith, may-parts}
+use Rattle.std.proofs.Common.{◌≡◌, ◌<◌, ◌≤◌, ℕ, true, List, [], length, ◌⊎◌, inl, inr, Some, sym, ◌∙◌, subst, ap, arith}
 use Rattle.std.specs.List.{flat_map}
-use Rattle.std.proofs.lemmas.Bool.Decides.{nat_tests}
 use Rattle.ndc_script_types.specs.WellFormed.{IsCluster}
 use Rattle.ndc_script_types.specs.declared.script.Header.{Header}
 use Rattle.ndc_model_cells.specs.Cells.{Cell, arrived_of, both, learned_of}
 use Rattle.ndc_model_cells.specs.Places.{is_of}
 use Rattle.ndc_model_cells.specs.Shards.{shard_of}
-use Rattle.ndc_model_cells.specs.Writing.{Entry, Desk, greatest_version, is_writer, may_write, may_write_by}
+use Rattle.ndc_model_cells.specs.Writing.{Entry}
 use Rattle.ndc_model_cells.proofs.PlaceLemmas.{set_of_workflow}
-use Rattle.ndc_command.specs.declared.refusal.Refusal.{Refusal}
-use Rattle.ndc_command.specs.declared.refusal.Refusal.TheVariants as refusal
 use Rattle.ndc_domain.specs.Clusters.{count_of, writer_of}
 use Rattle.ndc_domain.specs.Records.{IsRecord, record_of}
 use Rattle.ndc_domain.specs.declared.clusters.ClusterNo.{ClusterNo}
-use Rattle.ndc_domain.specs.declared.record.DomainRecord.{DomainRecord}
 use Rattle.ndc_event.specs.declared.batch.Batch.{Batch}
 use Rattle.ndc_event.specs.declared.name.Name.{Name}
 use Rattle.ndc_model.specs.Facts.{IsReached}
@@ -28,52 +25,11 @@ use Rattle.ndc_model_sets.proofs.BranchLemmas.{has-among}
 use Rattle.ndc_model_sets.proofs.LearnedLemmas.{learned-reaches, learned_closed, reaches-has}
 use Rattle.ndc_model_sets.proofs.Lists.{Among, all-among, filter-among, find-among}
 use Rattle.ndc_text.specs.Ranges.{InRange}
-use Rattle.ndc_laws_reached.proofs.ManyLemmas.{one-cluster}
 use Rattle.ndc_laws_reached.proofs.WrittenLemmas.{arrived-written, cell-is, flat-among, has-written, in_order-among, names-of}
 use Rattle.ndc_laws_reached.proofs.LandLemmas.{IsWritable}
-use Rattle.ndc_laws_reached.specs.Adding.{MayAdd}
-use Rattle.ndc_laws_reached.specs.Entries.{AreFew, IsWrite}
-use Rattle.ndc_laws_reached.proofs.MayLemmas.{version-most}
-
--- the version is that of the cluster's record of the domain, and its own
-pub record IsWriter (home : Desk) (domain : Name) (version : ℕ) : Type 0 where
-  pub found : DomainRecord
-  pub has : record_of home.table domain ≡ Some found
-  pub version_is : found.version ≡ version
-  pub writer : writer_of home.clusters version ≡ Some home.me
-
--- with what a cluster may write: it is the writer, and no greater version is learned
-pub record WritesWith (home : Desk) (domain : Name) (batches : List Batch) (version : ℕ) : Type 0 where
-  pub by_record : IsWriter home domain version
-  pub most : greatest_version batches ≤ version
-
--- the answer by whether the writer is this cluster, and whether a greater version is learned
-abbrev tested : Bool → Bool → ℕ → ℕ → Result ℕ Refusal
-tested mine late version greatest = if not mine then Err (refusal.NotActive version) else if late then Err (refusal.Behind greatest) else Ok version
-
-pub may-parts : (home : Desk) (domain workflow : Name) (cell : Cell) (version : ℕ) → may_write home domain workflow cell ≡ Ok version → WritesWith home domain (learned_of domain workflow cell) version
-unfolding may_write
-may-parts home domain workflow cell version e = by (record_of home.table domain) refl e
-  where
-    batches : List Batch
-    batches = learned_of domain workflow cell
-
-    writer-is : (o : Option ClusterNo) → is_writer home.me o ≡ true → o ≡ Some home.me
-    writer-is None w = absurd (cc)
-    writer-is (Some writer) w = ap (λ (c : ClusterNo). Some c) (one-cluster writer home.me w)
-
-    tests : (one : DomainRecord) → record_of home.table domain ≡ Some one → (mine : Bool) → is_writer home.me (writer_of home.clusters one.version) ≡ mine → (late : Bool) → nat_lt one.version (greatest_version batches) ≡ late
-        → tested mine late one.version (greatest_version batches) ≡ Ok version → WritesWith home domain batches version
-    tests one at true mine true l h = absurd (cc)
-    tests one at true mine false l h =
-        let same : one.version ≡ version = cc in
-        let most : greatest_version batches ≤ one.version = grind (arith, nat_tests) in
-        record { by_record = record { found = one; has = at; version_is = same; writer = ap (writer_of home.clusters) (sym same) ∙ writer-is (writer_of home.clusters one.version) mine }; most = subst (λ v. greatest_version batches ≤ v) same most }
-    tests one at false mine late l h = absurd (cc)
-
-    by : (o : Option DomainRecord) → record_of home.table domain ≡ o → may_write_by home o batches ≡ Ok version → WritesWith home domain batches version
-    by None at h = absurd (cc)
-    by (Some one) at h = tests one at (is_writer home.me (writer_of home.clusters one.version)) refl (nat_lt one.version (greatest_version batches)) refl h
+use Rattle.ndc_laws_cells.specs.Adding.{MayAdd}
+use Rattle.ndc_laws_cells.specs.Entries.{AreFew, IsWrite}
+use Rattle.ndc_laws_cells.proofs.MayLemmas.{version-most}
 
 module _ (header : Header) (lines : ℕ) (w : World) (is : IsReached header lines w) (cluster : ClusterNo) (known : IsCluster header cluster) (domain workflow : Name)
     (below : shard_of domain workflow header.shards < header.shards) where

@@ -1,10 +1,10 @@
 -- What was written in a world that is as it should be.
+pub use Rattle.ndc_laws_cells.proofs.Lists.{flat-among}
+pub use Rattle.ndc_laws_cells.proofs.NameLemmas.{names-of, own-names, wanted-some}
 use Rattle.std.proofs.Common.{◌≡◌, ℕ, ◌<◌, Bool, true, false, if◌then◌else◌, List, [], ◌∷◌, length, Option, Some, None, ◌⊎◌, inl, inr, refl, sym, ◌∙◌, subst, ap, arith, true≢false}
 use Rattle.std.specs.List.{filter, flat_map, fold}
 use Rattle.std.specs.Prelude.{is_some}
-use Rattle.std.specs.Str.{bytes_eq}
-use Rattle.std.proofs.lemmas.Bool.{and_from, and_parts}
-use Rattle.std.proofs.lemmas.Slice.Eq.{bytes_eq-Decides}
+use Rattle.std.proofs.lemmas.Bool.{and_parts}
 use Rattle.ndc_script_types.specs.WellFormed.{IsCluster}
 use Rattle.ndc_script_types.specs.declared.script.Header.{Header}
 use Rattle.ndc_model_cells.specs.declared.place.Place.{Place}
@@ -15,9 +15,9 @@ use Rattle.ndc_domain.specs.Clusters.{count_of}
 use Rattle.ndc_domain.specs.declared.clusters.ClusterNo.{ClusterNo}
 use Rattle.ndc_event.specs.declared.batch.Batch.{Batch}
 use Rattle.ndc_event.specs.declared.key.BatchKey.{BatchKey}
-use Rattle.ndc_event.specs.declared.name.Name.{Name}
 use Rattle.ndc_model.specs.Facts.{IsReached}
-use Rattle.ndc_model.specs.Fair.{IsOwn, goes_on, written_of}
+use Rattle.ndc_model.specs.Fair.{IsOwn, written_of}
+use Rattle.ndc_laws_cells.specs.Entries.{goes_on}
 use Rattle.ndc_model.specs.Moves.{all_written}
 use Rattle.ndc_model.specs.World.{World, all_clusters, cell_at, cluster_at}
 use Rattle.ndc_model.proofs.FairLemmas.{clusters-among}
@@ -28,16 +28,7 @@ use Rattle.ndc_model_sets.proofs.ForkLemmas.{among-cases}
 use Rattle.ndc_model_sets.proofs.KeyLemmas.{same-keys}
 use Rattle.ndc_model_sets.proofs.Lists.{Among, all-among, all-from, among-filter}
 use Rattle.ndc_model_sets.proofs.SoundLemmas.{faultless-back}
-use Rattle.ndc_laws_reached.proofs.FoundLemmas.{at-there, in_order-ordered, order-finds, there-among}
-
--- what stands in a flat map stands in one of its parts
-pub flat-among : {X Y : Type 0} (f : X → List Y) (xs : List X) (y : Y) → Among y (flat_map f xs) → (x : X) × Among x xs × Among y (f x)
-flat-among f [] y none = absurd none
-flat-among {X = X} {Y = Y} f (x ∷ xs) y among = by (among-cases y (f x) (flat_map f xs) among) (flat-among f xs y)
-  where
-    by : Among y (f x) ⊎ Among y (flat_map f xs) → (Among y (flat_map f xs) → (z : X) × Among z xs × Among y (f z)) → (z : X) × Among z (x ∷ xs) × Among y (f z)
-    by (inl front) rest = (x, inl refl, front)
-    by (inr later) rest = let r = rest later in (r.0, inr r.1, r.2)
+use Rattle.ndc_laws_cells.proofs.FoundLemmas.{at-there, in_order-ordered, order-finds, there-among}
 
 -- what was put into order was there
 pub among-placed : (new x : Batch) (bs : List Batch) → Among x (placed new bs) → (x ≡ new) ⊎ Among x bs
@@ -67,20 +58,6 @@ in_order-among (b ∷ bs) front x among = by (in_order-among bs (placed b front)
     by : Among x (placed b front) ⊎ Among x bs → Among x front ⊎ Among x (b ∷ bs)
     by (inl there) = old (among-placed b x front there)
     by (inr later) = inr (inr later)
-
--- names of a batch of a workflow
-pub names-of : (domain workflow : Name) (b : Batch) → is_of domain workflow b ≡ true → (b.domain ≡ domain) × (b.workflow ≡ workflow)
-names-of domain workflow b own =
-    let p = and_parts (bytes_eq b.domain domain) (bytes_eq b.workflow workflow) own in
-    ((bytes_eq-Decides b.domain domain).0 p.0, (bytes_eq-Decides b.workflow workflow).0 p.1)
-
-pub own-names : (b : Batch) → is_of b.domain b.workflow b ≡ true
-own-names b = and_from (bytes_eq b.domain b.domain) (bytes_eq b.workflow b.workflow) ((bytes_eq-Decides b.domain b.domain).1 refl) ((bytes_eq-Decides b.workflow b.workflow).1 refl)
-
--- a wanted batch has the key that is wanted
-pub wanted-some : (o : Option BatchKey) (b : Batch) → is_wanted o b ≡ true → o ≡ Some b.key
-wanted-some None b w = absurd (true≢false (sym w))
-wanted-some (Some key) b w = ap (λ (k : BatchKey). Some k) (sym (same-keys b.key key w))
 
 module _ (header : Header) (lines : ℕ) (w : World) (is : IsReached header lines w) (shard : ℕ) (below : shard < header.shards) where
   abbrev all : List Batch

@@ -8,9 +8,9 @@ use Rattle.ndc_model_cells.specs.Shards.{shard_of}
 use Rattle.ndc_event.specs.declared.batch.Batch.{Batch}
 use Rattle.ndc_event.specs.declared.name.Name.{Name}
 use Rattle.ndc_model.specs.Facts.{WritingIsInRange}
-use Rattle.ndc_model.specs.Fair.{AreNumbersSmall, CopiesNameOriginals, NumbersAreSmall, WritingIsSound, goes_on, originals_in, places_written, written_of}
+use Rattle.ndc_model.specs.Fair.{AreNumbersSmall, CopiesNameOriginals, NumbersAreSmall, WritingIsSound, places_written, written_of}
 use Rattle.ndc_model.specs.World.{World, all_clusters, cell_at}
-use Rattle.ndc_model.proofs.LetterLemmas.{is_at-own}
+use Rattle.ndc_laws_cells.proofs.FoundLemmas.{is_at-own}
 use Rattle.ndc_model_sets.specs.Sets.{Has}
 use Rattle.ndc_model_sets.specs.Sound.{CopiesNamed, IsSound}
 use Rattle.ndc_model_sets.proofs.Lists.{Among, map-among}
@@ -18,10 +18,10 @@ use Rattle.ndc_text.specs.Ranges.{InRange}
 use Rattle.ndc_laws_reached.proofs.ApartLemmas.{Differ, differ-from, differ-more, map-flat, more-mapped, pairs-from}
 use Rattle.ndc_laws_reached.proofs.JoinedLemmas.{CountsFit, joined-all, joined-counts, joined-either, joined-named, joined-numbers, joined-sound}
 use Rattle.ndc_laws_reached.proofs.LandLemmas.{Write, are-new, behind, flat-found, flat-here, flat-there, here, here-ordered, written-cases}
-use Rattle.ndc_laws_reached.proofs.OrderLemmas.{IsMore}
-use Rattle.ndc_laws_reached.proofs.PairLemmas.{AreNew, joined, new-none, news, second-apart}
-use Rattle.ndc_laws_reached.specs.Entries.{IsSecond}
-use Rattle.ndc_laws_reached.proofs.NamedLemmas.{either-way}
+use Rattle.ndc_laws_cells.proofs.OrderLemmas.{IsMore}
+use Rattle.ndc_laws_cells.proofs.PairLemmas.{AreNew, joined, new-none, news, second-apart}
+use Rattle.ndc_laws_cells.specs.Entries.{IsSecond, goes_on, originals_in}
+use Rattle.ndc_laws_cells.proofs.NamedLemmas.{either-way}
 
 -- something is found at the place of a batch that is there
 pub there-some : (bs : List Batch) (b : Batch) → Among b bs → batch_there bs (place_of b) ≡ None → ⊥

@@ -1,9 +1,6 @@
 pub mod Laws
 pub mod Writing
 pub mod Tables
-pub mod Adding
-pub mod Entries
-pub mod Past
 pub mod OneWriter
 pub mod Sometime
 pub mod Trimmed

@@ -1,5 +1,5 @@
 -- What lines that write, and reapplication in one workflow, are to keep.
-use Rattle.std.specs.Prelude.{◌≡◌, ℕ, ◌+◌, ◌*◌, ◌<◌, ◌≤◌, false, List, length, slice_set}
+use Rattle.std.specs.Prelude.{◌≡◌, ℕ, ◌+◌, ◌*◌, ◌<◌, ◌≤◌, false, length, slice_set}
 use Rattle.ndc_script_types.specs.WellFormed.{IsCluster, IsWellFormedAct}
 use Rattle.ndc_script_types.specs.declared.script.Act.TheVariants as act
 use Rattle.ndc_script_types.specs.declared.script.Header.{Header}

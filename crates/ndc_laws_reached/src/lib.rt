@@ -12,5 +12,4 @@ pub mod round_laws;
 pub mod settled_laws;
 pub mod table_laws;
 pub mod trim_laws;
-pub mod write_laws;
 pub mod writing_laws;

@@ -13,7 +13,7 @@ ghost use Rattle.ndc_model.specs.World.{World};
 ghost use Rattle.ndc_model_sets.specs.Learned.{IsClosed, IsPart};
 ghost use Rattle.ndc_model_sets.specs.Sets.{IsSet};
 ghost use Rattle.ndc_model_sets.specs.Sound.{IsSound, OriginsDiffer, VersionsAreChains};
-ghost use Rattle.ndc_laws_reached.specs.Past.{EventsAreOne};
+ghost use Rattle.ndc_laws_cells.specs.Past.{EventsAreOne};
 
 /// All batches of one run and one version form one chain, whichever clusters wrote: of two of them, the one with the
 /// smaller task is on the path to the other.

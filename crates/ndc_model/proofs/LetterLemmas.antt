@@ -1,27 +1,20 @@
 -- A damaged message is read as what it was exactly where no byte is missing.
 use Rattle.std.proofs.Common.{◌≡◌, ℕ, ◌<◌, ◌≤◌, Bool, true, false, not, nat_lt, [], ◌++◌, length, take, drop, Result, Ok, Err, None, if◌then◌else◌, refl, ap, sym, ◌∙◌, arith, length-drop}
-use Rattle.std.proofs.lemmas.Bool.{and_from}
 use Rattle.std.proofs.lemmas.Bool.Decides.{nat_tests}
 use Rattle.std.proofs.lemmas.List.{take-append-drop, take_all}
-use Rattle.std.proofs.lemmas.Slice.Eq.{bytes_eq-Decides}
 use Rattle.ndc_event.specs.Batch.{fault_of}
 use Rattle.ndc_event.specs.declared.batch.Batch.{Batch}
-use Rattle.ndc_model_sets.proofs.KeyLemmas.{key_eq-self}
 use Rattle.ndc_text.proofs.Exact.{found, no_front, text_again}
 use Rattle.ndc_text.specs.Ranges.{InRange}
 use Rattle.ndc_text.specs.Read.{read_of}
 use Rattle.ndc_text.specs.Text.{batch_text}
 use Rattle.ndc_text.specs.declared.error.TextError.{TextError}
 use Rattle.ndc_text.specs.declared.form.TextForm.TheVariants.{Two}
-use Rattle.ndc_model_cells.specs.Places.{is_at, place_of}
+use Rattle.ndc_model_cells.specs.Places.{place_of}
 use Rattle.ndc_domain.specs.declared.clusters.ClusterNo.{ClusterNo}
+use Rattle.ndc_laws_cells.proofs.FoundLemmas.{is_at-own}
 use Rattle.ndc_letters.specs.Letters.{is_whole, letter_of, taken_as, taken_of, was_whole}
 use Rattle.ndc_letters.specs.declared.letters.Taken.TheVariants.{Aside, Whole}
-
--- a batch is at its place
-pub is_at-own : (b : Batch) → is_at (place_of b) b ≡ true
-is_at-own b =
-    and_from _ _ (and_from _ _ ((bytes_eq-Decides b.domain b.domain).1 refl) ((bytes_eq-Decides b.workflow b.workflow).1 refl)) (key_eq-self b.key)
 
 -- a front of a batch text that is read as a batch is the whole text
 front-whole : (b c : Batch) (cut : ℕ) → InRange b → read_of Two (take cut (batch_text b)) ≡ Ok c → length (batch_text b) ≤ cut

@@ -3,6 +3,8 @@ use Rattle.std.proofs.Common.{◌≡◌, ℕ, zero, suc, ◌+◌, ◌<◌, ◌�
 use Rattle.std.specs.List.{AllByRecursion, IsAmong, filter, flat_map, fold, prefix_len, reduce, All, list_any}
 use Rattle.std.specs.Prelude.{find, unwrap_or, IsSomeAnd}
 use Rattle.std.proofs.Math.Nat.{min-le_left, min-le_right}
+pub use Rattle.ndc_laws_cells.proofs.Lists.{among-is, is-among}
+use Rattle.ndc_laws_cells.proofs.Lists.{among-more}
 use Rattle.ndc_model.specs.Moves.{map_from}
 use Rattle.ndc_model.specs.World.{changed_first}
 use Rattle.ndc_model_sets.proofs.Lists.{Among, filter-cases}
@@ -93,25 +95,9 @@ prefix-passes {X = X} p (x ∷ xs) = by (p x) refl (prefix-passes p xs)
     by false fails rest = tt
 
 -- each item of a list is one of its items
-among-more : {X : Type 0} (y : X) (xs : List X) (x : X) → IsAmong xs x → IsAmong (y ∷ xs) x
-among-more y xs x among = (suc among.0, (omega (arith, among.1.0), among.1.1))
-
 pub all-self : {X : Type 0} (xs : List X) → AllByRecursion (IsAmong xs) xs
 all-self [] = tt
 all-self (x ∷ xs) = ((zero, (omega arith, refl)), all-weaker (IsAmong xs) (IsAmong (x ∷ xs)) (among-more x xs) xs (all-self xs))
-
-pub is-among : {X : Type 0} (xs : List X) (x : X) → IsAmong xs x → Among x xs
-is-among {X = X} xs x among = at xs among.0 among.1.0 among.1.1
-  where
-    at : (ys : List X) (i : ℕ) → i < length ys → x ≡ slice_index_or ys i x → Among x ys
-    at [] i below same = absurd (omega (arith, below))
-    at (y ∷ ys) zero below same = inl same
-    at (y ∷ ys) (suc i) below same = inr (at ys i (omega (arith, below)) same)
-
-pub among-is : {X : Type 0} (xs : List X) (x : X) → Among x xs → IsAmong xs x
-among-is [] x none = absurd none
-among-is (y ∷ ys) x (inl same) = (zero, (omega arith, same))
-among-is (y ∷ ys) x (inr among) = among-more y ys x (among-is ys x among)
 
 -- what is found at a place has what all have
 pub all-got : {X : Type 0} (P : X → Type 0) (xs : List X) (i : ℕ) (x : X) → slice_get xs i ≡ Some x → AllByRecursion P xs → P x

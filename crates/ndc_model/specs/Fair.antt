@@ -18,10 +18,9 @@ use Rattle.ndc_model_cells.specs.Arrival.{has_arrived}
 use Rattle.ndc_model_cells.specs.Cells.{Cell, both, carries, learned_of, own_message, put_off_in}
 use Rattle.ndc_model_cells.specs.Places.{AreInOrder, batch_there, is_of, place_of}
 use Rattle.ndc_model_cells.specs.Shards.{shard_of}
-use Rattle.ndc_model_cells.specs.Writing.{goes_on_as}
 use Rattle.ndc_model.specs.Moves.{all_written, messages_among}
 use Rattle.ndc_model.specs.Queues.{Lane, names_cluster, needs_nothing}
-use Rattle.ndc_index.specs.Texts.{count_kinds, is_original}
+use Rattle.ndc_laws_cells.specs.Entries.{goes_on, originals_in}
 use Rattle.ndc_queue.specs.Levels.{AreLevels}
 use Rattle.ndc_model.specs.World.{Link, World, all_clusters, cell_at, cluster_at, is_late_in, lane_in, opening_world, queue_at, trimmed_at}
 
@@ -40,10 +39,6 @@ EachCell header w holds = (cluster : ClusterNo) (shard : ℕ) → IsCluster head
 -- something holds of each record of each cluster's table
 abbrev pub EachRecord : Header → World → (DomainRecord → Type 0) → Type 0
 EachRecord header w holds = (cluster : ClusterNo) → IsCluster header cluster → AllByRecursion holds (cluster_at cluster w).table
-
--- whether a batch ends by going on as another run
-abbrev pub goes_on : Batch → Bool
-goes_on b = is_some (goes_on_as (map (λ event. event.kind) b.events))
 
 -- no two writings are of one place; what the clusters wrote of a workflow is sound, a batch carries one other exactly where it goes on as another run,
 -- and a carried one does not go on itself
@@ -142,10 +137,6 @@ pub record RecordsAgree (header : Header) (lines : ℕ) (w : World) : Type 0 whe
   pub ranges : EachRecord header w (IsRecordInRange header lines)
   pub known : EachRecord header w (IsConfigKnown (cluster_at primary w).table)
   pub days : (one two : ClusterNo) → IsCluster header one → IsCluster header two → DaysAgree (cluster_at one w).table (cluster_at two w).table
-
--- how many original signals batches hold
-abbrev pub originals_in : List Batch → ℕ
-originals_in batches = count_kinds is_original (flat_map (λ b. b.events) batches)
 
 -- what was written of a workflow is bounded by the lines run: tasks by batches, batches and original signals by lines; no batch is longer than a history may be with what goes before and behind a command
 pub record AreNumbersSmall (lines : ℕ) (batches : List Batch) : Type 0 where

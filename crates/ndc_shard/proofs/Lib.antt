@@ -10,3 +10,5 @@ pub mod ReadingLemmas
 pub mod StayLemmas
 pub mod SentLemmas
 pub mod LoneLemmas
+pub mod KeepingLemmas
+pub mod KeepLaws

@@ -3,3 +3,4 @@ pub mod Worked
 pub mod Lacking
 pub mod Answers
 pub mod Sent
+pub mod Orderly

@@ -1,5 +1,5 @@
 -- Words for a shard.
-use Rattle.std.specs.Prelude.{◌≡◌, List, [], ◌∷◌, None, Result, Ok, Err}
+use Rattle.std.specs.Prelude.{◌≡◌, ◌≤◌, ℕ, List, [], ◌∷◌, None, Result, Ok, Err}
 use Rattle.std.specs.List.{AllByRecursion}
 use Rattle.ndc_model_cells.specs.declared.job.JobReply.{JobReply}
 use Rattle.ndc_model_cells.specs.declared.job.Outcome.TheVariants as outcome
@@ -13,6 +13,7 @@ use Rattle.ndc_event.specs.Outcome.{◌>>=◌}
 use Rattle.ndc_event.specs.declared.batch.Batch.{Batch}
 use Rattle.ndc_event.specs.declared.name.Name.{Name}
 use Rattle.ndc_model_sets.specs.Sound.{IsSound}
+use Rattle.ndc_model_cells.specs.Allowed.{HasRoom, MayTake}
 use Rattle.ndc_model_cells.specs.Messages.{carrying}
 use Rattle.ndc_shard_workflows.specs.Workflow.{IsWorkflow}
 use Rattle.ndc_model_cells.specs.Workflow.{workflow_of}
@@ -27,6 +28,12 @@ pub record IsFit (domain workflow : Name) (cell : Cell) : Type 0 where
   pub cell_is : IsCell cell
   pub workflow_is : IsWorkflow (workflow_of domain workflow cell)
   pub sound : IsSound (learned_of domain workflow cell)
+
+-- a command or a reset may write to a workflow of a cell with this limit
+pub record MayBeTaken (limit : ℕ) (domain workflow : Name) (written : Result (List Entry) CommandError) (cell : Cell) : Type 0 where
+  pub limit_most : limit ≤ 204800
+  pub room : HasRoom (learned_of domain workflow cell)
+  pub takes : MayTake domain workflow written cell
 
 -- entries may be written one after the other
 abbrev pub AreWritable : List Entry → Cell → Type 0

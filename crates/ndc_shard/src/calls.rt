@@ -47,7 +47,7 @@ impl Shard {
     ghost use Rattle.std.specs.Prelude.{◌≡◌, ◌≢◌, map, IfOk, IfErr, OnOk, OnErr};
     ghost use Rattle.ndc_cluster_rounds.specs.Homes.{desk_of};
     ghost use Rattle.ndc_event.specs.Outcome.{Gives};
-    ghost use Rattle.ndc_model_cells.specs.Allowed.{MayArrive, MayBeAsked, MayReapply};
+    ghost use Rattle.ndc_laws_cells.specs.Keeping.{CanArrive, CanWrite, CanWriteEach};
     ghost use Rattle.ndc_model_cells.specs.Arrival.{arrival_of, arrived_at};
     ghost use Rattle.ndc_model_cells.specs.Jobs.{reapplied_in, reapplied_now, workflows_of, written_at};
     ghost use Rattle.ndc_model_cells.specs.Writing.{command_of, reset_at};
@@ -88,11 +88,12 @@ impl Shard {
         command: &Command,
         steps: &mut Steps<L>,
     ) -> Result<Written, ShardError>
-        requires { MayBeAsked (desk_of home.now table.now) domain.now workflow.now (command_of (desk_of home.now table.now) domain.now workflow.now command.now self.old) self.old }
+        requires { CanWrite (desk_of home.now table.now) domain.now workflow.now self.old }
         ensures written { Gives Memory (λ written. written) result (answer_of (command_of (desk_of home.now table.now) domain.now workflow.now command.now self.old)) }
         ensures cell { OnOk result (self.new ≡ written_at (command_of (desk_of home.now table.now) domain.now workflow.now command.now self.old) self.old) }
         ensures unchanged { OnErr result (self.new ≡ self.old) }
     {
+        self.is_in_order();
         let desk = Desk::new(home.clusters, home.me, home.limit, table);
         let batches = self.write_command(&desk, domain, workflow, command, steps)?;
         keys_of(batches.as_slice())
@@ -110,11 +111,12 @@ impl Shard {
         event: u64,
         steps: &mut Steps<L>,
     ) -> Result<Written, ShardError>
-        requires { MayBeAsked (desk_of home.now table.now) domain.now workflow.now (reset_at (desk_of home.now table.now) domain.now workflow.now event self.old) self.old }
+        requires { CanWrite (desk_of home.now table.now) domain.now workflow.now self.old }
         ensures written { Gives Memory (λ written. written) result (answer_of (reset_at (desk_of home.now table.now) domain.now workflow.now event self.old)) }
         ensures cell { OnOk result (self.new ≡ written_at (reset_at (desk_of home.now table.now) domain.now workflow.now event self.old) self.old) }
         ensures refused { IfErr result (λ error. error ≢ Memory → self.new ≡ self.old) }
     {
+        self.is_in_order();
         let desk = Desk::new(home.clusters, home.me, home.limit, table);
         let batches = self.write_reset(&desk, domain, workflow, event, steps)?;
         keys_of(batches.as_slice())
@@ -126,10 +128,11 @@ impl Shard {
         message: &Message,
         steps: &mut Steps<L>,
     ) -> Result<Arrived, AllocError>
-        requires { MayArrive message.now self.old }
+        requires { CanArrive message.now self.old }
         ensures arrived { IfOk result (λ arrived. arrived ≡ arrival_of message.now self.old) }
         ensures cell { OnOk result (self.new ≡ arrived_at message.now self.old) }
     {
+        self.is_in_order();
         let arrival = self.take_in(message.try_copy()?, steps)?;
         Ok(arrival.outcome)
     }
@@ -142,10 +145,11 @@ impl Shard {
         table: &DomainTable,
         steps: &mut Steps<L>,
     ) -> Result<Vec<(Name, Name, BatchKey)>, AllocError>
-        requires { MayReapply (desk_of home.now table.now) (workflows_of self.old.arrived) self.old }
+        requires { CanWriteEach (desk_of home.now table.now) self.old }
         ensures cell { OnOk result (self.new ≡ reapplied_in (desk_of home.now table.now) (workflows_of self.old.arrived) self.old) }
         ensures places { IfOk result (λ places. places.items ≡ map names_of (reapplied_now (desk_of home.now table.now) (workflows_of self.old.arrived) self.old)) }
     {
+        self.is_in_order();
         let desk = Desk::new(home.clusters, home.me, home.limit, table);
         let batches = self.apply_again(&desk, steps)?;
         places_of(self.alloc(), batches.as_slice())

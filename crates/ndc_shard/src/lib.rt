@@ -6,6 +6,7 @@ mod calls;
 mod cell;
 mod error;
 mod jobs;
+pub mod keeping_laws;
 mod lacking;
 mod shard;
 mod showing;

@@ -55,12 +55,17 @@ impl Shard {
     ghost use Rattle.ndc_model_sets.specs.Branches.{workflow_tip};
     ghost use Rattle.ndc_model_sets.specs.Current.{strays};
     ghost use Rattle.ndc_model_sets.specs.Learned.{has_key};
-    ghost use Rattle.ndc_shard.specs.Shards.{AreLone, AreWritable, IsFit, batches_written, having_written};
-    ghost use Rattle.ndc_model_cells.specs.Allowed.{HasRoom, MayArrive, MayBeAsked, MayReapply, MayWriteAll};
+    ghost use Rattle.ndc_shard.specs.Shards.{AreLone, AreWritable, IsFit, MayBeTaken, batches_written, having_written};
+    ghost use Rattle.ndc_model_cells.specs.Allowed.{HasRoom, MayArrive, MayReapply, MayWriteAll};
     ghost use Rattle.ndc_model_cells.specs.Messages.{carrying};
     ghost use Rattle.ndc_model_cells.specs.Workflow.{workflow_of};
     ghost use Rattle.ndc_shard_workflows.specs.Reapplied.{MayReapplyAmong, reapplied_among, reapplied_at, written_among};
     ghost use Rattle.ndc_shard_workflows.specs.Writing.{MayBeWritten};
+    ghost use Rattle.std.specs.List.{AllByRecursion};
+    ghost use Rattle.ndc_event.specs.declared.name.Name.{Name as Text};
+    ghost use Rattle.ndc_model_cells.specs.Cells.{IsCell};
+    ghost use Rattle.ndc_shard.specs.Sent.{HasCarrier};
+    ghost use Rattle.ndc_shard_workflows.specs.Workflow.{IsWorkflow};
 
     /// Nothing has happened.
     pub fn new(alloc: Global, _home: &Home) -> Result<Shard, AllocError>
@@ -83,6 +88,15 @@ impl Shard {
         ensures { having_written self.now.written result.now ≡ self.now }
     {
         &self.workflows
+    }
+
+    /// It is in order, and so is each workflow of it; no batch has arrived without its carrier. Takes no time.
+    pub fn is_in_order(&self)
+        ensures cell { IsCell self.now }
+        ensures workflows { (domain workflow : Text) → IsWorkflow (workflow_of domain workflow self.now) }
+        ensures carried { AllByRecursion (HasCarrier self.now) self.now.arrived }
+    {
+        self.workflows.is_in_order();
     }
 
     /// How many messages it has written.
@@ -263,7 +277,7 @@ impl Shard {
         command: &Command,
         steps: &mut Steps<L>,
     ) -> Result<Batches, CommandError>
-        requires { MayBeAsked desk.now domain.now workflow.now (command_of desk.now domain.now workflow.now command.now self.old) self.old }
+        requires { MayBeTaken desk.now.limit domain.now workflow.now (command_of desk.now domain.now workflow.now command.now self.old) self.old }
         ensures batches { Gives Memory (λ batches. batches) result (batches_written (command_of desk.now domain.now workflow.now command.now self.old)) }
         ensures some { IfOk result (λ batches. 0 < length batches) }
         ensures cell { OnOk result (self.new ≡ written_at (command_of desk.now domain.now workflow.now command.now self.old) self.old) }
@@ -286,7 +300,7 @@ impl Shard {
         event: u64,
         steps: &mut Steps<L>,
     ) -> Result<Batches, CommandError>
-        requires { MayBeAsked desk.now domain.now workflow.now (reset_at desk.now domain.now workflow.now event self.old) self.old }
+        requires { MayBeTaken desk.now.limit domain.now workflow.now (reset_at desk.now domain.now workflow.now event self.old) self.old }
         ensures batches { Gives Memory (λ batches. batches) result (batches_written (reset_at desk.now domain.now workflow.now event self.old)) }
         ensures cell { OnOk result (self.new ≡ written_at (reset_at desk.now domain.now workflow.now event self.old) self.old) }
         ensures refused { IfErr result (λ error. error ≢ Memory → self.new ≡ self.old) }

@@ -108,10 +108,10 @@ module _ (batches : List Batch) (version : ℕ) (domain workflow : Name) where
   abbrev key : BatchKey
   key = next_key version batches
 
-  pub command-ids : (limit : ℕ) (command : Command) → 2 ≤ limit → IfOk (command_entries domain workflow command limit version batches) (AllByRecursion (HasIdsUpTo limit))
-  command-ids limit command least =
-      after-ok (AllByRecursion (HasIdsUpTo limit)) (plan_of state command version limit (run_of (key_behind key))) _
-      (λ kinds e. (entry-ids domain workflow key limit least batches command (begins_run command) refl (workflow_tip batches) kinds (fits state command version limit (run_of (key_behind key)) kinds e), tt))
+  pub command-ids : (limit most : ℕ) (command : Command) → limit ≤ most → 2 ≤ most → IfOk (command_entries domain workflow command limit version batches) (AllByRecursion (HasIdsUpTo most))
+  command-ids limit most command within least =
+      after-ok (AllByRecursion (HasIdsUpTo most)) (plan_of state command version limit (run_of (key_behind key))) _
+      (λ kinds e. (entry-ids domain workflow key most least batches command (begins_run command) refl (workflow_tip batches) kinds (let f = fits state command version limit (run_of (key_behind key)) kinds e in omega (arith, f, within)), tt))
     where
       state : Option StateValue
       state = state_under (workflow_tip batches) batches

@@ -57,6 +57,7 @@ impl Workflows {
     ghost use Rattle.std.specs.Prelude.{◌≡◌, [], map, IsTrue, IfSome, IfNone, IfOk, OnOk, OnErr};
     ghost use Rattle.std.specs.Option.{option_copied};
     ghost use Rattle.ndc_model_cells.specs.Arrival.{arrival_of, arrived_at, learned_by};
+    ghost use Rattle.ndc_event.specs.declared.name.Name.{Name as Text};
     ghost use Rattle.ndc_model_cells.specs.Cells.{empty_cell, learned_of, put_off_in, IsCell};
     ghost use Rattle.ndc_model_cells.specs.Jobs.{workflows_of};
     ghost use Rattle.ndc_model_cells.specs.Places.{place_of};
@@ -82,9 +83,10 @@ impl Workflows {
         }
     }
 
-    /// The cell is in order. Takes no time.
+    /// The cell is in order, and so is each workflow of it. Takes no time.
     pub fn is_in_order(&self)
-        ensures { IsCell self.now }
+        ensures cell { IsCell self.now }
+        ensures workflows { (domain workflow : Text) → IsWorkflow (workflow_of domain workflow self.now) }
     {
         self.domains.is_in_order();
     }

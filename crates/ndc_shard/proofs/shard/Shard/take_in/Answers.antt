@@ -1,4 +1,4 @@
-use Rattle.std.proofs.Common.{◌≡◌, List, sym, ◌∙◌, subst, ap}
+use Rattle.std.proofs.Common.{List, sym, ◌∙◌, subst, ap}
 use Rattle.ndc_model_cells.specs.Allowed.{MayArrive}
 use Rattle.ndc_model_cells.specs.Arrival.{arrival_of, arrived_at, learned_by}
 use Rattle.ndc_model_cells.specs.Cells.{Cell}
@@ -17,7 +17,7 @@ invariant_of-self g c =
     let may : MayArrive c.args.message c.self.inside.workflows =
     may-same c.args.message (messages_at c.self.inside.places.items c.self.inside.workflows) c.self.inside.workflows (subst (MayArrive c.args.message) (sym c.self.view_is) c.requires) in
     subst (AreSent c.self.inside.places.items) (sym c.in-Ok.ensures.cell)
-    (arrived-sent c.args.message c.self.inside.workflows c.self.inside.places.items c.is_in_order.ensures may c.self.invariant)
+    (arrived-sent c.args.message c.self.inside.workflows c.self.inside.places.items c.is_in_order.ensures.cell may c.self.invariant)
 
 pub returns-in-Ok-clause-outcome : goal.returns-in-Ok-clause-outcome
 returns-in-Ok-clause-outcome g c =
@@ -33,5 +33,5 @@ returns-in-Ok-clause-cell g c =
     may-same c.args.message (messages_at c.self.inside.places.items c.self.inside.workflows) c.self.inside.workflows (subst (MayArrive c.args.message) (sym c.self.view_is) c.requires) in
     ap (λ (cell : Cell). having_written (messages_at c.self.inside.places.items cell) cell) c.in-Ok.ensures.cell
     ∙ ap (λ (ms : List Message). having_written ms (arrived_at c.args.message c.self.inside.workflows))
-    (arrived-messages c.args.message c.self.inside.workflows c.self.inside.places.items c.is_in_order.ensures may c.self.invariant)
+    (arrived-messages c.args.message c.self.inside.workflows c.self.inside.places.items c.is_in_order.ensures.cell may c.self.invariant)
     ∙ arrived-same c.args.message (messages_at c.self.inside.places.items c.self.inside.workflows) c.self.inside.workflows ∙ ap (arrived_at c.args.message) c.self.view_is

@@ -1,14 +1,11 @@
-use Rattle.std.proofs.Common.{◌≡◌, ◌++◌, [], ◌∷◌, List, Option, ap, sym, subst, ◌∙◌}
+use Rattle.std.proofs.Common.{◌≡◌, ◌++◌, [], ◌∷◌, List, Option, ap, ◌∙◌}
 use Rattle.std.specs.Option.{option_copied}
 use Rattle.ndc_event.specs.declared.batch.Batch.{Batch}
-use Rattle.ndc_model_cells.specs.Cells.{Cell}
 use Rattle.ndc_model_cells.specs.Places.{place_of}
-use Rattle.ndc_model_cells.specs.Writing.{Entry, with_batches, with_written}
-use Rattle.ndc_model_cells.specs.declared.message.Message.{Message}
+use Rattle.ndc_model_cells.specs.Writing.{with_batches}
 use Rattle.ndc_model_cells.specs.declared.place.Place.{Place}
 use Rattle.ndc_shard.proofs.SentLemmas.{behind-write, write-messages}
-use Rattle.ndc_shard.specs.Sent.{AreSent, messages_at}
-use Rattle.ndc_shard.specs.Shards.{having_written}
+use Rattle.ndc_shard.specs.Sent.{messages_at}
 use Rattle.ndc_shard.proofs.shard.Shard.write.Goals as goal
 
 pub invariant_of-self-2 : goal.invariant_of-self-2
@@ -21,7 +18,7 @@ invariant_of-self-2 g c =
     c.push_reserved.ensures.items ∙ ap (λ (ps : List Place). ps ++ c.in_ok-place.place ∷ []) c.in_ok-reserve.ensures.items
     ∙ ap (λ (p : Place). c.self.inside.places.items ++ p ∷ []) (c.in_ok-place.ensures ∙ ap place_of c.batch.ensures) in
     behind-write entry c.self.inside.workflows c.write.new.self c.self.inside.places.items c.push_reserved.new.self.items (messages_at c.self.inside.places.items c.self.inside.workflows) c.args.self.now
-    c.self.view_is c.is_in_order.ensures c.requires.lone c.requires.may c.self.invariant cell_is places_are
+    c.self.view_is c.is_in_order.ensures.cell c.requires.lone c.requires.may c.self.invariant cell_is places_are
 
 pub returns-clause-ok : goal.returns-clause-ok
 returns-clause-ok g c =
@@ -33,4 +30,4 @@ returns-clause-ok g c =
     c.push_reserved.ensures.items ∙ ap (λ (ps : List Place). ps ++ c.in_ok-place.place ∷ []) c.in_ok-reserve.ensures.items
     ∙ ap (λ (p : Place). c.self.inside.places.items ++ p ∷ []) (c.in_ok-place.ensures ∙ ap place_of c.batch.ensures) in
     write-messages entry c.self.inside.workflows c.write.new.self c.self.inside.places.items c.push_reserved.new.self.items c.args.self.now
-    c.self.view_is c.is_in_order.ensures c.requires.lone c.requires.may c.self.invariant cell_is places_are
+    c.self.view_is c.is_in_order.ensures.cell c.requires.lone c.requires.may c.self.invariant cell_is places_are

@@ -1,5 +1,0 @@
-use Rattle.ndc_laws_reached.proofs.PastLemmas.{events_are_one}
-use Rattle.ndc_laws_reached.proofs.write_laws.an_event_has_one_content_and_one_past.Goals as goal
-
-pub returns : goal.returns
-returns c = events_are_one

@@ -1,5 +1,0 @@
-use Rattle.ndc_laws_reached.proofs.WriteLaws.{strays_few}
-use Rattle.ndc_laws_reached.proofs.write_laws.strays_are_no_more_than_original_signals.Goals as goal
-
-pub returns : goal.returns
-returns c = strays_few
