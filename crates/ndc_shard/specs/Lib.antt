@@ -1,5 +1,4 @@
 pub mod Shards
 pub mod Worked
-pub mod Lacking
 pub mod Answers
 pub mod Sent

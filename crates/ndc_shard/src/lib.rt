@@ -6,7 +6,6 @@ mod calls;
 mod cell;
 mod error;
 mod jobs;
-mod lacking;
 mod shard;
 mod showing;
 
@@ -14,5 +13,5 @@ pub use error::ShardError;
 pub use ndc_cluster_rounds::Home;
 pub use ndc_model_cells::{Arrived, Job, JobReply, Keys, Outcome, ShardJob, Written, shard_of};
 pub use ndc_model_sets::{Batches, BranchView, BranchViews, RunStatus, RunView, RunViews, View};
-pub use ndc_shard_gaps::GapOf;
+pub use ndc_resend::GapOf;
 pub use shard::Shard;

@@ -1,3 +1,4 @@
+pub mod Brought
 pub mod Dones
 pub mod Flights
 pub mod Found

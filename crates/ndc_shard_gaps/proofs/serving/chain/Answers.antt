@@ -4,8 +4,8 @@ use Rattle.std.proofs.lemmas.List.{map-append}
 use Rattle.ndc_event.specs.declared.batch.Batch.{Batch}
 use Rattle.ndc_model_sets.specs.Reading.{named}
 use Rattle.ndc_tree.proofs.ReadingLemmas.{map-reversed, none-of}
-use Rattle.ndc_shard_gaps.specs.Serving.{chain_to}
-use Rattle.ndc_shard_gaps.proofs.ChainLemmas.{chain_of, climbs-less, climbs-more, climbs-start}
+use Rattle.ndc_resend.specs.Serving.{chain_to}
+use Rattle.ndc_resend.proofs.ChainLemmas.{chain_of, climbs-less, climbs-more, climbs-start}
 use Rattle.ndc_shard_gaps.proofs.serving.chain.Goals as goal
 
 pub loop-next-init : goal.loop-next-init
