@@ -1,7 +1,7 @@
 -- What a shard has written stays as it is where batches arrive, and where it writes one more.
 use Rattle.std.proofs.Common.{◌≡◌, ◌<◌, ℕ, zero, suc, Bool, true, false, List, [], ◌∷◌, ◌++◌, Option, Some, None, length, slice_get, refl, sym, ◌∙◌, ap, subst, if◌then◌else◌, get_or, arith}
 use Rattle.std.specs.Prelude.{IfSome, is_some, option_to_list, ◌&&◌}
-use Rattle.std.specs.List.{AllByRecursion, cons_option, filter, filter_map}
+use Rattle.std.specs.List.{AllByRecursion, cons_option, filter}
 use Rattle.ndc_event.specs.Key.{key_eq}
 use Rattle.ndc_event.specs.declared.batch.Batch.{Batch}
 use Rattle.ndc_event.specs.declared.key.BatchKey.{BatchKey}
@@ -36,7 +36,7 @@ use Rattle.ndc_shard_waiting.specs.Learning.{with_message}
 use Rattle.ndc_shard_workflows.proofs.BehindLemmas.{second-other}
 use Rattle.ndc_shard_workflows.proofs.CellLemmas.{own-names}
 use Rattle.ndc_shard_workflows.proofs.PlaceLemmas.{place-is}
-use Rattle.ndc_shard_workflows.proofs.SameLemmas.{names-of, of-names}
+use Rattle.ndc_shard_workflows.proofs.SameLemmas.{names-of}
 use Rattle.ndc_shard_workflows.specs.Messages.{own_message_of}
 use Rattle.ndc_shard_workflows.specs.Writing.{MayBeWritten}
 use Rattle.ndc_state.specs.Replay.{history_of}

@@ -5,14 +5,14 @@ ghost use Rattle.ndc_model_cells.specs.Cells.{message_at};
 ghost use Rattle.ndc_model_cells.specs.Places.{place_of};
 ghost use Rattle.ndc_model_sets.specs.Paths.{path_to};
 ghost use Rattle.ndc_model_sets.specs.Reading.{named};
-ghost use Rattle.ndc_model_sets.specs.Sets.{IsSet, earlier};
+ghost use Rattle.ndc_model_sets.specs.Sets.{IsSet};
 ghost use Rattle.ndc_resend.specs.Gaps.{end_behind, served};
 ghost use Rattle.ndc_shard_gaps.specs.Ends.{behind};
 ghost use Rattle.ndc_resend.specs.Serving.{answered, chain_to, first_carrier, served_for};
 
 use ndc_event::{Batch, BatchKey};
 use ndc_model_cells::Message;
-use ndc_model_sets::first_id;
+use ndc_model_sets::{earlier_key, first_id};
 use ndc_resend::{Gap, GapOf, is_between};
 use ndc_shard_runs::Runs;
 use ndc_shard_workflows::{Workflows, message_there};
@@ -152,7 +152,7 @@ fn chain(alloc: Global, runs: &Runs, wanted: Option<BatchKey>) -> Result<Vec<&Ba
     let mut next = named(runs, wanted);
     while let Some(one) = next {
         list.push(one)?;
-        next = named(runs, earlier(one));
+        next = named(runs, earlier_key(one));
     }
     list.reverse();
     Ok(list)
@@ -165,15 +165,5 @@ fn named(runs: &Runs, key: Option<BatchKey>) -> Option<&Batch>
     match key {
         None => None,
         Some(key) => runs.get(key),
-    }
-}
-
-/// The key of the batch's parent, or of its carrier.
-fn earlier(batch: &Batch) -> Option<BatchKey>
-    ensures { result ≡ earlier batch.now }
-{
-    match batch.parent {
-        Some(parent) => Some(parent),
-        None => batch.carrier,
     }
 }

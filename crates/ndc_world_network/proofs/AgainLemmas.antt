@@ -1,6 +1,5 @@
 -- What is brought and sent again in a world that some lines lead to.
-use Rattle.std.proofs.Common.{◌≡◌, ℕ, ◌<◌, ◌+◌, ◌||◌, Bool, true, false, cond, List, [], ◌∷◌, ◌++◌, length, drop, get_or, map, Option, Some, None, refl, sym, ◌∙◌, subst, ap, add-one}
-use Rattle.std.specs.Prelude.{is_some, option_to_list}
+use Rattle.std.proofs.Common.{◌≡◌, ℕ, ◌<◌, List, [], ◌∷◌, ◌++◌, map, refl, sym, ◌∙◌, subst, ap}
 use Rattle.std.specs.List.{AllByRecursion, IsAmong, flat_map}
 use Rattle.ndc_script_types.specs.WellFormed.{IsCluster}
 use Rattle.ndc_script_types.specs.declared.script.Header.{Header}

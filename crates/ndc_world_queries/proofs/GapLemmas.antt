@@ -1,7 +1,7 @@
 -- The lines of what is put off, as cells tell the gaps.
-use Rattle.std.proofs.Common.{◌≡◌, ℕ, ◌<◌, ◌+◌, Bool, true, false, true≢false, not, List, [], ◌∷◌, ◌++◌, append-nil, append_assoc, length, map, sum, codes, decimal, Option, Some, None, inl, inr, refl, sym, ◌∙◌, ap, arith}
+use Rattle.std.proofs.Common.{◌≡◌, ℕ, ◌<◌, ◌+◌, true, true≢false, not, List, [], ◌∷◌, ◌++◌, append-nil, append_assoc, length, map, sum, codes, decimal, Option, Some, None, inl, inr, refl, sym, ◌∙◌, ap, arith}
 use Rattle.std.specs.Prelude.{is_some, unwrap_or}
-use Rattle.std.specs.List.{AllByRecursion, filter, flat_map, range_with_len, sum_by}
+use Rattle.std.specs.List.{AllByRecursion, flat_map, range_with_len, sum_by}
 use Rattle.std.proofs.lemmas.Grind.{flat_map-append}
 use Rattle.std.proofs.lemmas.List.Concat.{length-flat_map}
 use Rattle.std.proofs.lemmas.List.{length-map, map-id}
@@ -17,7 +17,6 @@ use Rattle.ndc_model_cells.proofs.PlaceLemmas.{set_of_workflow}
 use Rattle.ndc_domain.specs.declared.clusters.ClusterNo.{ClusterNo}
 use Rattle.ndc_event.specs.declared.batch.Batch.{Batch}
 use Rattle.ndc_event.specs.declared.key.BatchKey.{BatchKey}
-use Rattle.ndc_history.specs.declared.item.Item.{Item}
 use Rattle.ndc_laws_reached.proofs.ManyLemmas.{range-below}
 use Rattle.ndc_laws_reached.proofs.MissingLemmas.{none-missing}
 use Rattle.ndc_laws_reached.proofs.WrittenLemmas.{cell-is, own-names}

@@ -16,12 +16,12 @@ loop-next-init c =
 pub loop-next-smaller : goal.loop-next-smaller
 loop-next-smaller c =
     climbs-less c.args.runs.now c.requires c.in-Some.one.now (option_copied c.loop-next.next) (option_copied c.named-next-in-Some.result) (map (λ b. b.now) c.loop-next.list.items)
-    (chain_to c.args.wanted c.args.runs.now) (ap option_copied c.in-Some.is) c.loop-next.invariant (c.named-next-in-Some.ensures ∙ ap (λ k. named k c.args.runs.now) c.earlier.ensures)
+    (chain_to c.args.wanted c.args.runs.now) (ap option_copied c.in-Some.is) c.loop-next.invariant (c.named-next-in-Some.ensures ∙ ap (λ k. named k c.args.runs.now) c.earlier_key.ensures)
 
 pub loop-next-preserved : goal.loop-next-preserved
 loop-next-preserved c =
     climbs-more c.args.runs.now c.requires c.in-Some.one.now (option_copied c.loop-next.next) (option_copied c.named-next-in-Some.result) (map (λ b. b.now) c.loop-next.list.items)
-    (chain_to c.args.wanted c.args.runs.now) (ap option_copied c.in-Some.is) c.loop-next.invariant (c.named-next-in-Some.ensures ∙ ap (λ k. named k c.args.runs.now) c.earlier.ensures)
+    (chain_to c.args.wanted c.args.runs.now) (ap option_copied c.in-Some.is) c.loop-next.invariant (c.named-next-in-Some.ensures ∙ ap (λ k. named k c.args.runs.now) c.earlier_key.ensures)
     (map (λ b. b.now) c.push.new.self.items) (ap (map (λ b. b.now)) c.in_ok-push.ensures.items ∙ map-append (λ b. b.now) c.loop-next.list.items (c.in-Some.one ∷ []))
 
 pub returns : goal.returns

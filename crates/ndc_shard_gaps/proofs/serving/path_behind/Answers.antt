@@ -1,4 +1,4 @@
-use Rattle.std.proofs.Common.{Bor, List, Option, [], ◌∷◌, ◌++◌, Some, map, reverse, sym, ◌∙◌, ap}
+use Rattle.std.proofs.Common.{Bor, List, [], ◌∷◌, ◌++◌, map, reverse, sym, ◌∙◌, ap}
 use Rattle.std.specs.Option.{option_copied}
 use Rattle.std.proofs.lemmas.List.{map-append}
 use Rattle.ndc_event.specs.declared.batch.Batch.{Batch}

@@ -1,4 +1,3 @@
-use Rattle.std.proofs.Common.{sym}
 use Rattle.ndc_world_network.proofs.BroughtLemmas.{keys-both, keys-lone}
 use Rattle.ndc_world_network.proofs.brought.put_keys.Goals as goal
 

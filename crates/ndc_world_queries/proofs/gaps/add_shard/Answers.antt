@@ -1,5 +1,4 @@
 use Rattle.std.proofs.Common.{List, ◌++◌, ap, ◌∙◌}
-use Rattle.ndc_model_cells.specs.Cells.{Cell}
 use Rattle.ndc_resend.specs.declared.asking.GapOf.{GapOf}
 use Rattle.ndc_resend.specs.PutOff.{gaps_of}
 use Rattle.ndc_world_queries.proofs.gaps.add_shard.Goals as goal

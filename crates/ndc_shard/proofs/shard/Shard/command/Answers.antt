@@ -1,4 +1,4 @@
-use Rattle.std.proofs.Common.{◌≡◌, ◌<◌, List, length, sym, subst}
+use Rattle.std.proofs.Common.{◌<◌, List, length, sym, subst}
 use Rattle.ndc_event.specs.declared.batch.Batch.{Batch}
 use Rattle.ndc_shard.proofs.ReplyLemmas.{keys-kept}
 use Rattle.ndc_shard.proofs.shard.Shard.command.Goals as goal

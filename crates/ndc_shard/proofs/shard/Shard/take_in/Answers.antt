@@ -1,4 +1,4 @@
-use Rattle.std.proofs.Common.{◌≡◌, List, sym, ◌∙◌, subst, ap}
+use Rattle.std.proofs.Common.{List, sym, ◌∙◌, subst, ap}
 use Rattle.ndc_model_cells.specs.Allowed.{MayArrive}
 use Rattle.ndc_model_cells.specs.Arrival.{arrival_of, arrived_at, learned_by}
 use Rattle.ndc_model_cells.specs.Cells.{Cell}

@@ -1,14 +1,11 @@
-use Rattle.std.proofs.Common.{◌≡◌, ◌++◌, [], ◌∷◌, List, Option, ap, sym, subst, ◌∙◌}
+use Rattle.std.proofs.Common.{◌≡◌, ◌++◌, [], ◌∷◌, List, Option, ap, ◌∙◌}
 use Rattle.std.specs.Option.{option_copied}
 use Rattle.ndc_event.specs.declared.batch.Batch.{Batch}
-use Rattle.ndc_model_cells.specs.Cells.{Cell}
 use Rattle.ndc_model_cells.specs.Places.{place_of}
-use Rattle.ndc_model_cells.specs.Writing.{Entry, with_batches, with_written}
-use Rattle.ndc_model_cells.specs.declared.message.Message.{Message}
+use Rattle.ndc_model_cells.specs.Writing.{with_batches}
 use Rattle.ndc_model_cells.specs.declared.place.Place.{Place}
 use Rattle.ndc_shard.proofs.SentLemmas.{behind-write, write-messages}
-use Rattle.ndc_shard.specs.Sent.{AreSent, messages_at}
-use Rattle.ndc_shard.specs.Shards.{having_written}
+use Rattle.ndc_shard.specs.Sent.{messages_at}
 use Rattle.ndc_shard.proofs.shard.Shard.write.Goals as goal
 
 pub invariant_of-self-2 : goal.invariant_of-self-2

@@ -1,4 +1,3 @@
-use Rattle.std.proofs.Common.{◌≡◌, Ok, ap, sym, ◌∙◌}
 use Rattle.ndc_shard.proofs.AskedLemmas.{command-writable}
 use Rattle.ndc_shard.proofs.LoneLemmas.{command_lone}
 use Rattle.ndc_shard.proofs.shard.Shard.write_command.Goals as goal

@@ -1,5 +1,5 @@
-use Rattle.std.proofs.Common.{◌≡◌, ◌<◌, Some, None, length, slice_get, ap, sym, ◌∙◌, arith}
-use Rattle.ndc_model_cells.specs.Cells.{Cell, message_at}
+use Rattle.std.proofs.Common.{length, slice_get, ap, sym, ◌∙◌, arith}
+use Rattle.ndc_model_cells.specs.Cells.{Cell}
 use Rattle.ndc_shard.proofs.SentLemmas.{many-sent, sent-at, sent-there}
 use Rattle.ndc_shard.proofs.shard.Shard.written_at.Goals as goal
 

@@ -5,7 +5,6 @@ use Rattle.ndc_model_cells.specs.Workflow.{workflow_of}
 use Rattle.ndc_model_cells.specs.declared.message.Message.{Message}
 use Rattle.ndc_resend.specs.Bringing.{asked_behind, new_of}
 use Rattle.ndc_resend.specs.PutOff.{gaps_in}
-use Rattle.ndc_resend.specs.declared.asking.GapOf.{GapOf}
 use Rattle.ndc_world_network.proofs.AgainLemmas.{brought_at}
 use Rattle.ndc_world_network.proofs.network.Network.sent_of.Goals as goal
 
