@@ -64,25 +64,26 @@ module _ (all : List Batch) (w : WorkflowValue) (b : Batch) (front middle : List
   part-closed : IsClosed part
   part-closed = (learned_closed w.arrived off.set).1
 
-  -- where the batch begins its run, nothing of it is learned
-  no-front : b.parent ≡ None → front ≡ []
-  no-front none = empty front (sym (alone (path_to b.key all) (path_is all b off.sound.set off.sound.closed off.has)) ∙ off.path)
+  -- where the batch begins its run, it is its path
+  alone : b.parent ≡ None → (front ≡ []) × (middle ≡ [])
+  alone none = both-empty front middle (sym (lone (path_to b.key all) (path_is all b off.sound.set off.sound.closed off.has)) ∙ off.path)
     where
-      alone : (path : List Batch) → IsPath all b path → path ≡ b ∷ []
-      alone path (first _ has e) = refl
-      alone path (below _ before key before_path has e at rest) = absurd (let both_are : None ≡ Some key = sym none ∙ e in cc)
+      lone : (path : List Batch) → IsPath all b path → path ≡ b ∷ []
+      lone path (first _ has e) = refl
+      lone path (below _ before key before_path has e at rest) = absurd (let both_are : None ≡ Some key = sym none ∙ e in cc)
 
-      filled : (xs : List Batch) → xs ++ (middle ++ b ∷ []) ≡ [] → ⊥
-      filled (x ∷ xs) e = absurd (cc)
-      filled [] e = ends middle e
-        where
-          ends : (ys : List Batch) → ys ++ b ∷ [] ≡ [] → ⊥
-          ends [] f = absurd (cc)
-          ends (y ∷ ys) f = absurd (cc)
+      ends : (ys : List Batch) → ys ++ b ∷ [] ≡ [] → ⊥
+      ends [] f = absurd (cc)
+      ends (y ∷ ys) f = absurd (cc)
 
-      empty : (xs : List Batch) → b ∷ [] ≡ xs ++ (middle ++ b ∷ []) → xs ≡ []
-      empty [] e = refl
-      empty (x ∷ xs) e = absurd (filled xs (cc))
+      filled : (xs ys : List Batch) → xs ++ (ys ++ b ∷ []) ≡ [] → ⊥
+      filled (x ∷ xs) ys e = absurd (cc)
+      filled [] ys e = ends ys e
+
+      both-empty : (xs ys : List Batch) → b ∷ [] ≡ xs ++ (ys ++ b ∷ []) → (xs ≡ []) × (ys ≡ [])
+      both-empty [] [] e = (refl, refl)
+      both-empty [] (y ∷ ys) e = absurd (ends ys (cc))
+      both-empty (x ∷ xs) ys e = absurd (filled xs ys (cc))
 
   by-history : remote_of b w.waiting ≡ versions_of (events_to b.key all) → (gap_in w b).gap ≡ between (item_or_zero (last_item_of (history_of front))) (first_item b)
   by-history history =
@@ -98,7 +99,7 @@ module _ (all : List Batch) (w : WorkflowValue) (b : Batch) (front middle : List
       by None e =
           ap (λ (t : Bool). gap_of (histories b.run part) (if t then history_in (message_with b.key w.waiting) else []) (first_item b)) (ap is_some e)
           ∙ ap (λ best. between (item_or_zero (best_item best)) (first_item b)) (nothing-common 0 (histories b.run part))
-          ∙ ap (λ (l : List Batch). between (item_or_zero (last_item_of (history_of l))) (first_item b)) (sym (no-front e))
+          ∙ ap (λ (l : List Batch). between (item_or_zero (last_item_of (history_of l))) (first_item b)) (sym (alone e).0)
 
   module _ (mine : List Batch) (holds : HasLearned all mine b) where
     same-path : path_to b.key mine ≡ path_to b.key all
@@ -110,6 +111,10 @@ module _ (all : List Batch) (w : WorkflowValue) (b : Batch) (front middle : List
         ∙ ap (λ path. with_carriers mine (served (between (item_or_zero (last_item_of (history_of front))) (first_item b)) (end_behind (item_or_zero (last_item_of (history_of front))).id path))) same-path
         ∙ ap (with_carriers mine) (end_is_enough all b (between (item_or_zero (last_item_of (history_of front))) (first_item b)) off.sound off.has)
         ∙ ap (with_carriers mine) (served_is_between all b front middle off.sound off.has off.path)
+
+    -- for a batch that begins its run nothing is answered
+    pub no-answer : b.parent ≡ None → answered mine (gap_in w b).gap b.key ≡ []
+    no-answer none = answer_is ∙ ap (with_carriers mine) (alone none).1 ∙ ap (λ (v : Walk). v.path ++ []) (none-wanted mine)
 
     -- the ancestors of the batch
     whole : chain_of (Some b) mine ≡ chain_to (first_carrier (front ++ (middle ++ b ∷ []))) mine ++ (front ++ (middle ++ b ∷ []))

@@ -1,5 +1,5 @@
 -- Messages that were brought, in key order, each once.
-use Rattle.std.proofs.Common.{◌≡◌, Bool, true, false, cond, List, [], ◌∷◌, ◌⊎◌, inl, inr, Option, Some, None, refl, sym, ◌∙◌, subst, ap, true≢false}
+use Rattle.std.proofs.Common.{◌≡◌, Bool, true, false, cond, List, [], ◌∷◌, ◌++◌, ◌⊎◌, inl, inr, Option, Some, None, refl, sym, ◌∙◌, subst, ap, true≢false}
 use Rattle.std.specs.Prelude.{if◌then◌else◌, is_some}
 use Rattle.std.specs.List.{AllByRecursion, cons_option, filter_map}
 use Rattle.ndc_event.specs.Key.{key_eq, key_lt}
@@ -14,7 +14,7 @@ use Rattle.ndc_model_sets.specs.Sets.{Has, Rise, batch_at}
 use Rattle.ndc_model_sets.proofs.KeyLemmas.{before-irrefl, before-total, before-trans, same-keys}
 use Rattle.ndc_model_sets.proofs.Lists.{Among, all-among, all-from, among-filter_map, filter_map-among}
 use Rattle.ndc_resend.specs.declared.asking.GapOf.{GapOf}
-use Rattle.ndc_resend.specs.Bringing.{IsBehindIn, brought_to, new_of, put_new, with_brought}
+use Rattle.ndc_resend.specs.Bringing.{IsBehindIn, asked_for, asked_from, brought_to, new_of, put_new, with_brought}
 use Rattle.ndc_resend.specs.PutOff.{off_in}
 use Rattle.ndc_resend.proofs.AncestorLemmas.{above-in}
 use Rattle.ndc_resend.proofs.BringLemmas.{all_brought, off-parts, only_brought}
@@ -230,3 +230,11 @@ brought_is_missing all author own answer w cell missing is rise told each back =
             let messages : Some h.0 ≡ Some n = sym g.2 ∙ ap own batches ∙ e in
             let last : h.0 ≡ n = cc in
             subst (λ (z : Message). Among z (new_of cell (brought_to answer w))) last h.1
+
+-- the last of the gaps is asked for first
+pub asked_last : (answer : GapOf → List Message) (brought : List Message) (gaps left : List GapOf) (gap : GapOf) → gaps ≡ left ++ gap ∷ [] → asked_from answer brought gaps ≡ asked_from answer (asked_for answer brought gap) left
+asked_last answer brought gaps left gap e = ap (asked_from answer brought) e ∙ by left
+  where
+    by : (ones : List GapOf) → asked_from answer brought (ones ++ gap ∷ []) ≡ asked_from answer (asked_for answer brought gap) ones
+    by [] = refl
+    by (one ∷ ones) = ap (λ l. asked_for answer l one) (by ones)

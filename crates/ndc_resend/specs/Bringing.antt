@@ -1,4 +1,4 @@
--- What asking for put-off batches brings, one after the other.
+-- What asking for put-off batches brings, from the last to the first.
 use Rattle.std.specs.Prelude.{◌≡◌, true, List, [], ◌∷◌, ◌++◌, Option, Some, None, IsSome, if◌then◌else◌}
 use Rattle.std.specs.List.{filter_map}
 use Rattle.ndc_event.specs.Key.{key_eq, key_lt}
@@ -22,14 +22,14 @@ use Rattle.ndc_resend.specs.Serving.{answered}
 abbrev pub asked_for : (GapOf → List Message) → List Message → GapOf → List Message
 asked_for answer brought gap = if has_key (Some gap.missing) (batches_of brought) then brought else brought ++ answer gap
 
--- the same for gaps, in order
-abbrev pub asked_behind : (GapOf → List Message) → List Message → List GapOf → List Message
-asked_behind answer brought [] = brought
-asked_behind answer brought (gap ∷ gaps) = asked_behind answer (asked_for answer brought gap) gaps
+-- the same for gaps, from the last to the first: the request for a batch brings what lies on its path, so that for those above it nothing is asked
+abbrev pub asked_from : (GapOf → List Message) → List Message → List GapOf → List Message
+asked_from answer brought [] = brought
+asked_from answer brought (gap ∷ gaps) = asked_for answer (asked_from answer brought gaps) gap
 
 -- what a workflow is brought where something of it is put off
 abbrev pub brought_to : (GapOf → List Message) → WorkflowValue → List Message
-brought_to answer w = asked_behind answer [] (gaps_in w)
+brought_to answer w = asked_from answer [] (gaps_in w)
 
 -- a message goes to its place by its batch's key, or takes that of the one with this key
 abbrev pub with_brought : Message → List Message → List Message

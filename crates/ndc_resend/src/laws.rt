@@ -63,7 +63,8 @@ pub fn only_ancestors_are_served()
         → IsAmong (answered mine (gap_in w b).gap b.key) x → WaitsFor all x b }
 {}
 
-/// Where a cell asks, in key order, for each batch that is put off and whose missing ancestor no message so far has brought,
+/// Where a cell asks, from the last to the first, for each batch that is put off and whose missing ancestor no message so far
+/// has brought,
 /// the message of each ancestor of what is put off that has not arrived is brought.
 pub fn each_missing_ancestor_is_brought()
     ensures { (all : List Batch) (author : Batch → List Batch) (own : Batch → Maybe Message) (answer : GapOf → List Message) (w : WorkflowValue) (b x : Batch) (sent : Message)

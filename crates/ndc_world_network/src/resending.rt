@@ -11,7 +11,7 @@ ghost use Rattle.ndc_model.specs.Fair.{IsShaped};
 ghost use Rattle.ndc_model.specs.Moves.{arrives, resent, sent_again};
 ghost use Rattle.ndc_model.specs.World.{cell_at};
 ghost use Rattle.ndc_model.specs.Conditions.{MayDoAll, again_jobs};
-ghost use Rattle.ndc_resend.specs.Bringing.{asked_behind, asked_for};
+ghost use Rattle.ndc_resend.specs.Bringing.{asked_for, asked_from};
 ghost use Rattle.ndc_world_network.specs.Brought.{AreKeysOf};
 ghost use Rattle.ndc_world_network.specs.Dones.{notes_in};
 
@@ -103,22 +103,23 @@ impl<C: Reads + Drop> Network<C> {
         add_all(messages, keys, more)
     }
 
-    /// What asking for gaps of a workflow brings, one after the other.
+    /// What asking for gaps of a workflow brings, from the last to the first.
     fn ask_all(
         &self,
         alloc: Global,
         header: &Header,
         shard: u32,
-        gaps: &[GapOf],
+        gaps: Vec<GapOf>,
     ) -> Result<Vec<Message>, AllocError>
         requires shard { shard < header.now.shards }
         requires shaped { IsShaped header.now self.now }
-        ensures { IfOk result (λ list. list.items ≡ asked_behind (served_by_author header.now shard self.now) [] gaps.now) }
+        ensures { IfOk result (λ list. list.items ≡ asked_from (served_by_author header.now shard self.now) [] gaps.items) }
     {
         let mut messages = Vec::new(alloc);
         let mut keys = KeySet::new(alloc);
-        for gap in gaps {
-            self.ask_for(alloc, header, shard, &mut messages, &mut keys, gap)?;
+        let mut left = gaps;
+        while let Some(gap) = left.pop() {
+            self.ask_for(alloc, header, shard, &mut messages, &mut keys, &gap)?;
         }
         Ok(messages)
     }
@@ -140,7 +141,7 @@ impl<C: Reads + Drop> Network<C> {
     {
         let cell = self.reader_cell(header, reader, shard);
         let gaps = cell.gaps_in(alloc, &place.domain, &place.workflow)?;
-        let messages = self.ask_all(alloc, header, shard, gaps.as_slice())?;
+        let messages = self.ask_all(alloc, header, shard, gaps)?;
         let new = new_of(alloc, cell, messages)?;
         Ok(new)
     }
@@ -208,9 +209,9 @@ impl<C: Reads + Drop> Network<C> {
     }
 
     /// A reader is sent again what it misses: the ancestors of all that is put off there, that have not arrived, by shard and
-    /// then by place. For each batch that it has put off, and whose missing ancestor was not brought so far, it asks the
-    /// batch's author for the gap before it; then its levels are renewed. That this brings just the ancestors that are missing
-    /// is `ndc_laws_jobs::again_laws::what_is_brought_is_sent_again`. After want of memory the reader may have no cells.
+    /// then by place. For each batch that it has put off, from the last to the first of a workflow, it asks the batch's author
+    /// for the gap before it, where the missing ancestor was not brought so far; then its levels are renewed. That this brings
+    /// just the ancestors that are missing is `ndc_laws_jobs::again_laws::what_is_brought_is_sent_again`. After want of memory the reader may have no cells.
     pub fn resend<R: Threads + Sync, G: Gate>(
         &mut self,
         rt: &R,
