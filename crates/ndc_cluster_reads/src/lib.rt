@@ -3,4 +3,4 @@
 
 mod reads;
 
-pub use reads::{Lacking, Reads};
+pub use reads::Reads;

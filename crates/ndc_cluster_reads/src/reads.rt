@@ -1,27 +1,20 @@
 use ndc_cluster_rounds::Cell;
 use ndc_event::{BatchKey, Name};
 use ndc_model_cells::{Message, Place};
+use ndc_resend::GapOf;
 use ndc_shard_runs::Runs;
 use std::alloc::{AllocError, Global};
 
-/// A batch that is put off, and what it lacks.
-#[derive(Clone, Copy, Debug, PartialEq, Eq)]
-pub struct Lacking {
-    pub key: BatchKey,
-    /// The id of its first event.
-    pub first: u64,
-    /// The key of its nearest ancestor that has not arrived.
-    pub missing: BatchKey,
-}
-
-/// Something that does the jobs of a cell, gives messages of what it has learned and written, and tells what has arrived and
-/// what is put off.
+/// Something that does the jobs of a cell, gives messages of what it has learned and written, tells what has arrived and
+/// what it lacks, and serves what another cell lacks.
 pub trait Reads: Cell {
     ghost use Rattle.std.specs.Prelude.{◌≡◌, [], is_some, map, IfSome, IfNone, IfOk};
     ghost use Rattle.ndc_model_cells.specs.Cells.{learned_of, message_at, put_off_in};
     ghost use Rattle.ndc_model_cells.specs.Jobs.{workflows_of};
     ghost use Rattle.ndc_model_cells.specs.Places.{batch_there, place_of};
-    ghost use Rattle.ndc_cluster_reads.specs.Lacking.{all_lacking};
+    ghost use Rattle.ndc_model_cells.specs.Workflow.{workflow_of};
+    ghost use Rattle.ndc_resend.specs.PutOff.{gaps_in, gaps_of};
+    ghost use Rattle.ndc_resend.specs.Serving.{served_for};
 
     /// What it has learned of a workflow, with its states. There is none only where it has learned nothing of it. Takes no
     /// memory.
@@ -37,14 +30,23 @@ pub trait Reads: Cell {
     fn behind(&self, alloc: Global) -> Result<Vec<Place>, AllocError>
         ensures { IfOk result (λ list. list.items ≡ map place_of (workflows_of (put_off_in (Self.cell self.now)))) };
 
-    /// What is put off of a workflow, in key order.
-    fn put_off(
+    /// What is put off, in order of place, each batch with the gap before it.
+    fn gaps(&self, alloc: Global) -> Result<Vec<GapOf>, AllocError>
+        ensures { IfOk result (λ list. list.items ≡ gaps_of (Self.cell self.now)) };
+
+    /// Those of one workflow, in key order.
+    fn gaps_in(
         &self,
         alloc: Global,
         domain: &Name,
         workflow: &Name,
-    ) -> Result<Vec<Lacking>, AllocError>
-        ensures { IfOk result (λ list. list.items ≡ all_lacking domain.now workflow.now (Self.cell self.now)) };
+    ) -> Result<Vec<GapOf>, AllocError>
+        ensures { IfOk result (λ list. list.items ≡ gaps_in (workflow_of domain.now workflow.now (Self.cell self.now))) };
+
+    /// What it serves for a gap of another cell: the messages of the batches in it, in path order, behind those of the
+    /// carriers above the first of them. Nothing, where the batch that is put off there is not learned here.
+    fn serve(&self, alloc: Global, asked: &GapOf) -> Result<Vec<Message>, AllocError>
+        ensures { IfOk result (λ list. list.items ≡ served_for asked.now (Self.cell self.now)) };
 
     /// The message of what it has learned at a place. A carried batch has none of its own.
     fn message_at(

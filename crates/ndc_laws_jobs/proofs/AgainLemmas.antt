@@ -1,57 +1,52 @@
--- What is sent again, from what is gathered.
-use Rattle.std.proofs.Common.{◌≡◌, ℕ, ◌<◌, Bool, true, false, not, cond, List, [], ◌∷◌, map, Option, Some, None, ◌⊎◌, inl, inr, refl, sym, ◌∙◌, subst, ap, true≢false}
-use Rattle.std.specs.List.{cons_option, filter, filter_map, flat_map}
+-- What is sent again, from what asking for it brings.
+use Rattle.std.proofs.Common.{◌≡◌, ℕ, ◌<◌, Bool, true, false, not, cond, List, [], ◌∷◌, Option, Some, None, ◌⊎◌, inl, inr, refl, sym, ◌∙◌, subst, ap, true≢false}
+use Rattle.std.specs.List.{filter, filter_map, flat_map}
 use Rattle.std.specs.Prelude.{is_some}
 use Rattle.std.specs.Str.{bytes_eq}
 use Rattle.std.proofs.lemmas.Bool.{and_from}
 use Rattle.std.proofs.lemmas.Slice.Eq.{bytes_eq-Decides}
 use Rattle.ndc_script_types.specs.WellFormed.{IsCluster}
 use Rattle.ndc_script_types.specs.declared.script.Header.{Header}
-use Rattle.ndc_laws_jobs.specs.Authors.{cell_by, message_by_author}
-use Rattle.ndc_laws_jobs.specs.Gathered.{AreGathered, IsMissing}
-use Rattle.ndc_laws_jobs.proofs.AuthorLemmas.{has-author}
+use Rattle.ndc_laws_jobs.specs.Again.{brought_again, cell_by, sent_again_of, served_by_author}
+use Rattle.ndc_laws_jobs.proofs.BehindLemmas.{arrived-at, behind, held-part, held-set, mine-sound, off-there, same-way}
 use Rattle.ndc_laws_jobs.proofs.GroupLemmas.{by-workflow, order-left}
-use Rattle.ndc_laws_jobs.proofs.KeyLists.{keys-rise, same-rising}
-use Rattle.ndc_laws_jobs.proofs.ReachLemmas.{all-gathered}
 use Rattle.ndc_laws_jobs.proofs.WayLemmas.{above-way, way-above}
 use Rattle.ndc_model_cells.specs.declared.message.Message.{Message}
-use Rattle.ndc_model_cells.specs.declared.place.Place.{Place}
 use Rattle.ndc_model_cells.specs.Arrival.{has_arrived}
-use Rattle.ndc_model_cells.specs.Cells.{Cell, ancestry, arrived_of, is_learned_in, learned_message, learned_of, message_at, message_found, message_of, own_message, put_off_in}
+use Rattle.ndc_model_cells.specs.Cells.{Cell, ancestry, arrived_of, is_learned_in, learned_of, own_message, put_off_in}
 use Rattle.ndc_model_cells.specs.Jobs.{workflows_of}
-use Rattle.ndc_model_cells.specs.Places.{AreInOrder, batch_there, in_order, is_of, place_of}
-use Rattle.ndc_model_cells.proofs.PlaceLemmas.{rise-own, set_of_workflow}
+use Rattle.ndc_model_cells.specs.Places.{AreInOrder, in_order, is_of, place_of}
+use Rattle.ndc_model_cells.specs.Workflow.{WorkflowValue, workflow_of}
+use Rattle.ndc_model_cells.proofs.PlaceLemmas.{rise-own}
+use Rattle.ndc_domain.specs.Clusters.{writer_of}
 use Rattle.ndc_domain.specs.declared.clusters.ClusterNo.{ClusterNo}
 use Rattle.ndc_event.specs.declared.batch.Batch.{Batch}
-use Rattle.ndc_event.specs.declared.key.BatchKey.{BatchKey}
 use Rattle.ndc_event.specs.declared.name.Name.{Name}
+use Rattle.ndc_history.specs.Common.{item_or_zero}
+use Rattle.ndc_history.specs.declared.item.Item.{Item}
 use Rattle.ndc_laws_reached.proofs.ArrivalLemmas.{none-is}
-use Rattle.ndc_laws_cells.proofs.FoundLemmas.{at-there, in_order-ordered}
-use Rattle.ndc_laws_reached.proofs.ManyLemmas.{among-flat}
-use Rattle.ndc_laws_reached.proofs.MessageLemmas.{learned-arrived, learned-true}
-use Rattle.ndc_laws_reached.proofs.WrittenLemmas.{arrived-written, cell-is, flat-among, in_order-among, names-of, one-written, own-names, sound-of}
 use Rattle.ndc_laws_reached.proofs.ComeLemmas.{among-order}
+use Rattle.ndc_laws_cells.proofs.FoundLemmas.{in_order-ordered}
+use Rattle.ndc_laws_reached.proofs.ManyLemmas.{among-flat}
 use Rattle.ndc_laws_reached.proofs.WayLemmas.{way-inside}
+use Rattle.ndc_laws_reached.proofs.WrittenLemmas.{arrived-written, flat-among, in_order-among, names-of, one-written, own-names, sound-of}
 use Rattle.ndc_model.specs.Facts.{IsReached}
 use Rattle.ndc_model.specs.Moves.{all_written, ancestors_of, missing_ancestors, sent_again}
+use Rattle.ndc_model.specs.Sending.{gap_after}
 use Rattle.ndc_model.specs.World.{World, cell_at}
-use Rattle.ndc_laws_cells.proofs.Lists.{is-among}
-use Rattle.ndc_model_sets.specs.Learned.{IsPart, WaitsFor, has_key, learned}
-use Rattle.ndc_model_sets.specs.Sets.{Has, IsSet, Rise, batch_at}
+use Rattle.ndc_model_sets.specs.Learned.{WaitsFor, has_key, learned}
+use Rattle.ndc_model_sets.specs.Paths.{last_item_of, path_to}
+use Rattle.ndc_model_sets.specs.Sets.{Has, batch_at}
 use Rattle.ndc_model_sets.specs.Sound.{IsSound}
-use Rattle.ndc_model_sets.proofs.BranchLemmas.{among-has, has-among}
-use Rattle.ndc_model_sets.proofs.LearnedLemmas.{IsSet-learned}
-use Rattle.ndc_model_sets.proofs.Lists.{Among, all-among, among-filter, among-map, filter-among, map-among}
-use Rattle.ndc_model_sets.proofs.SetLemmas.{found-has, found-key}
-
--- what is learned of a workflow, by place and by key
-there-at : (domain workflow : Name) (key : BatchKey) (bs : List Batch) → ((x : Batch) → Among x bs → is_of domain workflow x ≡ true)
-    → batch_there bs (record { domain = domain; workflow = workflow; key = key }) ≡ batch_at key bs
-there-at domain workflow key bs own = sym (at-there domain workflow key bs) ∙ ap (batch_at key) (whole bs own)
-  where
-    whole : (cs : List Batch) → ((x : Batch) → Among x cs → is_of domain workflow x ≡ true) → filter (is_of domain workflow) cs ≡ cs
-    whole [] each = refl
-    whole (c ∷ cs) each = ap (λ t. cond t (c ∷ filter (is_of domain workflow) cs) (filter (is_of domain workflow) cs)) (each c (inl refl)) ∙ ap (λ l. c ∷ l) (whole cs (λ x among. each x (inr among)))
+use Rattle.ndc_model_sets.proofs.BranchLemmas.{Rise-filter, among-has, has-among}
+use Rattle.ndc_model_sets.proofs.Lists.{Among, among-filter, filter-among}
+use Rattle.ndc_resend.specs.declared.serving.Gap.{Gap}
+use Rattle.ndc_resend.specs.Gaps.{first_item}
+use Rattle.ndc_resend.specs.PutOff.{gap_in, off_in}
+use Rattle.ndc_resend.proofs.AncestorLemmas.{path-in}
+use Rattle.ndc_resend.proofs.BringLemmas.{gap_is}
+use Rattle.ndc_resend.proofs.OrderLemmas.{brought_is_missing}
+use Rattle.ndc_state.specs.Replay.{history_of}
 
 module _ (header : Header) (lines : ℕ) (w : World) (is : IsReached header lines w) (shard : ℕ) (below : shard < header.shards) where
   abbrev all : List Batch
@@ -59,34 +54,6 @@ module _ (header : Header) (lines : ℕ) (w : World) (is : IsReached header line
 
   abbrev message_in : Batch → Option Message
   message_in x = own_message (filter (is_of x.domain x.workflow) (all_written header shard w)) (all_written header shard w) x
-
-  -- the message of a batch that a cell has learned is that of all that was written
-  learned-is : (cell_cluster : ClusterNo) → IsCluster header cell_cluster → (x : Batch) → Has (learned_of x.domain x.workflow (cell_at cell_cluster shard w)) x
-      → learned_message (cell_at cell_cluster shard w) x ≡ message_in x
-  learned-is c known x has = by (is_some x.carrier) refl
-    where
-      by : (t : Bool) → is_some x.carrier ≡ t → learned_message (cell_at c shard w) x ≡ message_in x
-      by true e = ap (λ u. cond u None (Some (message_of (learned_of x.domain x.workflow (cell_at c shard w)) (cell_at c shard w).arrived x))) e ∙ sym (ap (λ u. cond u None (Some (message_of (filter (is_of x.domain x.workflow) all) all x))) e)
-      by false e =
-          let made : learned_message (cell_at c shard w) x ≡ Some (message_of (learned_of x.domain x.workflow (cell_at c shard w)) (cell_at c shard w).arrived x) =
-          ap (λ u. cond u None (Some (message_of (learned_of x.domain x.workflow (cell_at c shard w)) (cell_at c shard w).arrived x))) e in
-          made ∙ sym ((learned-true header lines w is shard below c known x (message_of (learned_of x.domain x.workflow (cell_at c shard w)) (cell_at c shard w).arrived x) has made).1)
-
-  -- the message of a place, as its author has learned it
-  pub by-author-sent : (x : Batch) → Among x all → message_by_author header shard w (place_of x) ≡ message_in x
-  by-author-sent x among =
-      let h = has-author header lines w is shard below x among in
-      subst (λ (o : Option ClusterNo). message_at (cell_by shard w o) (place_of x) ≡ message_in x) (sym h.own.version) (at-cell h.author h.known h.own.learned)
-    where
-      at-cell : (c : ClusterNo) → IsCluster header c → Has (learned_of x.domain x.workflow (cell_at c shard w)) x → message_at (cell_at c shard w) (place_of x) ≡ message_in x
-      at-cell c known has =
-          ap (message_found (cell_at c shard w))
-          (there-at x.domain x.workflow x.key (learned_of x.domain x.workflow (cell_at c shard w))
-          (λ y there. (learned-arrived header lines w is shard below c known x.domain x.workflow y (among-has (learned_of x.domain x.workflow (cell_at c shard w)) y (learned-set c known) there)).1) ∙ has)
-          ∙ learned-is c known x has
-        where
-          learned-set : (d : ClusterNo) → IsCluster header d → Rise (learned_of x.domain x.workflow (cell_at d shard w))
-          learned-set d k = (IsSet-learned (arrived_of x.domain x.workflow (cell_at d shard w)) (set_of_workflow x.domain x.workflow (cell_at d shard w) (cell-is header lines w is shard below d k))).ordered
 
   module _ (reader : ClusterNo) (known : IsCluster header reader) where
     abbrev cell : Cell
@@ -160,8 +127,10 @@ module _ (header : Header) (lines : ℕ) (w : World) (is : IsReached header line
         by-workflow message_in missing (put_off_in cell) missing-order off-order (λ x among. let o = one-of x among in (o.p, o.put_off, (inside o.p o.put_off x o.on).1))
 
     -- of one workflow
-    module _ (h : Batch) (listed : Among h (put_off_in cell)) (keys : List BatchKey)
-        (g : AreGathered (filter (is_of h.domain h.workflow) (all_written header shard w)) (arrived_of h.domain h.workflow (cell_at reader shard w)) (filter (is_of h.domain h.workflow) (put_off_in (cell_at reader shard w))) keys) where
+    module _ (h : Batch) (listed : Among h (put_off_in cell)) where
+      abbrev value : WorkflowValue
+      value = workflow_of h.domain h.workflow (cell_at reader shard w)
+
       abbrev mine : List Batch
       mine = filter (is_of h.domain h.workflow) (all_written header shard w)
 
@@ -171,134 +140,101 @@ module _ (header : Header) (lines : ℕ) (w : World) (is : IsReached header line
       abbrev off : List Batch
       off = filter (is_of h.domain h.workflow) (put_off_in (cell_at reader shard w))
 
-      mine-sound : IsSound mine
-      mine-sound = sound-of header lines w is shard below h (off-written h listed)
+      sound : IsSound mine
+      sound = mine-sound header lines w is shard below reader known h listed
 
-      held-set : IsSet held
-      held-set = set_of_workflow h.domain h.workflow cell (cell-is header lines w is shard below reader known)
-
-      held-part : IsPart held mine
-      held-part x has =
-          let f = filter-among (is_of h.domain h.workflow) cell.arrived x (has-among held x has) in
-          among-has mine x mine-sound.set.ordered (among-filter (is_of h.domain h.workflow) all x f.0 (arrived-written header lines w is shard below reader known x f.1))
-
-      off-is : (y : Batch) → Has held y → has_key (Some y.key) (learned held) ≡ false → Among y off
-      off-is y has e =
-          let f = filter-among (is_of h.domain h.workflow) cell.arrived y (has-among held y has) in
-          let n = names-of h.domain h.workflow y f.0 in
-          let unlearned : is_learned_in cell y ≡ false =
-          subst (λ (d : Name). has_key (Some y.key) (learned_of d y.workflow cell) ≡ false) (sym n.0) (subst (λ (u : Name). has_key (Some y.key) (learned_of h.domain u cell) ≡ false) (sym n.1) e) in
-          among-filter (is_of h.domain h.workflow) (put_off_in cell) y f.0 (among-filter (λ b. not (is_learned_in cell b)) cell.arrived y (ap not unlearned) f.1)
-
-      off-held : (y : Batch) → Among y off → Has held y × Among y (put_off_in cell) × (is_of h.domain h.workflow y ≡ true)
-      off-held y among =
-          let f = filter-among (is_of h.domain h.workflow) (put_off_in cell) y among in
-          let a = filter-among (λ b. not (is_learned_in cell b)) cell.arrived y f.1 in
-          (among-has held y held-set.ordered (among-filter (is_of h.domain h.workflow) cell.arrived y f.0 a.1), f.1, f.0)
-
-      -- ways among the batches of one of the same workflow
-      same-way : (p : Batch) → is_of h.domain h.workflow p ≡ true → filter (is_of p.domain p.workflow) all ≡ mine
-      same-way p own =
+      in-off : (p : Batch) → Among p (put_off_in cell) → is_of h.domain h.workflow p ≡ true → Has (off_in value) p
+      in-off p among own =
+          let f = filter-among (λ b. not (is_learned_in cell b)) cell.arrived p among in
           let n = names-of h.domain h.workflow p own in
-          ap (λ (d : Name). filter (is_of d p.workflow) all) n.0 ∙ ap (λ (u : Name). filter (is_of h.domain u) all) n.1
+          let unlearned : not (has_key (Some p.key) (learned held)) ≡ true =
+          subst (λ (d : Name). not (has_key (Some p.key) (learned_of d h.workflow cell)) ≡ true) n.0 (subst (λ (u : Name). not (has_key (Some p.key) (learned_of p.domain u cell)) ≡ true) n.1 f.0) in
+          among-has (off_in value) p (Rise-filter (λ b. not (has_key (Some b.key) (learned held))) held (held-set header lines w is shard below reader known h listed).ordered)
+          (among-filter (λ b. not (has_key (Some b.key) (learned held))) held p unlearned (among-filter (is_of h.domain h.workflow) cell.arrived p own f.1))
 
-      -- whether one of the workflow has arrived
-      arrived-at : (x : Batch) → is_of h.domain h.workflow x ≡ true → has_arrived x cell ≡ is_some (batch_at x.key held)
-      arrived-at x own =
-          let n = names-of h.domain h.workflow x own in
-          ap is_some (subst (λ (d : Name). batch_there cell.arrived (place_of x) ≡ batch_at x.key (arrived_of d h.workflow cell)) n.0
-          (subst (λ (u : Name). batch_there cell.arrived (place_of x) ≡ batch_at x.key (arrived_of x.domain u cell)) n.1 (sym (at-there x.domain x.workflow x.key cell.arrived))))
-
-      key-there : (key : BatchKey) → Among key keys → Among key (map (λ b. b.key) (filter (is_of h.domain h.workflow) missing))
-      key-there key among = from (all-among (IsMissing mine held off) keys key g.each among)
+      -- an ancestor of what is put off that has not arrived is missing
+      is-missing : (p x : Batch) → Has (off_in value) p → WaitsFor mine x p → batch_at x.key held ≡ None → Among x (filter (is_of h.domain h.workflow) missing)
+      is-missing p x p_off above gone = by (above-way mine p p_has sound.set sound.closed x above)
         where
-          from : IsMissing mine held off key → Among key (map (λ b. b.key) (filter (is_of h.domain h.workflow) missing))
-          from m = by (above-way mine m.above.put_off p_has mine-sound.set mine-sound.closed m.batch m.above.above)
-            where
-              p : Batch
-              p = m.above.put_off
+          q : Has held p × Among p (put_off_in cell) × (is_of h.domain h.workflow p ≡ true)
+          q = off-there header lines w is shard below reader known h listed p p_off
 
-              q : Has held p × Among p (put_off_in cell) × (is_of h.domain h.workflow p ≡ true)
-              q = off-held p (is-among off p m.above.among)
+          p_has : Has mine p
+          p_has = held-part header lines w is shard below reader known h listed p q.0
 
-              p_has : Has mine m.above.put_off
-              p_has = held-part p q.0
+          own : Among x (ancestors_of all p) → is_of h.domain h.workflow x ≡ true
+          own there =
+              let f = inside p q.1 x there in
+              let n = names-of h.domain h.workflow p q.2 in
+              subst (λ (d : Name). is_of d h.workflow x ≡ true) n.0 (subst (λ (u : Name). is_of p.domain u x ≡ true) n.1 f.1)
 
-              x_key : m.batch.key ≡ key
-              x_key = found-key mine key m.batch m.there
+          by : (x ≡ p) ⊎ Among x (ancestry p mine).path → Among x (filter (is_of h.domain h.workflow) missing)
+          by (inl same) = absurd (let both_are : None ≡ Some p = sym (subst (λ (y : Batch). batch_at y.key held ≡ None) same gone) ∙ q.0 in cc)
+          by (inr on) =
+              let there : Among x (ancestors_of all p) = subst (λ (l : List Batch). Among x (ancestry p l).path) (sym (same-way header lines w is shard below reader known h listed p q.2)) on in
+              among-filter (is_of h.domain h.workflow) missing x (own there)
+              (among-missing p x q.1 there (arrived-at header lines w is shard below reader known h listed x (own there) ∙ ap is_some gone))
 
-              x_own : is_of h.domain h.workflow m.batch ≡ true
-              x_own = (filter-among (is_of h.domain h.workflow) all m.batch (has-among mine m.batch (found-has mine key m.batch m.there))).0
-
-              gone : batch_at m.batch.key held ≡ None
-              gone = subst (λ (k : BatchKey). batch_at k held ≡ None) (sym x_key) m.gone
-
-              by : (m.batch ≡ p) ⊎ Among m.batch (ancestry p mine).path → Among key (map (λ b. b.key) (filter (is_of h.domain h.workflow) missing))
-              by (inl same) = absurd (let both_are : None ≡ Some p = sym (subst (λ (y : Batch). batch_at y.key held ≡ None) same gone) ∙ q.0 in cc)
-              by (inr on) =
-                  let there : Among m.batch (ancestors_of all p) = subst (λ (l : List Batch). Among m.batch (ancestry p l).path) (sym (same-way p q.2)) on in
-                  subst (λ (k : BatchKey). Among k (map (λ b. b.key) (filter (is_of h.domain h.workflow) missing))) x_key
-                  (among-map (λ b. b.key) (filter (is_of h.domain h.workflow) missing) m.batch
-                  (among-filter (is_of h.domain h.workflow) missing m.batch x_own (among-missing p m.batch q.1 there (arrived-at m.batch x_own ∙ ap is_some gone))))
-
-      key-back : (key : BatchKey) → Among key (map (λ b. b.key) (filter (is_of h.domain h.workflow) missing)) → Among key keys
-      key-back key among = from (map-among (λ b. b.key) (filter (is_of h.domain h.workflow) missing) key among)
+      -- and nothing else is
+      only-missing : (x : Batch) → Among x (filter (is_of h.domain h.workflow) missing) → (p : Batch) × Has (off_in value) p × WaitsFor mine x p × (batch_at x.key held ≡ None)
+      only-missing x among = (o.p, in-off o.p o.put_off p_own, above, gone)
         where
-          from : ((x : Batch) × Among x (filter (is_of h.domain h.workflow) missing) × (key ≡ x.key)) → Among key keys
-          from m = subst (λ (k : BatchKey). Among k keys) (sym m.2) (all-gathered mine held off keys held-set held-part off-is g o.p x p_has above x_has gone)
-            where
-              x : Batch
-              x = m.0
+          f : (is_of h.domain h.workflow x ≡ true) × Among x missing
+          f = filter-among (is_of h.domain h.workflow) missing x among
 
-              f : (is_of h.domain h.workflow m.0 ≡ true) × Among m.0 missing
-              f = filter-among (is_of h.domain h.workflow) missing m.0 m.1
+          o : IsOne x
+          o = one-of x f.1
 
-              o : IsOne m.0
-              o = one-of m.0 f.1
+          n : (x.domain ≡ h.domain) × (x.workflow ≡ h.workflow)
+          n = names-of h.domain h.workflow x f.0
 
-              n : (m.0.domain ≡ h.domain) × (m.0.workflow ≡ h.workflow)
-              n = names-of h.domain h.workflow m.0 f.0
+          l : (x.domain ≡ o.p.domain) × (x.workflow ≡ o.p.workflow)
+          l = names-of o.p.domain o.p.workflow x (inside o.p o.put_off x o.on).1
 
-              l : (m.0.domain ≡ o.p.domain) × (m.0.workflow ≡ o.p.workflow)
-              l = names-of o.p.domain o.p.workflow m.0 (inside o.p o.put_off m.0 o.on).1
+          p_own : is_of h.domain h.workflow o.p ≡ true
+          p_own = and_from (bytes_eq o.p.domain h.domain) (bytes_eq o.p.workflow h.workflow) ((bytes_eq-Decides o.p.domain h.domain).1 (sym l.0 ∙ n.0)) ((bytes_eq-Decides o.p.workflow h.workflow).1 (sym l.1 ∙ n.1))
 
-              p_own : is_of h.domain h.workflow o.p ≡ true
-              p_own = and_from (bytes_eq o.p.domain h.domain) (bytes_eq o.p.workflow h.workflow) ((bytes_eq-Decides o.p.domain h.domain).1 (sym l.0 ∙ n.0)) ((bytes_eq-Decides o.p.workflow h.workflow).1 (sym l.1 ∙ n.1))
+          above : WaitsFor mine x o.p
+          above =
+              subst (λ (bs : List Batch). WaitsFor bs x o.p) (same-way header lines w is shard below reader known h listed o.p p_own)
+              (way-above (filter (is_of o.p.domain o.p.workflow) all) o.p (own-has o.p o.put_off) (own-sound o.p o.put_off).set x o.on)
 
-              p_has : Has held o.p
-              p_has = (off-held o.p (among-filter (is_of h.domain h.workflow) (put_off_in cell) o.p p_own o.put_off)).0
+          gone : batch_at x.key held ≡ None
+          gone = none-is (batch_at x.key held) (sym (arrived-at header lines w is shard below reader known h listed x f.0) ∙ o.gone)
 
-              above : WaitsFor mine m.0 o.p
-              above =
-                  subst (λ (bs : List Batch). WaitsFor bs m.0 o.p) (same-way o.p p_own)
-                  (way-above (filter (is_of o.p.domain o.p.workflow) all) o.p (own-has o.p o.put_off) (own-sound o.p o.put_off).set m.0 o.on)
+      -- what asking brings is what is sent again
+      pub brought-of-workflow : brought_again header reader w shard h.domain h.workflow ≡ sent_again_of header reader w shard h.domain h.workflow
+      brought-of-workflow =
+          brought_is_missing mine (λ b. learned_of h.domain h.workflow (cell_by shard w (writer_of header.clusters b.key.version)))
+          (λ x. own_message (filter (is_of x.domain x.workflow) (all_written header shard w)) (all_written header shard w) x) (served_by_author header shard w) value cell (filter (is_of h.domain h.workflow) missing)
+          (behind header lines w is shard below reader known h listed) (rise-own h.domain h.workflow missing missing-order)
+          (λ x has. arrived-at header lines w is shard below reader known h listed x ((filter-among (is_of h.domain h.workflow) all x (has-among mine x has)).0)) only-missing is-missing
 
-              x_has : Has mine m.0
-              x_has = among-has mine m.0 mine-sound.set.ordered (among-filter (is_of h.domain h.workflow) all m.0 f.0 (inside o.p o.put_off m.0 o.on).0)
+  -- the gap before a batch that is put off begins where the model has it
+  module _ (reader : ClusterNo) (known : IsCluster header reader) (b : Batch) (put_off : Among b (put_off_in (cell_at reader shard w))) where
+    abbrev its-cell : Cell
+    its-cell = cell_at reader shard w
 
-              gone : batch_at m.0.key held ≡ None
-              gone = none-is (batch_at m.0.key held) (sym (arrived-at m.0 f.0) ∙ o.gone)
+    abbrev its-own : List Batch
+    its-own = filter (is_of b.domain b.workflow) (all_written header shard w)
 
-      -- the keys that are gathered are those of what is missing
-      pub keys-missing : keys ≡ map (λ b. b.key) (filter (is_of h.domain h.workflow) missing)
-      keys-missing =
-          same-rising keys (map (λ b. b.key) (filter (is_of h.domain h.workflow) missing)) g.rise
-          (keys-rise (filter (is_of h.domain h.workflow) missing) (rise-own h.domain h.workflow missing missing-order)) key-there key-back
+    kept-same : (p q : Batch → Bool) (xs : List Batch) → ((x : Batch) → Among x xs → p x ≡ q x) → filter p xs ≡ filter q xs
+    kept-same p q [] each = refl
+    kept-same p q (x ∷ xs) each = ap (λ t. cond t (x ∷ filter p xs) (filter p xs)) (each x (inl refl)) ∙ ap (λ l. cond (q x) (x ∷ l) l) (kept-same p q xs (λ y among. each y (inr among)))
 
-      -- the messages of these keys, as their authors have learned them
-      pub sent-of-workflow : filter_map (λ key. message_by_author header shard w (record { domain = h.domain; workflow = h.workflow; key = key })) keys ≡ filter_map message_in (filter (is_of h.domain h.workflow) missing)
-      sent-of-workflow =
-          ap (filter_map (λ key. message_by_author header shard w (record { domain = h.domain; workflow = h.workflow; key = key }))) keys-missing ∙ each (filter (is_of h.domain h.workflow) missing) (λ x among. filter-among (is_of h.domain h.workflow) missing x among)
-        where
-          each : (bs : List Batch) → ((x : Batch) → Among x bs → (is_of h.domain h.workflow x ≡ true) × Among x missing)
-              → filter_map (λ key. message_by_author header shard w (record { domain = h.domain; workflow = h.workflow; key = key })) (map (λ b. b.key) bs) ≡ filter_map message_in bs
-          each [] part = refl
-          each (x ∷ bs) part =
-              ap (λ o. cons_option o (filter_map (λ key. message_by_author header shard w (record { domain = h.domain; workflow = h.workflow; key = key })) (map (λ b. b.key) bs))) (one x (part x (inl refl)))
-              ∙ ap (cons_option (message_in x)) (each bs (λ y among. part y (inr among)))
-            where
-              one : (y : Batch) → (is_of h.domain h.workflow y ≡ true) × Among y missing → message_by_author header shard w (record { domain = h.domain; workflow = h.workflow; key = y.key }) ≡ message_in y
-              one y p =
-                  let n = names-of h.domain h.workflow y p.0 in
-                  let at : place_of y ≡ (record { domain = h.domain; workflow = h.workflow; key = y.key }) = (λ i. record { domain = n.0 i; workflow = n.1 i; key = y.key }) in
-                  subst (λ (q : Place). message_by_author header shard w q ≡ message_in y) at (by-author-sent y (missing-written y p.1))
+    pub gap-of-model : (gap_in (workflow_of b.domain b.workflow its-cell) b).gap ≡ record { after = gap_after header shard w its-cell b; before = first_item b }
+    gap-of-model =
+        gap_is its-own (λ x. learned_of b.domain b.workflow (cell_by shard w (writer_of header.clusters x.key.version)))
+        (λ x. own_message (filter (is_of x.domain x.workflow) (all_written header shard w)) (all_written header shard w) x) (served_by_author header shard w) (workflow_of b.domain b.workflow its-cell) b
+        (behind header lines w is shard below reader known b put_off) (in-off reader known b put_off b put_off (own-names b))
+        ∙ ap (λ (l : List Batch). between (item_or_zero (last_item_of (history_of l))) (first_item b))
+        (kept-same (λ c. has_key (Some c.key) (learned (arrived_of b.domain b.workflow its-cell))) (is_learned_in its-cell) (path_to b.key its-own) same)
+      where
+        between : Item → Item → Gap
+        between after before = record { after = after; before = before }
+
+        same : (x : Batch) → Among x (path_to b.key its-own) → has_key (Some x.key) (learned (arrived_of b.domain b.workflow its-cell)) ≡ is_learned_in its-cell x
+        same x among =
+            let f = filter-among (is_of b.domain b.workflow) all x (path-in b.key its-own x among) in
+            let n = names-of b.domain b.workflow x f.0 in
+            (λ i. has_key (Some x.key) (learned_of (sym n.0 i) (sym n.1 i) its-cell))

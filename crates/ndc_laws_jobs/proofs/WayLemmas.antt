@@ -1,14 +1,12 @@
 -- What lies above a batch is what is found on the way to its ancestors.
-use Rattle.std.proofs.Common.{◌≡◌, Bool, true, false, cond, List, [], ◌∷◌, Option, Some, None, ◌⊎◌, inl, inr, refl, sym, ◌∙◌, subst, ap}
-use Rattle.ndc_model_cells.specs.Cells.{ancestors_down, ancestry, missing_of}
-use Rattle.ndc_event.specs.Key.{key_eq}
+use Rattle.std.proofs.Common.{◌≡◌, Bool, true, false, cond, List, [], ◌∷◌, Some, None, ◌⊎◌, inl, inr, refl, sym, ◌∙◌, subst}
+use Rattle.ndc_model_cells.specs.Cells.{ancestors_down, ancestry}
 use Rattle.ndc_event.specs.declared.batch.Batch.{Batch}
-use Rattle.ndc_event.specs.declared.key.BatchKey.{BatchKey}
 use Rattle.ndc_model_sets.proofs.CurrentLemmas.{key-wanted}
 use Rattle.ndc_laws_reached.proofs.WayLemmas.{Follows, way-follows, way-inside}
 use Rattle.ndc_model_sets.specs.Learned.{IsClosed, WaitsFor, behind, itself}
 use Rattle.ndc_model_sets.specs.Paths.{Walk, is_wanted}
-use Rattle.ndc_model_sets.specs.Sets.{Has, IsSet, batch_at, earlier}
+use Rattle.ndc_model_sets.specs.Sets.{Has, IsSet, earlier}
 use Rattle.ndc_model_sets.proofs.BranchLemmas.{among-has, same-batch}
 use Rattle.ndc_model_sets.proofs.Lists.{Among}
 use Rattle.ndc_model_sets.proofs.SetLemmas.{found-has, found-key}
@@ -56,10 +54,6 @@ module _ (all : List Batch) (b : Batch) (has : Has all b) where
   pub way-above : IsSet all → (x : Batch) → Among x (ancestry b all).path → WaitsFor all x b
   way-above set x among = (lineage all (λ y there. among-has all y set.ordered there)).inside x among
 
-  -- what is missing among some of the set lies above
-  pub missing-above : (bs : List Batch) → ((x : Batch) → Among x bs → Has all x) → (x : Batch) → Has all x → missing_of b bs ≡ Some x.key → WaitsFor all x b
-  missing-above bs part x x_has e = (lineage bs part).next x x_has e
-
   -- what lies above is on the way
   pub above-way : IsSet all → IsClosed all → (x : Batch) → WaitsFor all x b → (x ≡ b) ⊎ Among x (ancestry b all).path
   above-way set closed x above = from b (inl refl) above
@@ -76,20 +70,3 @@ module _ (all : List Batch) (b : Batch) (has : Has all b) where
               let z_has : Has all found.0 = among-has all found.0 set.ordered (way-inside b all set closed has found.0 found.1) in
               let same : found.0 ≡ before = same-batch all found.0 before z_has (found-has all key before at) (sym k ∙ sym (found-key all key before at)) in
               inr (subst (λ (z : Batch). Among z (ancestry b all).path) same found.1)
-
--- a key that is that of none stays wanted
-absent : (bs : List Batch) (key : BatchKey) → batch_at key bs ≡ None → ancestors_down bs (record { wanted = Some key; path = [] }) ≡ record { wanted = Some key; path = [] }
-absent [] key none = refl
-absent (c ∷ bs) key none = by (key_eq c.key key) refl none (absent bs key)
-  where
-    by : (t : Bool) → key_eq c.key key ≡ t → cond t (Some c) (batch_at key bs) ≡ None → (batch_at key bs ≡ None → ancestors_down bs (record { wanted = Some key; path = [] }) ≡ record { wanted = Some key; path = [] })
-        → ancestors_down (c ∷ bs) (record { wanted = Some key; path = [] }) ≡ record { wanted = Some key; path = [] }
-    by true e gone rest = absurd (cc)
-    by false e gone rest =
-        ap (λ (v : Walk). cond (is_wanted v.wanted c) (record { wanted = earlier c; path = c ∷ v.path }) v) (rest gone)
-        ∙ ap (λ t. cond t (record { wanted = earlier c; path = c ∷ [] }) (record { wanted = Some key; path = [] })) e
-
--- the earlier key is missing where it is that of none
-pub missing-earlier : (bs : List Batch) (b : Batch) (key : BatchKey) → earlier b ≡ Some key → batch_at key bs ≡ None → missing_of b bs ≡ Some key
-missing-earlier bs b key e none =
-    ap (λ (o : Option BatchKey). (ancestors_down bs (record { wanted = o; path = [] })).wanted) e ∙ ap (λ (v : Walk). v.wanted) (absent bs key none)

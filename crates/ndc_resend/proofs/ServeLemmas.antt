@@ -1,12 +1,12 @@
 -- What is served lies between the ends of the gap.
-use Rattle.std.proofs.Common.{◌≡◌, ℕ, ◌+◌, ◌<◌, ◌≤◌, Bool, true, false, cond, List, [], ◌∷◌, ◌++◌, nat_lt, ◌&&◌, ◌==◌, Some, refl, sym, ap, subst, ◌∙◌, arith}
-use Rattle.std.specs.List.{AllByRecursion}
-use Rattle.std.proofs.lemmas.Bool.{eqb-true, le-ltb, lt-ltb}
+use Rattle.std.proofs.Common.{◌≡◌, ℕ, ◌+◌, ◌<◌, ◌≤◌, Bool, true, false, cond, List, [], ◌∷◌, ◌++◌, nat_lt, ◌&&◌, ◌==◌, if◌then◌else◌, refl, sym, ap, subst, ◌∙◌, arith, true≢false}
+use Rattle.std.specs.List.{AllByRecursion, list_all}
+use Rattle.std.proofs.lemmas.Bool.{eqb-true, le-ltb, lt-ltb, ltb-true}
 use Rattle.std.proofs.lemmas.List.Elements.{filter-append}
 use Rattle.ndc_event.specs.Batch.{follow_from}
 use Rattle.ndc_event.specs.declared.batch.Batch.{Batch}
 use Rattle.ndc_event.specs.declared.batch.Event.{Event}
-use Rattle.ndc_resend.specs.Gaps.{is_between, served}
+use Rattle.ndc_resend.specs.Gaps.{end_behind, is_between, served}
 use Rattle.ndc_history.specs.Common.{item_or_zero}
 use Rattle.ndc_resend.specs.declared.serving.Gap.{Gap}
 use Rattle.ndc_model_sets.specs.Paths.{IsPath, first, below, first_id, last_from, last_id, last_item_of, path_to}
@@ -117,6 +117,40 @@ all-between gap n (c ∷ middle) b has h most end =
     rw (lt-ltb gap.after.id (first_id c.events) after_it, lt-ltb (last_id c.events) gap.before.id before_it)
     (ap (λ rest. c ∷ rest) (all-between gap (ends n c.events) middle b has.1 p.there still end))
 
+-- batches that follow an id begin behind it, and so behind each that is not greater
+all-later : (id n : ℕ) (bs : List Batch) → AllByRecursion HasEvents bs → follow_from n (history_of bs) ≡ true → id ≤ n → list_all (λ c. nat_lt id (first_id c.events)) bs ≡ true
+all-later id n [] has h most = refl
+all-later id n (b ∷ bs) has h most =
+    let p = parts n b bs h in
+    let f = follows n b has.0 p.here in
+    let least = ends-least n b.events p.here in
+    let behind : id < first_id b.events = omega (arith, f.first, most) in
+    let still : id ≤ ends n b.events = omega (arith, most, least) in
+    rw (lt-ltb id (first_id b.events) behind) (all-later id (ends n b.events) bs has.1 p.there still)
+
+-- what lies in a gap begins behind its first end, and so does all that follows
+end-same : (gap : Gap) (n : ℕ) (path : List Batch) → AllByRecursion HasEvents path → follow_from n (history_of path) ≡ true → served gap (end_behind gap.after.id path) ≡ served gap path
+end-same gap n [] has h = refl
+end-same gap n (c ∷ cs) has h =
+    let p = parts n c cs h in
+    by (list_all (λ x. nat_lt gap.after.id (first_id x.events)) (c ∷ cs)) refl (end-same gap (ends n c.events) cs has.1 p.there)
+  where
+    before-it : list_all (λ x. nat_lt gap.after.id (first_id x.events)) (c ∷ cs) ≡ false → (t : Bool) → nat_lt gap.after.id (first_id c.events) ≡ t → nat_lt gap.after.id (first_id c.events) ≡ false
+    before-it e false f = f
+    before-it e true f =
+        let p = parts n c cs h in
+        let first = (follows n c has.0 p.here).first in
+        let below : gap.after.id < first_id c.events = ltb-true gap.after.id (first_id c.events) f in
+        let most : gap.after.id ≤ n = omega (arith, below, first) in
+        absurd (true≢false (sym (all-later gap.after.id n (c ∷ cs) has h most) ∙ e))
+
+    by : (t : Bool) → list_all (λ x. nat_lt gap.after.id (first_id x.events)) (c ∷ cs) ≡ t → served gap (end_behind gap.after.id cs) ≡ served gap cs
+        → served gap (if t then c ∷ cs else end_behind gap.after.id cs) ≡ served gap (c ∷ cs)
+    by true e rest = refl
+    by false e rest =
+        rest
+        ∙ sym (ap (λ t. cond (t && nat_lt (last_id c.events) gap.before.id) (c ∷ served gap cs) (served gap cs)) (before-it e (nat_lt gap.after.id (first_id c.events)) refl))
+
 -- where the gap begins
 after-id : (events : List Event) → (item_or_zero (last_item_of events)).id ≡ ends 0 events
 after-id [] = refl
@@ -162,3 +196,9 @@ served_is_between batches b front middle sound has path =
     let all : served gap (middle ++ b ∷ []) ≡ middle = all-between gap (ends 0 (history_of front)) middle b (all-rest HasEvents front (middle ++ b ∷ []) events)
     (follow-rest 0 (history_of front) (history_of (middle ++ b ∷ [])) follow) (omega (arith, start)) refl in
     ap (served gap) path ∙ filter-append (is_between gap) front (middle ++ b ∷ []) ∙ (λ i. none i ++ all i)
+
+-- of a path it is enough to look at its end that begins behind the gap's first end
+pub end_is_enough : (batches : List Batch) (b : Batch) (gap : Gap) → IsSound batches → Has batches b → served gap (end_behind gap.after.id (path_to b.key batches)) ≡ served gap (path_to b.key batches)
+end_is_enough batches b gap sound has =
+    let is : IsPath batches b (path_to b.key batches) = path_is batches b sound.set sound.closed has in
+    end-same gap 0 (path_to b.key batches) (path-has_events batches b (path_to b.key batches) sound is) (path-events batches b (path_to b.key batches) sound.faultless sound.parents is).follow

@@ -1,6 +1,6 @@
 -- Gaps: between the best item that local histories have in common with a remote one, and the first event of a batch.
-use Rattle.std.specs.Prelude.{Bool, ◌&&◌, nat_lt, List}
-use Rattle.std.specs.List.{filter}
+use Rattle.std.specs.Prelude.{ℕ, Bool, ◌&&◌, nat_lt, List, [], ◌∷◌, if◌then◌else◌}
+use Rattle.std.specs.List.{filter, list_all}
 use Rattle.ndc_event.specs.declared.batch.Batch.{Batch}
 use Rattle.ndc_history.specs.Common.{best_from, item_or_zero}
 use Rattle.ndc_history.specs.declared.item.Item.{Item}
@@ -18,6 +18,11 @@ first_item b = record { id = first_id b.events; version = b.key.version }
 -- whether a batch lies in a gap: all of its events come after the one end and before the other
 abbrev pub is_between : Gap → Batch → Bool
 is_between gap b = nat_lt gap.after.id (first_id b.events) && nat_lt (last_id b.events) gap.before.id
+
+-- the end of a path that begins behind an id: its last batches, as many as all begin behind it
+abbrev pub end_behind : ℕ → List Batch → List Batch
+end_behind id [] = []
+end_behind id (b ∷ path) = if list_all (λ c. nat_lt id (first_id c.events)) (b ∷ path) then b ∷ path else end_behind id path
 
 -- the batches of a path that lie in a gap
 abbrev pub served : Gap → List Batch → List Batch

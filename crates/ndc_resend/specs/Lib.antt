@@ -1,1 +1,5 @@
+pub mod Asked
+pub mod Bringing
 pub mod Gaps
+pub mod PutOff
+pub mod Serving

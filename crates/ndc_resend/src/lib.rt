@@ -1,10 +1,12 @@
-//! Gaps: what lies between what two clusters have of a run.
+//! Gaps: what a cell lacks before each batch that it has put off, what another cell serves for it, and what asking for
+//! all of them brings.
 #![tactic(auto)]
 
+mod asking;
 mod finding;
-mod laws;
+pub mod laws;
 mod serving;
 
+pub use asking::GapOf;
 pub use finding::{first_item, gap};
-pub use laws::{a_gap_begins_behind_the_last_learned_ancestor, what_lies_between_is_served};
 pub use serving::{Gap, is_between, serve};

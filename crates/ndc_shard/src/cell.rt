@@ -1,10 +1,11 @@
 use crate::jobs::{do_job, is_idle};
-use crate::lacking::lacking_in;
 use crate::shard::Shard;
-use ndc_cluster_reads::{Lacking, Reads};
+use ndc_cluster_reads::Reads;
 use ndc_cluster_rounds::{Cell, Desk, Home};
 use ndc_event::{BatchKey, Name};
 use ndc_model_cells::{Job, JobReply, Message, Place};
+use ndc_resend::GapOf;
+use ndc_shard_gaps::gaps_at;
 use ndc_shard_runs::Runs;
 use ndc_shard_workflows::messages_of;
 use std::alloc::{AllocError, Global};
@@ -63,16 +64,21 @@ impl Reads for Shard {
         self.held().behind(alloc)
     }
 
-    fn put_off(
+    fn gaps(&self, _alloc: Global) -> Result<Vec<GapOf>, AllocError> {
+        Shard::gaps(self)
+    }
+
+    fn gaps_in(
         &self,
         alloc: Global,
         domain: &Name,
         workflow: &Name,
-    ) -> Result<Vec<Lacking>, AllocError> {
-        match self.held().find(domain, workflow) {
-            Some(found) => lacking_in(alloc, found),
-            None => Ok(Vec::new(alloc)),
-        }
+    ) -> Result<Vec<GapOf>, AllocError> {
+        gaps_at(alloc, self.held(), domain, workflow)
+    }
+
+    fn serve(&self, _alloc: Global, asked: &GapOf) -> Result<Vec<Message>, AllocError> {
+        Shard::serve(self, asked)
     }
 
     fn message_at(

@@ -7,7 +7,6 @@ mod cell;
 mod error;
 mod jobs;
 pub mod keeping_laws;
-mod lacking;
 mod shard;
 mod showing;
 
@@ -15,5 +14,5 @@ pub use error::ShardError;
 pub use ndc_cluster_rounds::Home;
 pub use ndc_model_cells::{Arrived, Job, JobReply, Keys, Outcome, ShardJob, Written, shard_of};
 pub use ndc_model_sets::{Batches, BranchView, BranchViews, RunStatus, RunView, RunViews, View};
-pub use ndc_shard_gaps::GapOf;
+pub use ndc_resend::GapOf;
 pub use shard::Shard;

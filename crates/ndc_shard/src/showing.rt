@@ -2,7 +2,8 @@ use crate::shard::Shard;
 use ndc_event::{BatchKey, Name};
 use ndc_model_cells::Message;
 use ndc_model_sets::View;
-use ndc_shard_gaps::{GapOf, gaps, serve};
+use ndc_resend::GapOf;
+use ndc_shard_gaps::{gaps, serve};
 use ndc_shard_workflows::{message_there, messages_of};
 use ndc_state::Steps;
 use std::alloc::AllocError;
@@ -12,8 +13,8 @@ impl Shard {
     ghost use Rattle.ndc_model_cells.specs.Cells.{learned_of, message_at};
     ghost use Rattle.ndc_model_cells.specs.Domains.{learned_of_domains};
     ghost use Rattle.ndc_model_sets.specs.Learned.{has_key};
-    ghost use Rattle.ndc_shard_gaps.specs.Gaps.{gaps_of};
-    ghost use Rattle.ndc_shard_gaps.specs.Serving.{served_for};
+    ghost use Rattle.ndc_resend.specs.PutOff.{gaps_of};
+    ghost use Rattle.ndc_resend.specs.Serving.{served_for};
     ghost use Rattle.ndc_shard_runs.specs.View.{view_at};
     ghost use Rattle.ndc_shard_workflows.specs.Reading.{learned_workflows};
 

@@ -27,8 +27,9 @@ use Rattle.ndc_shard_workflows.specs.Workflow.{IsWorkflow, all_missing}
 use Rattle.ndc_shard_workflows.proofs.PutOffLemmas.{put_off_waits}
 use Rattle.ndc_shard_workflows.proofs.SameLemmas.{names-of}
 use Rattle.ndc_shard_workflows.proofs.WaitLemmas.{off-own, ordered-kept}
-use Rattle.ndc_shard_gaps.specs.declared.finding.GapOf.{GapOf}
-use Rattle.ndc_shard_gaps.specs.Gaps.{gap_in, gap_there, gap_with, gaps_at, gaps_in, gaps_of}
+use Rattle.ndc_resend.specs.declared.asking.GapOf.{GapOf}
+use Rattle.ndc_resend.specs.PutOff.{gap_in, gap_with, gaps_at, gaps_in, gaps_of}
+use Rattle.ndc_shard_gaps.specs.Gaps.{gap_there}
 use Rattle.ndc_shard_gaps.specs.Histories.{histories_at}
 use Rattle.ndc_shard_gaps.proofs.GroupLemmas.{by-workflow}
 

@@ -1,8 +1,4 @@
-mod AskedLemmas
-mod AncestorLemmas
 mod BranchLemmas
-mod BringLemmas
-mod ChainLemmas
+mod EndLemmas
 mod GapLemmas
 mod GroupLemmas
-mod PathLemmas

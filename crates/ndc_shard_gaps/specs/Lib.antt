@@ -1,5 +1,3 @@
-pub mod Asked
-pub mod Bringing
+pub mod Ends
 pub mod Gaps
 pub mod Histories
-pub mod Serving

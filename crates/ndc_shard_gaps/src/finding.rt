@@ -1,31 +1,20 @@
-ghost use Rattle.std.specs.Prelude.{◌≡◌, ◌++◌, option_to_list, IfOk, OnOk};
+ghost use Rattle.std.specs.Prelude.{◌≡◌, [], ◌++◌, is_some, option_to_list, IfOk, OnOk, if◌then◌else◌};
 ghost use Rattle.std.specs.Option.{option_copied};
+ghost use Rattle.ndc_model_cells.specs.Workflow.{workflow_of};
 ghost use Rattle.ndc_resend.specs.Gaps.{first_item, gap_of};
-ghost use Rattle.ndc_shard_gaps.specs.Gaps.{gap_there, gap_with, gaps_at, gaps_in, gaps_of, history_in};
+ghost use Rattle.ndc_resend.specs.PutOff.{gap_with, gaps_at, gaps_in, gaps_of, history_in};
+ghost use Rattle.ndc_shard_gaps.specs.Gaps.{gap_there};
 ghost use Rattle.ndc_shard_gaps.specs.Histories.{histories_at};
 ghost use Rattle.ndc_shard_workflows.specs.Workflow.{IsWorkflow};
 
 use crate::histories::Histories;
-use ndc_event::{Batch, BatchKey, Name, RunId};
+use ndc_event::{Batch, BatchKey, Name};
 use ndc_history::VersionHistory;
 use ndc_model_cells::{Message, Place};
-use ndc_resend::{Gap, first_item};
+use ndc_resend::{Gap, GapOf, first_item};
 use ndc_shard_waiting::{PutOff, Waiting};
 use ndc_shard_workflows::{Workflow, Workflows};
 use std::alloc::{AllocError, Global};
-
-/// A batch that is put off, and what it waits for.
-#[derive(Drop)]
-pub struct GapOf {
-    pub domain: Name,
-    pub workflow: Name,
-    pub run: RunId,
-    pub key: BatchKey,
-    /// What lies between what is learned of its run and its first event.
-    pub gap: Gap,
-    /// The key of its nearest ancestor that has not arrived.
-    pub missing: BatchKey,
-}
 
 /// What is put off in a cell, in order of domain, workflow and key, each batch with the gap before it: behind the best item
 /// that the histories of the learned branches of its run have in common with the history that its message came with.
@@ -37,23 +26,28 @@ pub fn gaps(alloc: Global, workflows: &Workflows) -> Result<Vec<GapOf>, AllocErr
     let places = workflows.behind(alloc)?;
     let mut list = Vec::new(alloc);
     for place in places.as_slice() {
-        let mut more = gaps_at(alloc, workflows, place)?;
+        let mut more = gaps_at(alloc, workflows, &place.domain, &place.workflow)?;
         list.append(&mut more)?;
     }
     Ok(list)
 }
 
-/// Those of the workflow of a place.
-fn gaps_at(alloc: Global, workflows: &Workflows, place: &Place) -> Result<Vec<GapOf>, AllocError>
-    ensures { IfOk result (λ list. list.items ≡ gaps_at workflows.now place.now) }
+/// Those of one workflow, in key order.
+pub fn gaps_at(
+    alloc: Global,
+    workflows: &Workflows,
+    domain: &Name,
+    workflow: &Name,
+) -> Result<Vec<GapOf>, AllocError>
+    ensures { IfOk result (λ list. list.items ≡ gaps_in (workflow_of domain.now workflow.now workflows.now)) }
 {
-    match workflows.find(&place.domain, &place.workflow) {
+    match workflows.find(domain, workflow) {
         Some(found) => gaps_in(alloc, found),
         None => Ok(Vec::new(alloc)),
     }
 }
 
-/// Those of a workflow, in key order.
+/// Those of a workflow.
 fn gaps_in(alloc: Global, workflow: &Workflow) -> Result<Vec<GapOf>, AllocError>
     requires { IsWorkflow workflow.now }
     ensures { IfOk result (λ list. list.items ≡ gaps_in workflow.now) }
@@ -102,13 +96,13 @@ fn gap_of(
     })
 }
 
-/// The gap before a batch, which this message brings.
+/// The gap before a batch, which this message brings; a batch that begins its run has no history before it.
 fn gap_before(histories: &Histories, batch: &Batch, sent: Option<&Message>) -> Gap
-    ensures { result ≡ gap_of (histories_at batch.now.run histories.now) (history_in (option_copied sent.entry)) (first_item batch.now) }
+    ensures { result ≡ gap_of (histories_at batch.now.run histories.now) (if is_some batch.now.parent then history_in (option_copied sent.entry) else []) (first_item batch.now) }
 {
     let first = first_item(batch);
     match sent {
-        Some(sent) => histories.gap(batch.run, &sent.history, first),
-        None => histories.gap(batch.run, &VersionHistory::new(histories.alloc()), first),
+        Some(sent) if batch.parent.is_some() => histories.gap(batch.run, &sent.history, first),
+        _ => histories.gap(batch.run, &VersionHistory::new(histories.alloc()), first),
     }
 }

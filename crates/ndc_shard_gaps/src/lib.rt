@@ -3,8 +3,7 @@
 
 mod finding;
 mod histories;
-pub mod laws;
 mod serving;
 
-pub use finding::{GapOf, gaps};
+pub use finding::{gaps, gaps_at};
 pub use serving::serve;

@@ -5,22 +5,23 @@ ghost use Rattle.ndc_model_cells.specs.Cells.{message_at};
 ghost use Rattle.ndc_model_cells.specs.Places.{place_of};
 ghost use Rattle.ndc_model_sets.specs.Paths.{path_to};
 ghost use Rattle.ndc_model_sets.specs.Reading.{named};
-ghost use Rattle.ndc_model_sets.specs.Sets.{IsSet, earlier};
-ghost use Rattle.ndc_resend.specs.Gaps.{served};
-ghost use Rattle.ndc_shard_gaps.specs.Serving.{answered, chain_to, first_carrier, served_for};
+ghost use Rattle.ndc_model_sets.specs.Sets.{IsSet};
+ghost use Rattle.ndc_resend.specs.Gaps.{end_behind, served};
+ghost use Rattle.ndc_shard_gaps.specs.Ends.{behind};
+ghost use Rattle.ndc_resend.specs.Serving.{answered, chain_to, first_carrier, served_for};
 
-use crate::finding::GapOf;
 use ndc_event::{Batch, BatchKey};
 use ndc_model_cells::Message;
-use ndc_resend::{Gap, is_between};
+use ndc_model_sets::{earlier_key, first_id};
+use ndc_resend::{Gap, GapOf, is_between};
 use ndc_shard_runs::Runs;
 use ndc_shard_workflows::{Workflows, message_there};
 use std::alloc::{AllocError, Global};
 
 /// What a cell serves for a gap: the messages of the batches in it on the path to the batch that was asked for, in path
 /// order. A batch that another one carries comes with the message of its carrier, behind the messages of the carrier's
-/// path, and so on upwards. Nothing, where the batch that was asked for is not learned here. In time of the path, and of
-/// what is put off of the workflow for each message.
+/// path, and so on upwards. Nothing, where the batch that was asked for is not learned here. In time of what is served
+/// times the logarithm of what is learned, and of what is put off of the workflow for each message.
 pub fn serve(
     alloc: Global,
     workflows: &Workflows,
@@ -78,11 +79,40 @@ fn lie_between<'r>(
     gap: &Gap,
     key: BatchKey,
 ) -> Result<Vec<&'r Batch>, AllocError>
-    ensures { IfOk result (λ list. map (λ b. b.now) list.items ≡ served gap.now (path_to key runs.now)) }
+    requires { IsSet runs.now }
+    ensures { IfOk result (λ list. map (λ b. b.now) list.items ≡ served gap.now (end_behind gap.now.after.id (path_to key runs.now))) }
 {
-    match runs.path(alloc, key)? {
-        Some(path) => kept_between(alloc, path.as_slice(), gap),
-        None => Ok(Vec::new(alloc)),
+    let path = path_behind(alloc, runs, gap.after.id, key)?;
+    kept_between(alloc, path.as_slice(), gap)
+}
+
+/// The end of the path to the batch of this key that begins behind an id. In time of its length.
+fn path_behind(
+    alloc: Global,
+    runs: &Runs,
+    id: u64,
+    key: BatchKey,
+) -> Result<Vec<&Batch>, AllocError>
+    requires { IsSet runs.now }
+    ensures { IfOk result (λ list. map (λ b. b.now) list.items ≡ end_behind id (path_to key runs.now)) }
+{
+    let mut list = Vec::new(alloc);
+    let mut next = behind(named(runs, Some(key)), id);
+    while let Some(one) = next {
+        list.push(one)?;
+        next = behind(named(runs, one.parent), id);
+    }
+    list.reverse();
+    Ok(list)
+}
+
+/// The batch, where it begins behind an id.
+fn behind(batch: Option<&Batch>, id: u64) -> Option<&Batch>
+    ensures { option_copied result ≡ behind id (option_copied batch.entry) }
+{
+    match batch {
+        Some(one) if id < first_id(one.events.as_slice()) => Some(one),
+        _ => None,
     }
 }
 
@@ -122,7 +152,7 @@ fn chain(alloc: Global, runs: &Runs, wanted: Option<BatchKey>) -> Result<Vec<&Ba
     let mut next = named(runs, wanted);
     while let Some(one) = next {
         list.push(one)?;
-        next = named(runs, earlier(one));
+        next = named(runs, earlier_key(one));
     }
     list.reverse();
     Ok(list)
@@ -135,15 +165,5 @@ fn named(runs: &Runs, key: Option<BatchKey>) -> Option<&Batch>
     match key {
         None => None,
         Some(key) => runs.get(key),
-    }
-}
-
-/// The key of the batch's parent, or of its carrier.
-fn earlier(batch: &Batch) -> Option<BatchKey>
-    ensures { result ≡ earlier batch.now }
-{
-    match batch.parent {
-        Some(parent) => Some(parent),
-        None => batch.carrier,
     }
 }

@@ -1,9 +1,10 @@
 use crate::given::name;
 use ndc_command::Refusal;
-use ndc_event::{BatchKey, Name};
+use ndc_event::{BatchKey, Name, RunId};
 use ndc_history::Item;
+use ndc_resend::{Gap, GapOf};
 use ndc_world_answers::{
-    Gap, Tally, arrived, behind_number, brought, counted, gaps, refusal, settled, worked,
+    Tally, arrived, behind_number, brought, counted, gaps, refusal, settled, worked,
 };
 use std::alloc::{AllocError, Global};
 use std::test::Fail;
@@ -29,15 +30,18 @@ fn push_numbers(alloc: Global, text: &mut Vec<u8>) -> Result<(), AllocError> {
 
 // The answer on one gap.
 fn one_gap(alloc: Global, domain: &Name, workflow: &Name) -> Result<Vec<u8>, AllocError> {
-    let list = [Gap {
-        domain,
-        workflow,
+    let list = [GapOf {
+        domain: domain.try_copy()?,
+        workflow: workflow.try_copy()?,
+        run: RunId { value: 1 },
         key: BatchKey {
             version: 2,
             task: 5,
         },
-        after: Item { id: 4, version: 1 },
-        before: Item { id: 9, version: 2 },
+        gap: Gap {
+            after: Item { id: 4, version: 1 },
+            before: Item { id: 9, version: 2 },
+        },
         missing: BatchKey {
             version: 1,
             task: 3,

@@ -5,13 +5,14 @@ ghost use Rattle.ndc_model.specs.Facts.{IsReached};
 ghost use Rattle.ndc_world_network.specs.Orderly.{IsOrderly};
 
 use crate::given::{ListCell, name};
-use ndc_cluster_reads::{Lacking, Reads};
+use ndc_cluster_reads::Reads;
 use ndc_cluster_rounds::Cell;
 use ndc_domain::{ClusterNo, Clusters, Members};
 use ndc_event::{BatchKey, Name};
 use ndc_graceful::{Handover, Places};
 use ndc_model_cells::{Message, Place};
 use ndc_port::OpenGate;
+use ndc_resend::GapOf;
 use ndc_script_types::Header;
 use ndc_shard_runs::Runs;
 use ndc_world_network::Network;
@@ -31,12 +32,20 @@ impl Reads for ListCell {
         Ok(Vec::new(alloc))
     }
 
-    fn put_off(
+    fn gaps(&self, alloc: Global) -> Result<Vec<GapOf>, AllocError> {
+        Ok(Vec::new(alloc))
+    }
+
+    fn gaps_in(
         &self,
         alloc: Global,
         _domain: &Name,
         _workflow: &Name,
-    ) -> Result<Vec<Lacking>, AllocError> {
+    ) -> Result<Vec<GapOf>, AllocError> {
+        Ok(Vec::new(alloc))
+    }
+
+    fn serve(&self, alloc: Global, _asked: &GapOf) -> Result<Vec<Message>, AllocError> {
         Ok(Vec::new(alloc))
     }
 

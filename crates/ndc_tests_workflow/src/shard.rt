@@ -79,7 +79,8 @@ fn is_read<C: Reads>(cell: &C, alloc: Global) -> Result<bool, AllocError> {
     let is_learned = cell.learned_of(alloc, &domains)?.len() == 1;
     let is_sent = cell.message_at(alloc, domain, workflow, KEY)?.is_some();
     let is_here = cell.behind(alloc)?.is_empty();
-    let is_whole = cell.put_off(alloc, domain, workflow)?.is_empty();
+    let is_whole = cell.gaps(alloc)?.is_empty()
+        && cell.gaps_in(alloc, domain, workflow)?.is_empty();
     let is_known = cell.runs(domain, workflow).is_some();
     let has_arrived = cell.has_arrived(domain, workflow, KEY);
     Ok(is_learned && is_sent && is_here && is_whole && is_known && has_arrived)

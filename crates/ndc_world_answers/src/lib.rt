@@ -19,7 +19,7 @@ pub use domains::{
 pub use handovers::{begin_refused, no_handover, ready_refused, still_open};
 pub use membership::members;
 pub use progress::{beaten, report, stale};
-pub use queues::{Gap, arrived, brought, gaps, levels, no_place, settled, worked};
+pub use queues::{arrived, brought, gaps, levels, no_place, settled, worked};
 pub use reading::{branches, compared, current, dump, history, no_workflow, state};
 pub use tally::{Tally, add_seen};
 pub use word::behind_number;

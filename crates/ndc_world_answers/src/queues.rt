@@ -7,9 +7,8 @@ use crate::domains::counted;
 use crate::tally::Tally;
 use crate::word::{Word, ok, refused};
 use ndc_dump_show::line::{push_item, push_key};
-use ndc_event::{BatchKey, Name};
-use ndc_history::Item;
 use ndc_queue::Levels;
+use ndc_resend::GapOf;
 use std::alloc::{AllocError, Global};
 
 /// No message is at the place.
@@ -115,22 +114,8 @@ pub fn settled(alloc: Global, tally: Tally) -> Result<Vec<u8>, AllocError>
     )
 }
 
-/// A batch that is put off, and what it waits for.
-#[derive(Drop)]
-pub struct Gap<'a> {
-    pub domain: &'a Name,
-    pub workflow: &'a Name,
-    pub key: BatchKey,
-    /// The last event of its last learned ancestor, or id and version 0.
-    pub after: Item,
-    /// Its own first event.
-    pub before: Item,
-    /// The nearest ancestor that has not arrived.
-    pub missing: BatchKey,
-}
-
 /// Appends which batch is put off.
-fn push_put_off(text: &mut Vec<u8>, gap: &Gap) -> Result<(), AllocError>
+fn push_put_off(text: &mut Vec<u8>, gap: &GapOf) -> Result<(), AllocError>
     ensures { OnOk result (text.new.items ≡ text.old.items ++ gap_head gap.now) }
 {
     text.extend_from_slice(b"gap ")?;
@@ -142,20 +127,20 @@ fn push_put_off(text: &mut Vec<u8>, gap: &Gap) -> Result<(), AllocError>
 }
 
 /// Appends between which events the gap lies, and what is missing.
-fn push_ends(text: &mut Vec<u8>, gap: &Gap) -> Result<(), AllocError>
+fn push_ends(text: &mut Vec<u8>, gap: &GapOf) -> Result<(), AllocError>
     ensures { OnOk result (text.new.items ≡ text.old.items ++ gap_ends gap.now) }
 {
     text.extend_from_slice(b" after ")?;
-    push_item(text, gap.after)?;
+    push_item(text, gap.gap.after)?;
     text.extend_from_slice(b" before ")?;
-    push_item(text, gap.before)?;
+    push_item(text, gap.gap.before)?;
     text.extend_from_slice(b" missing ")?;
     push_key(text, gap.missing)?;
     text.extend_from_slice(b"\n")
 }
 
 /// Appends the line of a gap.
-fn push_gap(text: &mut Vec<u8>, gap: &Gap) -> Result<(), AllocError>
+fn push_gap(text: &mut Vec<u8>, gap: &GapOf) -> Result<(), AllocError>
     ensures { OnOk result (text.new.items ≡ text.old.items ++ gap_text gap.now) }
 {
     push_put_off(text, gap)?;
@@ -163,7 +148,7 @@ fn push_gap(text: &mut Vec<u8>, gap: &Gap) -> Result<(), AllocError>
 }
 
 /// How many batches are put off, and a line for each.
-pub fn gaps(alloc: Global, gaps: &[Gap]) -> Result<Vec<u8>, AllocError>
+pub fn gaps(alloc: Global, gaps: &[GapOf]) -> Result<Vec<u8>, AllocError>
     ensures { IfOk result (λ text. text.items ≡ ok (decimal (length gaps.now) ∷ []) ++ flat_map gap_text gaps.now) }
 {
     let mut text = counted(alloc, gaps.len() as u64)?;

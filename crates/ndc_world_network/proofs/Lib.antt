@@ -1,5 +1,6 @@
 pub mod AgainLemmas
 pub mod AllowedLemmas
+pub mod BroughtLemmas
 pub mod ChosenLemmas
 pub mod FindLemmas
 pub mod FlightLemmas

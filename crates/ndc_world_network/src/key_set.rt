@@ -5,7 +5,7 @@ use std::marker::Model;
 
 /// Keys of batches, each once. Seen as their list, ascending.
 #[derive(Drop)]
-pub struct KeySet {
+pub(crate) struct KeySet {
     keys: BTreeSet<BatchKey>,
 }
 
@@ -19,11 +19,11 @@ impl Model for KeySet {
 }
 
 impl KeySet {
-    ghost use Rattle.std.specs.Prelude.{◌≡◌, [], IfOk, OnOk, OnErr};
+    ghost use Rattle.std.specs.Prelude.{◌≡◌, [], OnOk, OnErr};
     ghost use Rattle.ndc_model_sets.specs.Keys.{is_key_among, with_key};
 
     /// There is no key. Takes no memory.
-    pub fn new(alloc: Global) -> KeySet
+    pub(crate) fn new(alloc: Global) -> KeySet
         ensures { result ≡ [] }
     {
         KeySet {
@@ -32,7 +32,7 @@ impl KeySet {
     }
 
     /// Whether the key is one of them. In time of the logarithm of their number; takes no memory.
-    pub fn has(&self, key: BatchKey) -> bool
+    pub(crate) fn has(&self, key: BatchKey) -> bool
         ensures { result ≡ is_key_among key self.now }
     {
         self.keys.contains(&key)
@@ -40,18 +40,11 @@ impl KeySet {
 
     /// Puts the key to its place, where it is not there. In time of the logarithm of their number. For want of memory
     /// nothing changes.
-    pub fn put(&mut self, key: BatchKey) -> Result<(), AllocError>
+    pub(crate) fn put(&mut self, key: BatchKey) -> Result<(), AllocError>
         ensures ok { OnOk result (self.new ≡ with_key key self.old) }
         ensures err { OnErr result (self.new ≡ self.old) }
     {
         self.keys.insert(key)?;
         Ok(())
-    }
-
-    /// The keys, ascending.
-    pub fn to_vec(&self, alloc: Global) -> Result<Vec<BatchKey>, AllocError>
-        ensures { IfOk result (λ list. list.items ≡ self.now) }
-    {
-        self.keys.iter().copied().collect(alloc)
     }
 }

@@ -2,6 +2,7 @@
 #![tactic(auto)]
 
 mod bootstrapping;
+mod brought;
 mod due;
 mod flights;
 mod handovers;
@@ -19,7 +20,6 @@ mod taking;
 mod trimming;
 mod working;
 
-pub use key_set::KeySet;
 pub use network::Network;
 pub use site::Site;
 pub use working::{Done, Worked};

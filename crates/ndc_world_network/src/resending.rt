@@ -1,56 +1,33 @@
-ghost use Rattle.std.specs.Prelude.{◌≡◌, ◌<◌, ◌++◌, List, length, map, option_to_list, None, Some, IfSome, IfNone, IfOk, OnOk};
-ghost use Rattle.std.specs.List.{AllByRecursion, IsAmong, filter, flat_map};
-ghost use Rattle.std.specs.Option.{option_copied};
+ghost use Rattle.std.specs.Prelude.{◌≡◌, ◌<◌, [], ◌++◌, length, map, IfSome, IfNone, IfOk, OnOk};
+ghost use Rattle.std.specs.List.{AllByRecursion, IsAmong, flat_map};
 ghost use Rattle.ndc_script_types.specs.WellFormed.{IsCluster};
-ghost use Rattle.ndc_laws_jobs.specs.Again.{AreGatheredFor, IsGatheredFor, messages_by_authors, sent_again_at, sent_again_of};
-ghost use Rattle.ndc_laws_jobs.specs.Authors.{batch_by_author, cell_by, message_by_author};
-ghost use Rattle.ndc_laws_jobs.specs.Steps.{keys_to};
-ghost use Rattle.ndc_model_cells.specs.Cells.{empty_cell, learned_of, put_off_in};
+ghost use Rattle.ndc_laws_jobs.specs.Again.{cell_by, sent_again_at, sent_again_of, served_by_author};
+ghost use Rattle.ndc_model_cells.specs.Cells.{empty_cell, put_off_in};
 ghost use Rattle.ndc_model_cells.specs.Jobs.{cell_for};
-ghost use Rattle.ndc_model_cells.specs.Places.{is_of, place_of};
+ghost use Rattle.ndc_model_cells.specs.Places.{place_of};
 ghost use Rattle.ndc_domain.specs.Clusters.{writer_of};
-ghost use Rattle.ndc_event.specs.declared.key.BatchKey.{BatchKey as Key};
 ghost use Rattle.ndc_laws_reached.specs.Sometime.{IsReachedSometime};
-ghost use Rattle.ndc_cluster_reads.specs.Lacking.{all_lacking};
 ghost use Rattle.ndc_model.specs.Fair.{IsShaped};
-ghost use Rattle.ndc_model.specs.Moves.{all_written, arrives, resent, sent_again};
+ghost use Rattle.ndc_model.specs.Moves.{arrives, resent, sent_again};
 ghost use Rattle.ndc_model.specs.World.{cell_at};
 ghost use Rattle.ndc_model.specs.Conditions.{MayDoAll, again_jobs};
+ghost use Rattle.ndc_resend.specs.Bringing.{asked_for, asked_from};
+ghost use Rattle.ndc_world_network.specs.Brought.{AreKeysOf};
 ghost use Rattle.ndc_world_network.specs.Dones.{notes_in};
-ghost use Rattle.ndc_model_sets.specs.Sets.{batch_at, earlier};
 
+use crate::brought::{add_all, new_of};
 use crate::key_set::KeySet;
 use crate::network::Network;
 use crate::taking::add_jobs;
 use crate::working::Done;
-use ndc_cluster_reads::{Lacking, Reads};
+use ndc_cluster_reads::Reads;
 use ndc_domain::ClusterNo;
-use ndc_event::{Batch, BatchKey, Name};
 use ndc_model_cells::{Message, Place, ShardJob};
 use ndc_port::Gate;
+use ndc_resend::GapOf;
 use ndc_script_types::Header;
 use std::alloc::{AllocError, Global};
 use std::thread::Threads;
-
-/// The key of a batch's parent, or else of its carrier.
-fn earlier_key(batch: &Batch) -> Option<BatchKey>
-    ensures { result ≡ earlier batch.now }
-{
-    match batch.parent {
-        Some(parent) => Some(parent),
-        None => batch.carrier,
-    }
-}
-
-/// A message goes last, where there is one.
-fn add_message(messages: &mut Vec<Message>, message: Option<Message>) -> Result<(), AllocError>
-    ensures { OnOk result (messages.new.items ≡ messages.old.items ++ option_to_list message) }
-{
-    if let Some(message) = message {
-        messages.push(message)?;
-    }
-    Ok(())
-}
 
 /// The cell of a shard.
 fn cell_of<C: Reads>(cells: &[C], shard: u32, shards: u32) -> &C
@@ -59,21 +36,6 @@ fn cell_of<C: Reads>(cells: &[C], shard: u32, shards: u32) -> &C
     ensures { C.cell result.now ≡ cell_for shard (map C.cell cells.now) }
 {
     &cells[shard as usize]
-}
-
-/// The batch of a key of a workflow that a cell has learned.
-fn learned_at<'a, C: Reads>(
-    cell: &'a C,
-    domain: &Name,
-    workflow: &Name,
-    key: BatchKey,
-) -> Option<&'a Batch>
-    ensures { option_copied result ≡ batch_at key (learned_of domain.now workflow.now (C.cell cell.now)) }
-{
-    match cell.runs(domain, workflow) {
-        Some(runs) => runs.get(key),
-        None => None,
-    }
 }
 
 impl<C: Reads + Drop> Network<C> {
@@ -89,62 +51,6 @@ impl<C: Reads + Drop> Network<C> {
         Some(cell_of(cells, shard, header.shards))
     }
 
-    /// The batch of a key of a workflow, as its author has learned it.
-    fn find_learned(
-        &self,
-        header: &Header,
-        shard: u32,
-        domain: &Name,
-        workflow: &Name,
-        key: BatchKey,
-    ) -> Option<&Batch>
-        requires shard { shard < header.now.shards }
-        requires shaped { IsShaped header.now self.now }
-        ensures { option_copied result ≡ batch_by_author header.now shard self.now (record { domain = domain.now; workflow = workflow.now; key = key }) }
-    {
-        match self.author(header, shard, key.version) {
-            Some(cell) => learned_at(cell, domain, workflow, key),
-            None => None,
-        }
-    }
-
-    /// The batch of a key of a workflow that was written, in a shard: its author has learned it. None where nothing of that
-    /// key was written.
-    pub fn find_written(
-        &self,
-        header: &Header,
-        shard: u32,
-        domain: &Name,
-        workflow: &Name,
-        key: BatchKey,
-    ) -> Option<&Batch>
-        requires shard { shard < header.now.shards }
-        requires reached { IsReachedSometime header.now self.now }
-        ensures { option_copied result ≡ batch_at key (filter (is_of domain.now workflow.now) (all_written header.now shard self.now)) }
-    {
-        self.find_learned(header, shard, domain, workflow, key)
-    }
-
-    /// The message of a key of a workflow, as its author has learned it. A carried batch has none of its own.
-    fn message_written(
-        &self,
-        alloc: Global,
-        header: &Header,
-        shard: u32,
-        domain: &Name,
-        workflow: &Name,
-        key: BatchKey,
-    ) -> Result<Option<Message>, AllocError>
-        requires shard { shard < header.now.shards }
-        requires shaped { IsShaped header.now self.now }
-        ensures { IfOk result (λ sent. sent ≡ message_by_author header.now shard self.now (record { domain = domain.now; workflow = workflow.now; key = key })) }
-    {
-        match self.author(header, shard, key.version) {
-            Some(cell) => cell.message_at(alloc, domain, workflow, key),
-            None => Ok(None),
-        }
-    }
-
     /// The cell of a reader for a shard.
     fn reader_cell(&self, header: &Header, reader: ClusterNo, shard: u32) -> &C
         requires reader { IsCluster header.now reader }
@@ -156,131 +62,64 @@ impl<C: Reads + Drop> Network<C> {
         cell_of(cells, shard, header.shards)
     }
 
-    /// Gathers a key, where its batch was written and has not arrived at the reader, and tells the key that is wanted next:
-    /// that of the batch's nearest ancestor. None is where nothing is to be done.
-    fn gather_one(
-        &self,
-        header: &Header,
-        reader: ClusterNo,
-        shard: u32,
-        domain: &Name,
-        workflow: &Name,
-        keys: &mut KeySet,
-        key: BatchKey,
-    ) -> Result<Option<BatchKey>, AllocError>
-        requires reader { IsCluster header.now reader }
-        requires shard { shard < header.now.shards }
-        requires reached { IsReachedSometime header.now self.now }
-        ensures gathered { IfOk result (λ next. (begun : List Key) → IsGatheredFor (all_written header.now shard self.now) (cell_at reader shard self.now) domain.now workflow.now begun keys.old (Some key)
-            → IsGatheredFor (all_written header.now shard self.now) (cell_at reader shard self.now) domain.now workflow.now begun keys.new next) }
-        ensures smaller { IfOk result (λ next. IfSome next (λ up. keys_to (filter (is_of domain.now workflow.now) (all_written header.now shard self.now)) up
-            < keys_to (filter (is_of domain.now workflow.now) (all_written header.now shard self.now)) key)) }
-    {
-        if keys.has(key) {
-            return Ok(None);
-        }
-        let cell = self.reader_cell(header, reader, shard);
-        if cell.has_arrived(domain, workflow, key) {
-            return Ok(None);
-        }
-        match self.find_written(header, shard, domain, workflow, key) {
-            Some(batch) => {
-                keys.put(key)?;
-                Ok(earlier_key(batch))
-            }
-            None => Ok(None),
-        }
-    }
-
-    /// Gathers a key and all above it, up to what has arrived at the reader or is gathered already.
-    fn gather_up(
-        &self,
-        header: &Header,
-        reader: ClusterNo,
-        shard: u32,
-        domain: &Name,
-        workflow: &Name,
-        keys: &mut KeySet,
-        key: BatchKey,
-    ) -> Result<(), AllocError>
-        requires reader { IsCluster header.now reader }
-        requires shard { shard < header.now.shards }
-        requires reached { IsReachedSometime header.now self.now }
-        ensures { OnOk result ((begun : List Key) → IsGatheredFor (all_written header.now shard self.now) (cell_at reader shard self.now) domain.now workflow.now begun keys.old (Some key)
-            → IsGatheredFor (all_written header.now shard self.now) (cell_at reader shard self.now) domain.now workflow.now begun keys.new None) }
-    {
-        let mut at = key;
-        while let Some(up) = self.gather_one(header, reader, shard, domain, workflow, keys, at)? {
-            at = up;
-        }
-        Ok(())
-    }
-
-    /// Gathers what lies above all that is put off of a workflow, up to what has arrived at the reader.
-    fn gather_all(
-        &self,
-        alloc: Global,
-        header: &Header,
-        reader: ClusterNo,
-        shard: u32,
-        domain: &Name,
-        workflow: &Name,
-        lacking: &[Lacking],
-    ) -> Result<KeySet, AllocError>
-        requires reader { IsCluster header.now reader }
-        requires shard { shard < header.now.shards }
-        requires reached { IsReachedSometime header.now self.now }
-        requires lacking { lacking.now ≡ all_lacking domain.now workflow.now (cell_at reader shard self.now) }
-        ensures { IfOk result (λ keys. AreGatheredFor (all_written header.now shard self.now) (cell_at reader shard self.now) domain.now workflow.now keys) }
-    {
-        let mut keys = KeySet::new(alloc);
-        for &one in lacking {
-            let missing = one.missing;
-            self.gather_up(header, reader, shard, domain, workflow, &mut keys, missing)?;
-        }
-        Ok(keys)
-    }
-
-    /// Gathers the keys of all that is missing of a workflow at a reader.
-    fn gather(
-        &self,
-        alloc: Global,
-        header: &Header,
-        reader: ClusterNo,
-        shard: u32,
-        domain: &Name,
-        workflow: &Name,
-    ) -> Result<Vec<BatchKey>, AllocError>
-        requires reader { IsCluster header.now reader }
-        requires shard { shard < header.now.shards }
-        requires reached { IsReachedSometime header.now self.now }
-        ensures { IfOk result (λ keys. AreGatheredFor (all_written header.now shard self.now) (cell_at reader shard self.now) domain.now workflow.now keys.items) }
-    {
-        let cell = self.reader_cell(header, reader, shard);
-        let lacking = cell.put_off(alloc, domain, workflow)?;
-        let lacking = lacking.as_slice();
-        let keys = self.gather_all(alloc, header, reader, shard, domain, workflow, lacking)?;
-        keys.to_vec(alloc)
-    }
-
-    /// The messages of these keys of a workflow, as the author of each has learned it, in order.
-    fn messages_of(
+    /// What the author of a batch that is put off serves for the gap before it.
+    fn served_by_author(
         &self,
         alloc: Global,
         header: &Header,
         shard: u32,
-        domain: &Name,
-        workflow: &Name,
-        keys: &[BatchKey],
+        gap: &GapOf,
     ) -> Result<Vec<Message>, AllocError>
         requires shard { shard < header.now.shards }
         requires shaped { IsShaped header.now self.now }
-        ensures { IfOk result (λ list. list.items ≡ messages_by_authors header.now shard self.now domain.now workflow.now keys.now) }
+        ensures { IfOk result (λ list. list.items ≡ served_by_author header.now shard self.now gap.now) }
+    {
+        match self.author(header, shard, gap.key.version) {
+            Some(cell) => cell.serve(alloc, gap),
+            None => Ok(Vec::new(alloc)),
+        }
+    }
+
+    /// Asks for a gap, where none of the messages so far has the batch that is missing, and adds what is served.
+    fn ask_for(
+        &self,
+        alloc: Global,
+        header: &Header,
+        shard: u32,
+        messages: &mut Vec<Message>,
+        keys: &mut KeySet,
+        gap: &GapOf,
+    ) -> Result<(), AllocError>
+        requires shard { shard < header.now.shards }
+        requires shaped { IsShaped header.now self.now }
+        requires keys { AreKeysOf messages.old.items keys.old }
+        ensures asked { OnOk result (messages.new.items ≡ asked_for (served_by_author header.now shard self.now) messages.old.items gap.now) }
+        ensures keys { OnOk result (AreKeysOf messages.new.items keys.new) }
+    {
+        if keys.has(gap.missing) {
+            return Ok(());
+        }
+        let more = self.served_by_author(alloc, header, shard, gap)?;
+        add_all(messages, keys, more)
+    }
+
+    /// What asking for gaps of a workflow brings, from the last to the first.
+    fn ask_all(
+        &self,
+        alloc: Global,
+        header: &Header,
+        shard: u32,
+        gaps: Vec<GapOf>,
+    ) -> Result<Vec<Message>, AllocError>
+        requires shard { shard < header.now.shards }
+        requires shaped { IsShaped header.now self.now }
+        ensures { IfOk result (λ list. list.items ≡ asked_from (served_by_author header.now shard self.now) [] gaps.items) }
     {
         let mut messages = Vec::new(alloc);
-        for &key in keys {
-            let message = self.message_written(alloc, header, shard, domain, workflow, key)?;
-            add_message(&mut messages, message)?;
+        let mut keys = KeySet::new(alloc);
+        let mut left = gaps;
+        while let Some(gap) = left.pop() {
+            self.ask_for(alloc, header, shard, &mut messages, &mut keys, &gap)?;
         }
         Ok(messages)
     }
@@ -300,11 +139,11 @@ impl<C: Reads + Drop> Network<C> {
         requires behind { IsAmong (map place_of (put_off_in (cell_at reader shard self.now))) place.now }
         ensures { IfOk result (λ list. list.items ≡ sent_again_of header.now reader self.now shard place.now.domain place.now.workflow) }
     {
-        let domain = &place.domain;
-        let workflow = &place.workflow;
-        let keys = self.gather(alloc, header, reader, shard, domain, workflow)?;
-        let messages = self.messages_of(alloc, header, shard, domain, workflow, keys.as_slice())?;
-        Ok(messages)
+        let cell = self.reader_cell(header, reader, shard);
+        let gaps = cell.gaps_in(alloc, &place.domain, &place.workflow)?;
+        let messages = self.ask_all(alloc, header, shard, gaps)?;
+        let new = new_of(alloc, cell, messages)?;
+        Ok(new)
     }
 
     /// Adds jobs in which all arrives that a reader is sent again of the workflows of these places, in order.
@@ -370,9 +209,9 @@ impl<C: Reads + Drop> Network<C> {
     }
 
     /// A reader is sent again what it misses: the ancestors of all that is put off there, that have not arrived, by shard and
-    /// then by place, from what their authors have learned; then its levels are renewed. Each that is missing is looked up
-    /// once. That following keys upwards finds just the ancestors that are missing is
-    /// `ndc_laws_jobs::again_laws::what_is_gathered_is_sent_again`. After want of memory the reader may have no cells.
+    /// then by place. For each batch that it has put off, from the last to the first of a workflow, it asks the batch's author
+    /// for the gap before it, where the missing ancestor was not brought so far; then its levels are renewed. That this brings
+    /// just the ancestors that are missing is `ndc_laws_jobs::again_laws::what_is_brought_is_sent_again`. After want of memory the reader may have no cells.
     pub fn resend<R: Threads + Sync, G: Gate>(
         &mut self,
         rt: &R,

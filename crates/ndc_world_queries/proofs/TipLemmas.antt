@@ -9,7 +9,7 @@ use Rattle.ndc_event.specs.Key.{run_text}
 use Rattle.ndc_event.specs.declared.batch.Batch.{Batch}
 use Rattle.ndc_event.specs.declared.key.RunId.{RunId}
 use Rattle.ndc_model_sets.specs.Branches.{current_tip, current_tips, has_child, is_current_run, is_run_of, leads, runs, same_run, tips, workflow_tip}
-use Rattle.ndc_model_sets.specs.Current.{current_state, run_status, state_at, state_to, status_of}
+use Rattle.ndc_model_sets.specs.Current.{run_status, state_at, state_to, status_of}
 use Rattle.ndc_model_sets.proofs.BranchLemmas.{greatest-among, run-same, same-run}
 use Rattle.ndc_model_sets.proofs.Lists.{Among, filter-among, filter_map-among, find-among}
 use Rattle.ndc_model.specs.Reading.{branches_answer, current_answer, history_answer, read_answer, tip_answer}

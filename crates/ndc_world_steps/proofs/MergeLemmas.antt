@@ -2,7 +2,7 @@
 use Rattle.std.proofs.Common.{◌≡◌, ℕ, zero, suc, ◌<◌, ◌+◌, List, [], ◌∷◌, ◌++◌, append-nil, codes, decimal, drop, get_or, length, slice_index_or, Option, Some, None, refl, sym, ◌∙◌, ap, subst, arith}
 use Rattle.std.specs.Prelude.{option_map, option_to_list}
 use Rattle.std.specs.List.{AllByRecursion, cons_option, filter_map, flat_map}
-use Rattle.std.proofs.lemmas.List.{at_drop_more, length-set}
+use Rattle.std.proofs.lemmas.List.{append_assoc, at_drop_more, length-set}
 use Rattle.ndc_script_types.specs.WellFormed.{IsCluster}
 use Rattle.ndc_script_types.specs.declared.script.Header.{Header}
 use Rattle.ndc_world_answers.specs.declared.tally.Tally.{Tally}
@@ -26,7 +26,6 @@ use Rattle.ndc_model.specs.Texts.{ok}
 use Rattle.ndc_model.specs.World.{Cluster, Link, World, cell_of, cluster_at, home_at, lane_in, new_cluster, queue_at, with_cells}
 use Rattle.ndc_model.proofs.ListLemmas.{all-set, all-weaker}
 use Rattle.ndc_model.proofs.WorldLemmas.{set-cases}
-use Rattle.ndc_world_network.proofs.AgainLemmas.{one_more}
 use Rattle.ndc_world_network.proofs.OrderlyLemmas.{orderly_jobs}
 use Rattle.ndc_world_network.specs.Dones.{notes_in}
 use Rattle.ndc_world_network.specs.declared.working.Done.{Done}
@@ -90,6 +89,11 @@ letter_jobs_there header w reader shaped known some =
     let many : length (cluster_at reader w).cells ≡ header.shards = cells_there header w reader shaped known in
     all-weaker (λ (asked : ShardJob). asked.shard < header.shards) (λ (asked : ShardJob). asked.shard < length (cluster_at reader w).cells) (λ asked below. omega (arith, below, many))
     (letter_jobs header reader w) (jobs-below header w some (cluster_at reader w).letters)
+
+-- a message more, where there is one
+one_more : {X : Type 0} (items : List X) (o : Option X) (rest : List X) → (items ++ option_to_list o) ++ rest ≡ items ++ cons_option o rest
+one_more items None rest = ap (λ l. l ++ rest) (append-nil items)
+one_more items (Some x) rest = append_assoc items (x ∷ []) rest
 
 -- one letter more
 pub letter_more : {X Y : Type 0} (f : X → Option Y) (xs : List X) (i : ℕ) (x : X) (o : Option Y) (jobs after : List Y) → i < length xs → x ≡ get_or xs i x → o ≡ f x → after ≡ jobs ++ option_to_list o

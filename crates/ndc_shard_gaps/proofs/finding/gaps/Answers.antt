@@ -1,5 +1,5 @@
 use Rattle.std.proofs.Common.{◌∙◌}
-use Rattle.ndc_shard_gaps.specs.Gaps.{gaps_at, gaps_of}
+use Rattle.ndc_resend.specs.PutOff.{gaps_at, gaps_of}
 use Rattle.ndc_shard_gaps.proofs.GapLemmas.{all-gaps, told-more}
 use Rattle.ndc_shard_gaps.proofs.finding.gaps.Goals as goal
 

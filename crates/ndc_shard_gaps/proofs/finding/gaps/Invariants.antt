@@ -1,6 +1,6 @@
 use Rattle.std.proofs.Common.{◌≡◌, ◌++◌, drop}
 use Rattle.std.specs.List.{flat_map}
-use Rattle.ndc_shard_gaps.specs.Gaps.{gaps_at, gaps_of}
+use Rattle.ndc_resend.specs.PutOff.{gaps_at, gaps_of}
 use Rattle.ndc_shard_gaps.proofs.finding.gaps.Given as goal
 
 -- those of the workflows gone over, and those of the workflows that are left, are all

@@ -1,7 +1,7 @@
 use Rattle.std.proofs.Common.{◌≡◌, IfOk, sym, ◌∙◌, subst, ap}
 use Rattle.ndc_model_cells.specs.Workflow.{WorkflowValue}
 use Rattle.ndc_shard_workflows.specs.Workflow.{IsWorkflow}
-use Rattle.ndc_shard_gaps.specs.Gaps.{gaps_in}
+use Rattle.ndc_resend.specs.PutOff.{gaps_in}
 use Rattle.ndc_shard_gaps.proofs.finding.gaps_at.Goals as goal
 
 pub gaps_in-requires : goal.gaps_in-requires

@@ -1,6 +1,7 @@
 use Rattle.std.proofs.Common.{◌≡◌, ◌++◌, drop}
 use Rattle.std.specs.List.{filter_map}
-use Rattle.ndc_shard_gaps.specs.Gaps.{gap_there, gaps_in}
+use Rattle.ndc_resend.specs.PutOff.{gaps_in}
+use Rattle.ndc_shard_gaps.specs.Gaps.{gap_there}
 use Rattle.ndc_shard_gaps.proofs.finding.gaps_in.Given as goal
 
 -- those gone over, and those that are left, are all

@@ -1,7 +1,7 @@
 use Rattle.std.specs.Prelude.{length, map}
 use Rattle.std.specs.Option.{option_copied}
-use Rattle.ndc_shard_gaps.specs.Serving.{chain_to}
-use Rattle.ndc_shard_gaps.proofs.ChainLemmas.{Climbs, chain_of}
+use Rattle.ndc_resend.specs.Serving.{chain_to}
+use Rattle.ndc_resend.proofs.ChainLemmas.{Climbs, chain_of}
 use Rattle.ndc_shard_gaps.proofs.serving.chain.Given as goal
 
 -- what leads to the next batch, and behind it those gone over, newest first

@@ -1,5 +1,0 @@
-use Rattle.ndc_shard_gaps.proofs.AskedLemmas.{missing_is_answered}
-use Rattle.ndc_shard_gaps.proofs.laws.each_ancestor_that_is_not_learned_is_served.Goals as goal
-
-pub returns : goal.returns
-returns c = missing_is_answered
