@@ -36,6 +36,21 @@ pub(crate) fn addressed(
 ) -> Result<Vec<Message>, AllocError>
     ensures { IfOk result (λ list. list.items ≡ filter (is_addressed reader table.now) entries.now) }
 {
+    if entries.is_empty() {
+        return Ok(Vec::new(alloc));
+    }
+    copies_addressed(alloc, table, reader, entries)
+}
+
+/// The same, of any messages.
+fn copies_addressed(
+    alloc: Global,
+    table: &DomainTable,
+    reader: ClusterNo,
+    entries: &[Message],
+) -> Result<Vec<Message>, AllocError>
+    ensures { IfOk result (λ list. list.items ≡ filter (is_addressed reader table.now) entries.now) }
+{
     let mut list = Vec::new(alloc);
     for entry in entries {
         if is_addressed(table, reader, entry) {

@@ -31,7 +31,20 @@ impl Model for Queues {
     ghost invariant = { IsQueuesInside };
 }
 
-/// Puts the messages last that a cell has written behind those of its queue, and answers how long the queue is then.
+/// Puts the messages last that a cell has written behind those of its queue.
+fn push_written<C: Cell>(queue: &mut Queue, cell: &C) -> Result<(), AllocError>
+    requires { IsFrontOf queue.old (C.cell cell.now).written }
+    ensures rest { OnOk result (IsRestOf queue.new (C.cell cell.now).written) }
+    ensures first { queue.new.first ≡ queue.old.first }
+{
+    while queue.len() < cell.written_len() {
+        let message = cell.written_at(queue.len())?;
+        queue.push(message)?;
+    }
+    Ok(())
+}
+
+/// The same, and answers how long the queue is then. Where the cell has written nothing since, this is one comparison.
 fn extend<C: Cell>(queue: &mut Queue, cell: &C) -> Result<u64, AllocError>
     requires { IsFrontOf queue.old (C.cell cell.now).written }
     ensures rest { OnOk result (IsRestOf queue.new (C.cell cell.now).written) }
@@ -39,10 +52,10 @@ fn extend<C: Cell>(queue: &mut Queue, cell: &C) -> Result<u64, AllocError>
     ensures len { IfOk result (λ len. len ≡ queue_len queue.new) }
     ensures most { IfOk result (λ len. len ≤ 10 ^ 12) }
 {
-    while queue.len() < cell.written_len() {
-        let message = cell.written_at(queue.len())?;
-        queue.push(message)?;
+    if cell.written_len() <= queue.len() {
+        return Ok(queue.len());
     }
+    push_written(queue, cell)?;
     Ok(queue.len())
 }
 

@@ -9,7 +9,7 @@ use ndc_model_cells::{Job, ShardJob};
 use ndc_queue::Message;
 use std::alloc::{AllocError, Global};
 
-/// A job for each of these messages to arrive, in order.
+/// A job for each of these messages to arrive, in order. Where there is none, this is one comparison.
 pub(crate) fn add_jobs(
     jobs: &mut Vec<ShardJob>,
     shard: u32,
@@ -20,6 +20,13 @@ pub(crate) fn add_jobs(
     if messages.is_empty() {
         return Ok(());
     }
+    push_jobs(jobs, shard, messages)
+}
+
+/// The same, of any messages.
+fn push_jobs(jobs: &mut Vec<ShardJob>, shard: u32, messages: Vec<Message>) -> Result<(), AllocError>
+    ensures { OnOk result (jobs.new.items ≡ jobs.old.items ++ map (arrives shard) messages.items) }
+{
     for message in messages {
         jobs.push(ShardJob {
             shard,

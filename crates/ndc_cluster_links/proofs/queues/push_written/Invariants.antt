@@ -1,7 +1,7 @@
 use Rattle.std.proofs.Common.{◌≡◌, ◌-◌, length}
 use Rattle.ndc_cluster_links.specs.Rest.{IsFrontOf}
 use Rattle.ndc_queue.specs.Queues.{queue_len}
-use Rattle.ndc_cluster_links.proofs.queues.extend.Given as goal
+use Rattle.ndc_cluster_links.proofs.queues.push_written.Given as goal
 
 abbrev pub invariant-loop-queue : goal.invariant-loop-queue
 invariant-loop-queue g l = record {

@@ -2,7 +2,7 @@ use Rattle.std.proofs.Common.{◌≡◌, ◌<◌, Some, length, slice_get, ap, s
 use Rattle.ndc_cluster_links.proofs.QueueLemmas.{front_more}
 use Rattle.ndc_cluster_links.specs.Rest.{IsFrontOf}
 use Rattle.ndc_queue.specs.Queues.{QueueValue, queue_len}
-use Rattle.ndc_cluster_links.proofs.queues.extend.Goals as goal
+use Rattle.ndc_cluster_links.proofs.queues.push_written.Goals as goal
 
 pub loop-queue-preserved : goal.loop-queue-preserved
 loop-queue-preserved g c =
