@@ -65,8 +65,9 @@ use Rattle.ndc_state.specs.Written.{events_from}
 use Rattle.ndc_state.specs.declared.rule.StateError.{StateError}
 use Rattle.ndc_laws_cells.specs.Adding.{MayAdd}
 use Rattle.ndc_laws_cells.specs.Entries.{AreFew, IsWrite}
+use Rattle.ndc_laws_cells.proofs.EntryLemmas.{few-tasks}
 use Rattle.ndc_laws_cells.proofs.MayLemmas.{new-above, tip-part, tip-state, part-sound}
-use Rattle.ndc_laws_cells.proofs.ResetLemmas.{IsReset, behind-write, close-write, one-write, reset-is}
+use Rattle.ndc_laws_cells.proofs.ResetLemmas.{IsReset, behind-write, close-entry, close-write, one-write, reset-is}
 
 -- a batch of a key that nothing in a closed set has makes nothing else of it learned
 module _ (all held : List Batch) (new : Batch) (closed : IsClosed all) (set : IsSet held) (part : IsPart held all) (fresh : batch_at new.key all ≡ None) (back : PointsBack new) where
@@ -319,9 +320,10 @@ module _ (header : Header) (well : IsWellFormedHeader header) (lines : ℕ) (few
           by running run true f h = absurd (cc)
           by true run false f h =
               let same : alone closing ∷ alone (begun (key_behind key)) ∷ [] ≡ entries = cc in
-              let write = close-write all part version adds few domain workflow names.domain_name names.workflow_name header.limit well.limit_most tip found event kinds r run f in
+              let write = close-write all part version adds few domain workflow names.domain_name names.workflow_name header.limit well.limit_most tip found run f in
               behind-leaves closing refl refl refl write
-              (λ other. behind-write all part version adds few domain workflow names.domain_name names.workflow_name header.limit well.limit_most tip found event kinds r other write)
+              (λ other. behind-write all part version adds few domain workflow names.domain_name names.workflow_name header.limit well.limit_most tip found event kinds r other
+              (close-entry all part version adds (few-tasks all part version adds few) domain workflow header.limit tip found run f))
               (after-is entries at ∙ ap (λ l. learned_of domain workflow (with_all_written l here)) (sym same))
           by false run false f h =
               let same : alone (begun key) ∷ [] ≡ entries = cc in

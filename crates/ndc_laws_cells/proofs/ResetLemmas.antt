@@ -305,14 +305,14 @@ module _ (all part : List Batch) (version : ℕ) (may : MayAdd all part version)
     }
 
     -- the new run alone
-    one-write : IsWrite all part domain workflow version 0 (first_of part version domain workflow limit (next_key version part) kinds)
+    pub one-write : IsWrite all part domain workflow version 0 (first_of part version domain workflow limit (next_key version part) kinds)
     one-write =
         as-write all part domain workflow version 0 (first_of part version domain workflow limit (next_key version part) kinds)
         (one-entry all part version may tip is_tip limit point kinds is (few-tasks all part version may few) domain workflow)
         (first-is-small domain workflow d w (next_key version part) (key-small all part version may few) None tt 0 (length all + 1) kinds reset-short (let t = next-task all part version may few in omega (arith, t))) tt
 
     -- the new run behind the batch that closes the old one
-    behind-write : (other : List Batch) → IsEntryOf all part domain workflow version (closing_of part version domain workflow limit tip)
+    pub behind-write : (other : List Batch) → IsEntryOf all part domain workflow version (closing_of part version domain workflow limit tip)
         → IsWrite (arrived (closing_of part version domain workflow limit tip).batch all) other domain workflow version 0 (first_of part version domain workflow limit (key_behind (next_key version part)) kinds)
     behind-write other close =
         as-write (arrived closing all) other domain workflow version 0 (first_of part version domain workflow limit (key_behind (next_key version part)) kinds)
@@ -324,7 +324,7 @@ module _ (all part : List Batch) (version : ℕ) (may : MayAdd all part version)
         closing = (closing_of part version domain workflow limit tip).batch
 
   -- the batch that closes the old run
-  close-write : (tip : Batch) → workflow_tip part ≡ Some tip → (state_to tip.run tip.key part).running ≡ true → is_close_full limit (state_to tip.run tip.key part) version ≡ false
+  pub close-write : (tip : Batch) → workflow_tip part ≡ Some tip → (state_to tip.run tip.key part).running ≡ true → is_close_full limit (state_to tip.run tip.key part) version ≡ false
       → IsWrite all part domain workflow version 1 (closing_of part version domain workflow limit tip)
   close-write tip at running full =
       closing-alone all part version may tasks domain workflow limit tip at running full (IsWrite all part domain workflow version 1)

@@ -1,24 +1,21 @@
 -- A message of what was written may arrive at each cluster of a world that is as it should be.
-use Rattle.std.proofs.Common.{◌≡◌, ℕ, ◌<◌, ◌≤◌, ◌^◌, ◌&&◌, ◌==◌, ◌+◌, Bool, true, false, not, if◌then◌else◌, nat_le, List, [], ◌∷◌, All, Option, Some, None, IfSome, option_to_list, refl, sym, ◌∙◌, subst, ap, arith}
+use Rattle.std.proofs.Common.{◌≡◌, ℕ, ◌<◌, ◌≤◌, ◌^◌, ◌&&◌, Bool, true, false, if◌then◌else◌, nat_le, List, [], ◌∷◌, All, Option, Some, None, refl, sym, ◌∙◌, ap, arith}
 use Rattle.std.specs.List.{AllByRecursion, filter}
-use Rattle.std.specs.Prelude.{find, is_some}
-use Rattle.std.proofs.lemmas.Bool.{and_parts, eqb-true}
+use Rattle.std.specs.Prelude.{find}
+use Rattle.std.proofs.lemmas.Bool.{and_parts}
 use Rattle.std.proofs.lemmas.Bool.Decides.{nat_tests}
 use Rattle.std.proofs.lemmas.List.Elements.{All-cons, All-nil}
 use Rattle.ndc_script_types.specs.WellFormed.{IsCluster}
 use Rattle.ndc_script_types.specs.declared.script.Header.{Header}
 use Rattle.ndc_model_cells.specs.declared.message.Message.{Message}
 use Rattle.ndc_model_cells.specs.Arrival.{arrived_at, cell_with, has_arrived, placed_second}
-use Rattle.ndc_model_cells.specs.Cells.{Cell, arrived_of, both, carries, learned_of}
+use Rattle.ndc_model_cells.specs.Cells.{Cell, arrived_of, carries, learned_of}
 use Rattle.ndc_model_cells.specs.Places.{AreInOrder, batch_there, is_of, place_of, placed}
-use Rattle.ndc_model_cells.specs.Writing.{key_behind}
 use Rattle.ndc_model_cells.proofs.PlaceLemmas.{all-placed, placed-in-order}
 use Rattle.ndc_model_cells.proofs.SoundLemmas.{learned_is_sound}
 use Rattle.ndc_domain.specs.declared.clusters.ClusterNo.{ClusterNo}
-use Rattle.ndc_event.specs.Batch.{is_carrier_fit}
 use Rattle.ndc_event.specs.declared.batch.Batch.{Batch}
 use Rattle.ndc_event.specs.declared.batch.Event.{Event}
-use Rattle.ndc_event.specs.declared.key.BatchKey.{BatchKey}
 use Rattle.ndc_event.specs.declared.name.Name.{Name}
 use Rattle.ndc_laws_reached.proofs.ArrivalLemmas.{none-is, own-is}
 use Rattle.ndc_laws_cells.proofs.FoundLemmas.{at-there, find-passes, order-finds, there-among}

@@ -1,7 +1,7 @@
 -- What was written in a world that is as it should be.
 pub use Rattle.ndc_laws_cells.proofs.Lists.{flat-among}
 pub use Rattle.ndc_laws_cells.proofs.NameLemmas.{names-of, own-names, wanted-some}
-use Rattle.std.proofs.Common.{◌≡◌, ℕ, ◌<◌, Bool, true, false, if◌then◌else◌, List, [], ◌∷◌, length, Option, Some, None, ◌⊎◌, inl, inr, refl, sym, ◌∙◌, subst, ap, arith, true≢false}
+use Rattle.std.proofs.Common.{◌≡◌, ℕ, ◌<◌, Bool, true, false, if◌then◌else◌, List, [], ◌∷◌, length, Some, ◌⊎◌, inl, inr, sym, ◌∙◌, subst, ap, arith}
 use Rattle.std.specs.List.{filter, flat_map, fold}
 use Rattle.std.specs.Prelude.{is_some}
 use Rattle.std.proofs.lemmas.Bool.{and_parts}
@@ -14,7 +14,6 @@ use Rattle.ndc_model_cells.specs.Shards.{shard_of}
 use Rattle.ndc_domain.specs.Clusters.{count_of}
 use Rattle.ndc_domain.specs.declared.clusters.ClusterNo.{ClusterNo}
 use Rattle.ndc_event.specs.declared.batch.Batch.{Batch}
-use Rattle.ndc_event.specs.declared.key.BatchKey.{BatchKey}
 use Rattle.ndc_model.specs.Facts.{IsReached}
 use Rattle.ndc_model.specs.Fair.{IsOwn, written_of}
 use Rattle.ndc_laws_cells.specs.Entries.{goes_on}
@@ -24,8 +23,6 @@ use Rattle.ndc_model.proofs.FairLemmas.{clusters-among}
 use Rattle.ndc_model_sets.specs.Paths.{is_wanted}
 use Rattle.ndc_model_sets.specs.Sets.{Has, PointsBack}
 use Rattle.ndc_model_sets.specs.Sound.{IsSound}
-use Rattle.ndc_model_sets.proofs.ForkLemmas.{among-cases}
-use Rattle.ndc_model_sets.proofs.KeyLemmas.{same-keys}
 use Rattle.ndc_model_sets.proofs.Lists.{Among, all-among, all-from, among-filter}
 use Rattle.ndc_model_sets.proofs.SoundLemmas.{faultless-back}
 use Rattle.ndc_laws_cells.proofs.FoundLemmas.{at-there, in_order-ordered, order-finds, there-among}
