@@ -6,21 +6,13 @@ use Rattle.std.proofs.lemmas.Bool.{and_from, and_parts}
 use Rattle.std.proofs.lemmas.Slice.Eq.{bytes_eq-Decides}
 use Rattle.ndc_model_cells.specs.Jobs.{workflows_of}
 use Rattle.ndc_model_cells.specs.Places.{is_of}
+pub use Rattle.ndc_model_cells.proofs.NameLemmas.{names-of, own-names}
 use Rattle.ndc_event.specs.declared.batch.Batch.{Batch}
 use Rattle.ndc_event.specs.declared.key.BatchKey.{BatchKey}
 use Rattle.ndc_event.specs.declared.name.Name.{Name}
 use Rattle.ndc_model_sets.specs.Paths.{is_wanted}
 use Rattle.ndc_model_sets.proofs.KeyLemmas.{same-keys}
 use Rattle.ndc_model_sets.proofs.Lists.{Among, all-among, all-from, filter-among, filter-cases}
-
--- names of a batch of a workflow
-pub names-of : (domain workflow : Name) (b : Batch) → is_of domain workflow b ≡ true → (b.domain ≡ domain) × (b.workflow ≡ workflow)
-names-of domain workflow b own =
-    let p = and_parts (bytes_eq b.domain domain) (bytes_eq b.workflow workflow) own in
-    ((bytes_eq-Decides b.domain domain).0 p.0, (bytes_eq-Decides b.workflow workflow).0 p.1)
-
-pub own-names : (b : Batch) → is_of b.domain b.workflow b ≡ true
-own-names b = and_from (bytes_eq b.domain b.domain) (bytes_eq b.workflow b.workflow) ((bytes_eq-Decides b.domain b.domain).1 refl) ((bytes_eq-Decides b.workflow b.workflow).1 refl)
 
 -- batches of one workflow
 pub of-both : (domain workflow : Name) (b other : Batch) → is_of domain workflow b ≡ true → is_of domain workflow other ≡ true → is_of b.domain b.workflow other ≡ true

@@ -1,12 +1,17 @@
 -- Messages as cells write them.
-use Rattle.std.specs.Prelude.{◌≡◌, List, Some, None, IfSome, Bool, ◌≤◌, ◌^◌, All, [], Option}
+use Rattle.std.specs.Prelude.{◌≡◌, List, Some, None, IfSome, Bool, ◌≤◌, ◌^◌, All, [], Option, find}
 use Rattle.std.specs.List.{AllByRecursion, flat_map}
 use Rattle.ndc_model_cells.specs.declared.message.Message.{Message}
 use Rattle.ndc_model_cells.specs.Cells.{both}
 use Rattle.ndc_model_cells.specs.Writing.{key_behind}
 use Rattle.ndc_event.specs.declared.batch.Batch.{Batch}
+use Rattle.ndc_event.specs.declared.key.BatchKey.{BatchKey}
 use Rattle.ndc_model_sets.specs.Learned.{has_key}
 use Rattle.ndc_model_sets.specs.Sets.{earlier, batch_at, PointsBack}
+
+-- the message that has a batch of this key, its own or the one that it carries
+abbrev pub message_with : BatchKey → List Message → Option Message
+message_with key messages = find (λ sent. has_key (Some key) (both sent)) messages
 
 -- the batches of messages, each followed by the one that it carries
 abbrev pub batches_of : List Message → List Batch

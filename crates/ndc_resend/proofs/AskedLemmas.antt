@@ -7,6 +7,7 @@ use Rattle.ndc_event.specs.declared.key.BatchKey.{BatchKey}
 use Rattle.ndc_history.specs.declared.item.Item.{Item}
 use Rattle.ndc_history.specs.Common.{best_from, better, greatest, item_or_zero, shared}
 use Rattle.ndc_model_cells.specs.Workflow.{WorkflowValue}
+pub use Rattle.ndc_model_cells.proofs.AmongLemmas.{among-is, is-among}
 use Rattle.ndc_model_sets.specs.Branches.{histories}
 use Rattle.ndc_model_sets.specs.Learned.{IsClosed, WaitsFor, learned}
 use Rattle.ndc_model_sets.specs.Paths.{IsPath, Walk, below, best_item, events_to, first, last_item_of, path_to, versions_of}
@@ -26,20 +27,6 @@ use Rattle.ndc_resend.specs.PutOff.{gap_in, history_in, message_with, remote_of}
 use Rattle.ndc_resend.specs.Serving.{answered, chain_to, first_carrier, with_carriers}
 use Rattle.ndc_resend.proofs.AncestorLemmas.{above-in, among-back, among-front, carried-above, carried-top, chain-all, chain-only, chain-path, waits-in, waits-more, waits-trans}
 use Rattle.ndc_resend.proofs.ChainLemmas.{chain_of, none-wanted}
-
--- the two ways to say that one is among others
-pub among-is : {X : Type 0} (xs : List X) (x : X) → Among x xs → IsAmong xs x
-among-is [] x h = absurd h
-among-is (y ∷ ys) x (inl e) = (0, (omega arith, e))
-among-is (y ∷ ys) x (inr h) = let r = among-is ys x h in (suc r.0, (omega (arith, r.1.0), r.1.1))
-
-pub is-among : {X : Type 0} (xs : List X) (x : X) → IsAmong xs x → Among x xs
-is-among {X = X} xs x h = by xs h.0 h.1.0 h.1.1
-  where
-    by : (ys : List X) (i : ℕ) → i < length ys → x ≡ slice_index_or ys i x → Among x ys
-    by [] i less e = absurd (omega (arith, less))
-    by (y ∷ ys) zero less e = inl e
-    by (y ∷ ys) (suc i) less e = inr (by ys i (omega (arith, less)) e)
 
 -- with no history there is nothing in common
 nothing-shared : (items : List Item) → shared items [] ≡ []

@@ -6,20 +6,14 @@ use Rattle.ndc_event.specs.declared.key.BatchKey.{BatchKey}
 use Rattle.ndc_history.specs.declared.item.Item.{Item}
 use Rattle.ndc_model_cells.specs.declared.message.Message.{Message}
 use Rattle.ndc_model_cells.specs.declared.place.Place.{Place}
-use Rattle.ndc_model_cells.specs.Cells.{Cell, both, missing_of, put_off_in}
+use Rattle.ndc_model_cells.specs.Cells.{Cell, missing_of, put_off_in}
+pub use Rattle.ndc_model_cells.specs.Messages.{message_with}
 use Rattle.ndc_model_cells.specs.Workflow.{WorkflowValue, workflow_of}
+pub use Rattle.ndc_model_cells.specs.Workflow.{off_in}
 use Rattle.ndc_model_sets.specs.Branches.{histories}
-use Rattle.ndc_model_sets.specs.Learned.{has_key, learned}
+use Rattle.ndc_model_sets.specs.Learned.{learned}
 use Rattle.ndc_resend.specs.declared.asking.GapOf.{GapOf}
 use Rattle.ndc_resend.specs.Gaps.{first_item, gap_of}
-
--- the batches of a workflow that are put off
-abbrev pub off_in : WorkflowValue → List Batch
-off_in w = filter (λ b. not (has_key (Some b.key) (learned w.arrived))) w.arrived
-
--- the message that has a batch of this key, its own or the one that it carries
-abbrev pub message_with : BatchKey → List Message → Option Message
-message_with key messages = find (λ sent. has_key (Some key) (both sent)) messages
 
 -- the version history that a message came with, where there is one
 abbrev pub history_in : Option Message → List Item

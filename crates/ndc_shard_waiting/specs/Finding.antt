@@ -1,7 +1,7 @@
 -- Messages by the key of their batch.
 use Rattle.std.specs.Prelude.{◌-◌, ◌==◌, List, [], ◌∷◌, find, is_some, Option, Some, None, if◌then◌else◌}
 use Rattle.ndc_model_cells.specs.declared.message.Message.{Message}
-use Rattle.ndc_model_cells.specs.Cells.{both}
+pub use Rattle.ndc_model_cells.specs.Messages.{message_with}
 use Rattle.ndc_event.specs.declared.batch.Batch.{Batch}
 use Rattle.ndc_event.specs.declared.key.BatchKey.{BatchKey}
 use Rattle.ndc_event.specs.Key.{key_eq}
@@ -29,10 +29,6 @@ carried_of (Some sent) = sent.second
 abbrev pub carried_at : Option BatchKey → List Message → Option Batch
 carried_at None messages = None
 carried_at (Some key) messages = carried_of (message_at key messages)
-
--- the message that has a batch of this key, its own or the one that it carries
-abbrev pub message_with : BatchKey → List Message → Option Message
-message_with key messages = find (λ sent. has_key (Some key) (both sent)) messages
 
 -- the message, where it carries a batch
 abbrev pub if_carrying : Option Message → Option Message

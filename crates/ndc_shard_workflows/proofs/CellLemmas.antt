@@ -5,6 +5,7 @@ use Rattle.std.specs.List.{filter}
 use Rattle.std.specs.Str.{bytes_eq}
 use Rattle.std.proofs.lemmas.Bool.{and_parts, and_from}
 use Rattle.std.proofs.lemmas.Slice.Eq.{bytes_eq-Decides}
+pub use Rattle.ndc_model_cells.proofs.NameLemmas.{own-names}
 use Rattle.ndc_model_cells.specs.declared.job.Arrived.TheVariants.{Known}
 use Rattle.ndc_model_cells.specs.declared.message.Message.{Message}
 use Rattle.ndc_model_cells.specs.Arrival as cells
@@ -66,10 +67,6 @@ learned-own domain workflow b cell own =
     let parts = and_parts (bytes_eq b.domain domain) (bytes_eq b.workflow workflow) own in
     ap (λ (d : Name). has_key (Some b.key) (learned_of d b.workflow cell)) ((bytes_eq-Decides b.domain domain).0 parts.0)
     ∙ ap (λ (w : Name). has_key (Some b.key) (learned_of domain w cell)) ((bytes_eq-Decides b.workflow workflow).0 parts.1)
-
-pub own-names : (b : Batch) → is_of b.domain b.workflow b ≡ true
-own-names b =
-    and_from (bytes_eq b.domain b.domain) (bytes_eq b.workflow b.workflow) ((bytes_eq-Decides b.domain b.domain).1 refl) ((bytes_eq-Decides b.workflow b.workflow).1 refl)
 
 -- a message of the workflow arrives
 module _ (sent : Message) (cell : Cell) (is : IsCell cell) (ordered : AreInOrder (map (λ m. m.batch) cell.waiting)) (back : PointsBack sent.batch)

@@ -24,7 +24,7 @@ use Rattle.ndc_shard_waiting.proofs.MissingLemmas.{missing_is}
 use Rattle.ndc_shard_waiting.proofs.OrderLemmas.{same-found}
 use Rattle.ndc_shard_waiting.proofs.PutLemmas.{batches-put}
 use Rattle.ndc_model_cells.specs.Workflow.{WorkflowValue}
-use Rattle.ndc_shard_workflows.specs.Workflow.{IsWorkflow, beside, put_off_in, still_waiting, all_missing, workflow_with, learned_with}
+use Rattle.ndc_shard_workflows.specs.Workflow.{IsWorkflow, beside, off_in, still_waiting, all_missing, workflow_with, learned_with}
 
 abbrev pair : BatchKey → Option BatchKey → BatchKey × Option BatchKey
 pair key missing = (key, missing)
@@ -57,7 +57,7 @@ module _ (known : List Batch) (waiting : List Message) (are : ArePutOff known wa
   found-waiting key e = sym (found-all-of known waiting are key ∙ ap (λ o. option_or o (batch_at key (batches_of waiting))) (sym e))
 
   -- what is put off is what waits
-  pub waits-are : put_off_in (beside known waiting) ≡ batches_of waiting
+  pub waits-are : off_in (beside known waiting) ≡ batches_of waiting
   waits-are =
       ap (λ l. filter (λ b. not (has_key (Some b.key) l)) (with_messages waiting known)) (learned_is known waiting are)
       ∙ same-found (filter (λ b. not (has_key (Some b.key) known)) (with_messages waiting known)) (batches_of waiting)
@@ -128,8 +128,8 @@ module _ (known : List Batch) (waiting : List Message) (are : ArePutOff known wa
     put-off-small own small = batches-put HasSmallIds new waiting own small
 
 -- of a workflow, the batches that are put off are those of the messages that wait
-pub put_off_waits : (w : WorkflowValue) → IsWorkflow w → put_off_in w ≡ batches_of w.waiting
-put_off_waits w is = ap put_off_in is.parts ∙ waits-are (learned w.arrived) w.waiting is.apart
+pub put_off_waits : (w : WorkflowValue) → IsWorkflow w → off_in w ≡ batches_of w.waiting
+put_off_waits w is = ap off_in is.parts ∙ waits-are (learned w.arrived) w.waiting is.apart
 
 -- all of them still wait
 pub all_wait : (w : WorkflowValue) → IsWorkflow w → still_waiting w ≡ w

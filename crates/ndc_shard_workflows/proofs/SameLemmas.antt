@@ -4,6 +4,7 @@ use Rattle.std.specs.List.{filter}
 use Rattle.std.specs.Str.{bytes_eq}
 use Rattle.std.proofs.lemmas.Bool.{and_parts, and_from}
 use Rattle.std.proofs.lemmas.Slice.Eq.{bytes_eq-Decides}
+pub use Rattle.ndc_model_cells.proofs.NameLemmas.{names-of, of-names}
 use Rattle.ndc_model_cells.specs.declared.place.Place.{Place}
 use Rattle.ndc_model_cells.specs.Places.{AreInOrder, is_of, place_lt, place_of}
 use Rattle.ndc_model_cells.proofs.PlaceLemmas.{place-parts, place-trans, PlaceIsBefore}
@@ -12,17 +13,7 @@ use Rattle.ndc_event.specs.declared.batch.Batch.{Batch}
 use Rattle.ndc_event.specs.declared.name.Name.{Name}
 use Rattle.ndc_model_sets.proofs.Lists.{Among, all-among, among-map, filter-among}
 use Rattle.ndc_shard_waiting.proofs.FreeLemmas.{not-itself}
-use Rattle.ndc_shard_workflows.proofs.CellLemmas.{own-names}
-
--- the names of a batch of a workflow
-pub names-of : (domain workflow : Name) (b : Batch) → is_of domain workflow b ≡ true → (b.domain ≡ domain) × (b.workflow ≡ workflow)
-names-of domain workflow b own =
-    let parts = and_parts (bytes_eq b.domain domain) (bytes_eq b.workflow workflow) own in
-    ((bytes_eq-Decides b.domain domain).0 parts.0, (bytes_eq-Decides b.workflow workflow).0 parts.1)
-
-pub of-names : (domain workflow : Name) (b : Batch) → b.domain ≡ domain → b.workflow ≡ workflow → is_of domain workflow b ≡ true
-of-names domain workflow b d w =
-    and_from (bytes_eq b.domain domain) (bytes_eq b.workflow workflow) ((bytes_eq-Decides b.domain domain).1 d) ((bytes_eq-Decides b.workflow workflow).1 w)
+use Rattle.ndc_model_cells.proofs.NameLemmas.{own-names}
 
 -- each of two batches is of the other's workflow, or neither
 pub of-turn : (a b : Batch) → is_of a.domain a.workflow b ≡ true → is_of b.domain b.workflow a ≡ true

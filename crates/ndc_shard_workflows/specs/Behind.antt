@@ -6,7 +6,7 @@ use Rattle.ndc_model_cells.specs.Cells.{Cell}
 use Rattle.ndc_model_cells.specs.Places.{place_of}
 use Rattle.ndc_event.specs.declared.batch.Batch.{Batch}
 use Rattle.ndc_event.specs.declared.name.Name.{Name}
-use Rattle.ndc_shard_workflows.specs.Workflow.{put_off_in}
+use Rattle.ndc_shard_workflows.specs.Workflow.{off_in}
 use Rattle.ndc_model_cells.specs.Workflow.{workflow_of}
 use Rattle.ndc_shard_workflows.specs.Due.{is_listed}
 
@@ -21,4 +21,4 @@ first_batch (b ∷ batches) = Some b
 
 -- the place of the first batch that is put off of a workflow, where there is one
 abbrev pub first_behind : Cell → Name × Name → Option Place
-first_behind cell names = option_map place_of (first_batch (put_off_in (workflow_of names.0 names.1 cell)))
+first_behind cell names = option_map place_of (first_batch (off_in (workflow_of names.0 names.1 cell)))

@@ -13,6 +13,7 @@ use Rattle.ndc_state.specs.Counted.{counted}
 use Rattle.ndc_shard_waiting.specs.Learning.{with_message, with_messages, ArePutOff}
 use Rattle.ndc_shard_waiting.specs.Waiting.{put_off}
 use Rattle.ndc_model_cells.specs.Workflow.{WorkflowValue}
+pub use Rattle.ndc_model_cells.specs.Workflow.{off_in}
 
 -- the workflow of which nothing has arrived
 abbrev pub empty_workflow : WorkflowValue
@@ -35,13 +36,9 @@ has_arrived key w = has_key (Some key) w.arrived
 abbrev pub is_learned : WorkflowValue → Batch → Bool
 is_learned w b = has_key (Some b.key) (learned w.arrived)
 
--- the batches that are put off
-abbrev pub put_off_in : WorkflowValue → List Batch
-put_off_in w = filter (λ b. not (is_learned w b)) w.arrived
-
 -- of each batch that is put off its key, and the nearest ancestor that has not arrived
 abbrev pub all_missing : WorkflowValue → List (BatchKey × Option BatchKey)
-all_missing w = map (λ b. (b.key, missing_of b w.arrived)) (put_off_in w)
+all_missing w = map (λ b. (b.key, missing_of b w.arrived)) (off_in w)
 
 -- the messages whose batches are put off wait, the others do not
 abbrev pub still_waiting : WorkflowValue → WorkflowValue

@@ -11,13 +11,13 @@ ghost use Rattle.ndc_model_sets.specs.Sets.{PointsBack};
 ghost use Rattle.ndc_model_cells.specs.Messages.{batches_of};
 ghost use Rattle.ndc_model_cells.specs.Messages.{carrying};
 ghost use Rattle.ndc_model_cells.specs.Workflow.{WorkflowValue, workflow_of};
-ghost use Rattle.ndc_shard_workflows.specs.Workflow.{IsWorkflow, put_off_in, still_waiting, answer_to, made_learned, after_arrival, with_written};
+ghost use Rattle.ndc_shard_workflows.specs.Workflow.{IsWorkflow, off_in, still_waiting, answer_to, made_learned, after_arrival, with_written};
 
 /// Of what has arrived of a workflow, the batches that are put off are those of the messages that wait; and all of these
 /// still wait.
 #[tactic(auto, using(crate::proofs::PutOffLemmas::put_off_waits, crate::proofs::PutOffLemmas::all_wait))]
 pub fn what_is_put_off_waits()
-    ensures batches { (w : WorkflowValue) → IsWorkflow w → put_off_in w ≡ batches_of w.waiting }
+    ensures batches { (w : WorkflowValue) → IsWorkflow w → off_in w ≡ batches_of w.waiting }
     ensures messages { (w : WorkflowValue) → IsWorkflow w → still_waiting w ≡ w }
 {}
 

@@ -6,7 +6,7 @@ ghost use Rattle.ndc_model_cells.specs.Cells.{learned_of, IsCell};
 ghost use Rattle.ndc_model_cells.specs.Places.{place_of};
 ghost use Rattle.ndc_shard_runs.specs.Kept.{is_due};
 ghost use Rattle.ndc_model_cells.specs.Allowed.{MayArrive};
-ghost use Rattle.ndc_shard_workflows.specs.Workflow.{put_off_in as put_off_of, IsWorkflow};
+ghost use Rattle.ndc_shard_workflows.specs.Workflow.{off_in, IsWorkflow};
 ghost use Rattle.ndc_model_cells.specs.Workflow.{workflow_of};
 ghost use Rattle.ndc_shard_workflows.specs.Behind.{HoldBehind, first_behind, first_batch};
 ghost use Rattle.ndc_shard_workflows.specs.Due.{HoldDue};
@@ -316,7 +316,7 @@ fn first_place(
 /// The same of one workflow.
 fn first_put_off(alloc: Global, workflow: &Workflow) -> Result<Option<Place>, AllocError>
     requires { IsWorkflow workflow.now }
-    ensures { IfOk result (λ place. place ≡ option_map place_of (first_batch (put_off_of workflow.now))) }
+    ensures { IfOk result (λ place. place ≡ option_map place_of (first_batch (off_in workflow.now))) }
 {
     let batches = workflow.put_off().batches(alloc)?;
     place_in(batches.as_slice())
