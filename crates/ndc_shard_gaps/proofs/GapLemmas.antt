@@ -66,7 +66,7 @@ module _ (w : WorkflowValue) (known : List (ℕ × Vec (List Item))) (local : (r
       → told ++ filter_map (gap_there known w.waiting) list ≡ gaps_in w
   told-all is told list none missing =
       ap (λ l. l ++ filter_map (gap_there known w.waiting) list) none
-      ∙ each-gap list (workflow.put_off_in w) missing
+      ∙ each-gap list (workflow.off_in w) missing
       (subst (AllByRecursion (λ b. batch_at b.key (batches_of w.waiting) ≡ Some b)) (sym (put_off_waits w is)) (all-there (batches_of w.waiting) is.apart.messages.set.ordered))
 
 -- what is put off in a cell is what is put off of its workflows

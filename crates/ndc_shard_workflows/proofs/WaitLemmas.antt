@@ -91,7 +91,7 @@ module _ (domain workflow : Name) (is_behind : Bool) (before after : Names) wher
   listed-taken taken none = record { kept = λ d w n e. sym (ap (λ t. not t && is_listed d w before) n) ∙ sym (taken d w) ∙ e; own = λ e. none }
 
 -- what is put off of a workflow of the cell
-pub off-own : (d w : Name) (cell : Cell) → filter (is_of d w) (put_off_in cell) ≡ own.put_off_in (workflow_of d w cell)
+pub off-own : (d w : Name) (cell : Cell) → filter (is_of d w) (put_off_in cell) ≡ own.off_in (workflow_of d w cell)
 off-own d w cell =
     filter-swap (is_of d w) (λ b. not (is_learned_in cell b)) (λ b. not (is_learned (workflow_of d w cell) b)) cell.arrived (λ b e. ap not (learned-own d w b cell e))
 
@@ -113,5 +113,5 @@ behind-are cell is workflows list sorted hold =
     (λ d w e. off-own d w cell ∙ put_off_waits (workflow_of d w cell) (workflows d w) ∙ ap batches_of (hold d w e))
 
 -- the first of the batches that wait is that which is put off
-pub first-off : (w : WorkflowValue) → IsWorkflow w → (batches : List Batch) → batches ≡ batches_of w.waiting → option_map place_of (first_batch batches) ≡ option_map place_of (first_batch (own.put_off_in w))
+pub first-off : (w : WorkflowValue) → IsWorkflow w → (batches : List Batch) → batches ≡ batches_of w.waiting → option_map place_of (first_batch batches) ≡ option_map place_of (first_batch (own.off_in w))
 first-off w is batches e = ap (λ (l : List Batch). option_map place_of (first_batch l)) (e ∙ sym (put_off_waits w is))
