@@ -51,7 +51,3 @@ pub record IsSentBy (cell : Cell) (sent : Message) : Type 0 where
   pub batch : Batch
   pub learned : Has (learned_of batch.domain batch.workflow cell) batch
   pub is : learned_message cell batch ≡ Some sent
-
--- the clusters A and B
-abbrev pub two_clusters : ClusterList
-two_clusters = record { increment = 10; members = (codes "A", 1) ∷ (codes "B", 2) ∷ [] }

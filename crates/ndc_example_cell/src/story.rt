@@ -1,7 +1,8 @@
 //! What two cells are made to do, and what is told of it.
 
 ghost use Rattle.std.specs.Prelude.{◌≡◌, ◌+◌, ◌≤◌, ◌^◌, IfOk, OnOk};
-ghost use Rattle.ndc_example_cell.specs.Shared.{AreShared, two_clusters};
+ghost use Rattle.ndc_domain.specs.Clusters.{count_of};
+ghost use Rattle.ndc_example_cell.specs.Shared.{AreShared};
 
 use crate::engine::{GROWTH, LIMIT, Shared, begin, reapply, remake, repair, tell, write};
 use ndc_command::{Command, Refusal};
@@ -27,21 +28,37 @@ fn name(alloc: Global, text: &str) -> Result<Name, AllocError>
 
 /// The clusters, A and B.
 fn clusters(alloc: Global) -> Result<Clusters, AllocError>
-    ensures { IfOk result (λ clusters. clusters ≡ two_clusters) }
+    ensures { IfOk result (λ clusters. 2 ≤ count_of clusters) }
 {
     let mut members = Vec::new(alloc);
     members.push((name(alloc, "A")?, 1))?;
     members.push((name(alloc, "B")?, 2))?;
-    Clusters::build(10, members).map_err(|_| AllocError)
+    match Clusters::build(10, members) {
+        Ok(clusters) => Ok(clusters),
+        Err(_) => unreachable!(),
+    }
 }
 
 /// Records of a domain that A writes to and both are members of.
 fn records(alloc: Global, clusters: &Clusters, domain: &Name) -> Result<DomainTable, AllocError>
-    requires { clusters.now ≡ two_clusters }
+    requires { 2 ≤ count_of clusters.now }
 {
     let mut table = DomainTable::new(alloc);
     let members = Members::of(&[A, B]);
     match table.register(clusters, A, domain, A, 7, members) {
+        Ok(_) => Ok(table),
+        Err(_) => Err(AllocError),
+    }
+}
+
+/// The records as B has them, where the domain fails over to it.
+fn moved(
+    clusters: &Clusters,
+    domain: &Name,
+    records: &DomainTable,
+) -> Result<DomainTable, AllocError> {
+    let mut table = records.try_copy()?;
+    match table.failover(clusters, domain, B) {
         Ok(_) => Ok(table),
         Err(_) => Err(AllocError),
     }
@@ -218,7 +235,8 @@ fn third_part(
     home: &Home,
     domain: &Name,
     workflow: &Name,
-    table: &mut DomainTable,
+    table: &DomainTable,
+    moved: &DomainTable,
     lines: &mut Vec<String>,
 ) -> Result<(), AllocError>
     requires shared { AreShared home.now.clusters (record { number = 1 }) (record { number = 0 }) 208 domain.now workflow.now two.old one.now }
@@ -235,9 +253,6 @@ fn third_part(
     };
     let second = signal(alloc, "second")?;
     write_told(alloc, two, one, &before, home, table, &second, "B", lines)?;
-    if table.failover(home.clusters, domain, B).is_err() {
-        return Err(AllocError);
-    }
     let before = Shared {
         domain,
         workflow,
@@ -246,7 +261,7 @@ fn third_part(
         most: 3 * GROWTH,
     };
     let third = signal(alloc, "third")?;
-    write_told(alloc, two, one, &before, home, table, &third, "B", lines)?;
+    write_told(alloc, two, one, &before, home, moved, &third, "B", lines)?;
     Ok(())
 }
 
@@ -345,7 +360,7 @@ pub(crate) fn play(alloc: Global) -> Result<Vec<String>, AllocError> {
     let domain = &name(alloc, "alpha")?;
     let workflow = &name(alloc, "w1")?;
     let table = records(alloc, &clusters, domain)?;
-    let mut moved = table.try_copy()?;
+    let moved = &moved(&clusters, domain, &table)?;
     let here = Home {
         clusters: &clusters,
         me: A,
@@ -371,13 +386,13 @@ pub(crate) fn play(alloc: Global) -> Result<Vec<String>, AllocError> {
         alloc, &one, &mut two, &clusters, domain, workflow, &mut lines,
     )?;
     third_part(
-        alloc, &one, &mut two, &there, domain, workflow, &mut moved, &mut lines,
+        alloc, &one, &mut two, &there, domain, workflow, &table, moved, &mut lines,
     )?;
     fourth_part(
         alloc, &mut one, &mut two, &here, domain, workflow, &table, &mut lines,
     )?;
     last_part(
-        alloc, &one, &mut two, &there, domain, workflow, &moved, &mut lines,
+        alloc, &one, &mut two, &there, domain, workflow, moved, &mut lines,
     )?;
     Ok(lines)
 }
