@@ -153,47 +153,50 @@ fn write_told(
     Ok(())
 }
 
-/// A starts a workflow and signals it.
-fn first_part(
+/// Both cells begin; A starts a workflow and signals it. Gives A's cell and B's.
+fn start_and_signal(
     alloc: Global,
-    one: &mut Shard,
-    two: &Shard,
-    home: &Home,
+    here: &Home,
+    there: &Home,
     domain: &Name,
     workflow: &Name,
     table: &DomainTable,
     lines: &mut Vec<String>,
-) -> Result<(), AllocError>
-    requires shared { AreShared home.now.clusters (record { number = 0 }) (record { number = 1 }) 0 domain.now workflow.now one.old two.now }
-    requires home { home.now.me ≡ record { number = 0 } }
-    requires limit { home.now.limit ≡ 100 }
-    ensures { OnOk result (AreShared home.now.clusters (record { number = 0 }) (record { number = 1 }) 208 domain.now workflow.now one.new two.now) }
+) -> Result<(Shard, Shard), AllocError>
+    requires home { here.now.me ≡ record { number = 0 } }
+    requires limit { here.now.limit ≡ 100 }
+    ensures { IfOk result (λ pair. AreShared here.now.clusters (record { number = 0 }) (record { number = 1 }) 208 domain.now workflow.now pair.0 pair.1) }
 {
-    let start = Command::Start {
-        workflow_type: name(alloc, "order")?,
-    };
-    let before = Shared {
+    let shared = Shared {
         domain,
         workflow,
         me: A,
         them: B,
         most: 0,
     };
-    write_told(alloc, one, two, &before, home, table, &start, "A", lines)?;
-    let before = Shared {
+    let (mut one, two) = begin(alloc, here, there, &shared)?;
+    let start = Command::Start {
+        workflow_type: name(alloc, "order")?,
+    };
+    write_told(
+        alloc, &mut one, &two, &shared, here, table, &start, "A", lines,
+    )?;
+    let shared = Shared {
         domain,
         workflow,
         me: A,
         them: B,
         most: GROWTH,
     };
-    let signal = signal(alloc, "first")?;
-    write_told(alloc, one, two, &before, home, table, &signal, "A", lines)?;
-    Ok(())
+    let first = signal(alloc, "first")?;
+    write_told(
+        alloc, &mut one, &two, &shared, here, table, &first, "A", lines,
+    )?;
+    Ok((one, two))
 }
 
 /// The signal comes to B before the start, which is lost; B asks for what it lacks and is served.
-fn second_part(
+fn lose_and_serve(
     alloc: Global,
     one: &Shard,
     two: &mut Shard,
@@ -203,8 +206,7 @@ fn second_part(
     lines: &mut Vec<String>,
 ) -> Result<(), AllocError>
     requires { AreShared clusters.now (record { number = 0 }) (record { number = 1 }) 208 domain.now workflow.now one.now two.old }
-    ensures mine { OnOk result (AreShared clusters.now (record { number = 0 }) (record { number = 1 }) 208 domain.now workflow.now one.now two.new) }
-    ensures theirs { OnOk result (AreShared clusters.now (record { number = 1 }) (record { number = 0 }) 208 domain.now workflow.now two.new one.now) }
+    ensures { OnOk result (AreShared clusters.now (record { number = 1 }) (record { number = 0 }) 208 domain.now workflow.now two.new one.now) }
 {
     let mut steps: Steps<Story> = Steps::new();
     let shared = Shared {
@@ -227,8 +229,8 @@ fn second_part(
     Ok(())
 }
 
-/// B signals the workflow, which is refused, and signals it again where its records make it the writer.
-fn third_part(
+/// B signals the workflow, which is refused, and signals it again with records that make it the writer.
+fn fail_over(
     alloc: Global,
     one: &Shard,
     two: &mut Shard,
@@ -265,25 +267,23 @@ fn third_part(
     Ok(())
 }
 
-/// A signals it too, by its older record, and each tells the other.
-fn fourth_part(
+/// A signals it too, by its older record.
+fn signal_too(
     alloc: Global,
     one: &mut Shard,
-    two: &mut Shard,
+    two: &Shard,
     home: &Home,
     domain: &Name,
     workflow: &Name,
     table: &DomainTable,
     lines: &mut Vec<String>,
 ) -> Result<(), AllocError>
-    requires shared { AreShared home.now.clusters (record { number = 0 }) (record { number = 1 }) 416 domain.now workflow.now one.old two.old }
+    requires shared { AreShared home.now.clusters (record { number = 0 }) (record { number = 1 }) 416 domain.now workflow.now one.old two.now }
     requires home { home.now.me ≡ record { number = 0 } }
     requires limit { home.now.limit ≡ 100 }
-    ensures mine { OnOk result (AreShared home.now.clusters (record { number = 0 }) (record { number = 1 }) 520 domain.now workflow.now one.new two.new) }
-    ensures theirs { OnOk result (AreShared home.now.clusters (record { number = 1 }) (record { number = 0 }) 520 domain.now workflow.now two.new one.new) }
+    ensures { OnOk result (AreShared home.now.clusters (record { number = 0 }) (record { number = 1 }) 520 domain.now workflow.now one.new two.now) }
 {
-    let mut steps: Steps<Story> = Steps::new();
-    let before = Shared {
+    let shared = Shared {
         domain,
         workflow,
         me: A,
@@ -291,38 +291,55 @@ fn fourth_part(
         most: 4 * GROWTH,
     };
     let fourth = signal(alloc, "fourth")?;
-    write_told(alloc, one, two, &before, home, table, &fourth, "A", lines)?;
-    let shared = Shared {
+    write_told(alloc, one, two, &shared, home, table, &fourth, "A", lines)?;
+    Ok(())
+}
+
+/// Each tells the other what it wrote last.
+fn tell_each_other(
+    alloc: Global,
+    one: &mut Shard,
+    two: &mut Shard,
+    clusters: &Clusters,
+    domain: &Name,
+    workflow: &Name,
+    lines: &mut Vec<String>,
+) -> Result<(), AllocError>
+    requires { AreShared clusters.now (record { number = 0 }) (record { number = 1 }) 520 domain.now workflow.now one.old two.old }
+    ensures { OnOk result (AreShared clusters.now (record { number = 1 }) (record { number = 0 }) 520 domain.now workflow.now two.new one.new) }
+{
+    let mut steps: Steps<Story> = Steps::new();
+    let there = Shared {
         domain,
         workflow,
         me: A,
         them: B,
         most: 5 * GROWTH,
     };
+    let back = Shared {
+        me: B,
+        them: A,
+        ..there
+    };
     let key = BatchKey {
         version: 1,
         task: 3,
     };
-    let arrived = tell(one, two, &shared, home.clusters, key, &mut steps)?;
+    let arrived = tell(one, two, &there, clusters, key, &mut steps)?;
     lines.push(arrived_line(alloc, "B", &arrived)?)?;
-    let back = Shared {
-        domain,
-        workflow,
-        me: B,
-        them: A,
-        most: 5 * GROWTH,
-    };
     let key = BatchKey {
         version: 2,
         task: 3,
     };
-    let arrived = tell(two, one, &back, home.clusters, key, &mut steps)?;
+    let arrived = tell(two, one, &back, clusters, key, &mut steps)?;
     lines.push(arrived_line(alloc, "A", &arrived)?)?;
+    let alike = are_alike(one, two, domain, workflow)?;
+    lines.push(format!(in alloc; "alike: {alike}")?)?;
     Ok(())
 }
 
 /// A's cell is made anew from what B has learned, and B applies again the signal of the branch that lost.
-fn last_part(
+fn make_anew(
     alloc: Global,
     one: &Shard,
     two: &mut Shard,
@@ -371,27 +388,22 @@ pub(crate) fn play(alloc: Global) -> Result<Vec<String>, AllocError> {
         me: B,
         limit: LIMIT,
     };
-    let shared = Shared {
-        domain,
-        workflow,
-        me: A,
-        them: B,
-        most: 0,
-    };
-    let (mut one, mut two) = begin(alloc, &here, &there, &shared)?;
-    first_part(
-        alloc, &mut one, &two, &here, domain, workflow, &table, &mut lines,
+    let (mut one, mut two) = start_and_signal(
+        alloc, &here, &there, domain, workflow, &table, &mut lines,
     )?;
-    second_part(
+    lose_and_serve(
         alloc, &one, &mut two, &clusters, domain, workflow, &mut lines,
     )?;
-    third_part(
+    fail_over(
         alloc, &one, &mut two, &there, domain, workflow, &table, moved, &mut lines,
     )?;
-    fourth_part(
-        alloc, &mut one, &mut two, &here, domain, workflow, &table, &mut lines,
+    signal_too(
+        alloc, &mut one, &two, &here, domain, workflow, &table, &mut lines,
     )?;
-    last_part(
+    tell_each_other(
+        alloc, &mut one, &mut two, &clusters, domain, workflow, &mut lines,
+    )?;
+    make_anew(
         alloc, &one, &mut two, &there, domain, workflow, moved, &mut lines,
     )?;
     Ok(lines)

@@ -1,6 +1,3 @@
-use Rattle.std.proofs.Common.{sym, subst}
-use Rattle.ndc_model_cells.specs.Cells.{Cell}
-use Rattle.ndc_example_cell.specs.Shared.{AreShared}
 use Rattle.ndc_example_cell.proofs.SharedLemmas.{begin-then}
 use Rattle.ndc_example_cell.proofs.engine.begin.Goals as goal
 

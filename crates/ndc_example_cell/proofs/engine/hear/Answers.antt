@@ -1,4 +1,3 @@
-use Rattle.std.proofs.Common.{◌≡◌, ◌∙◌, sym, subst, ap, arith}
 use Rattle.ndc_example_cell.proofs.SharedLemmas.{hear-arrives, hear-then, shared-flip}
 use Rattle.ndc_example_cell.proofs.engine.hear.Goals as goal
 

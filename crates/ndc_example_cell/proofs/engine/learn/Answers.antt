@@ -1,6 +1,4 @@
-use Rattle.std.proofs.Common.{arith, sym, subst}
-use Rattle.ndc_model_cells.specs.Cells.{Cell}
-use Rattle.ndc_example_cell.specs.Shared.{CanTell}
+use Rattle.std.proofs.Common.{arith}
 use Rattle.ndc_example_cell.proofs.SharedLemmas.{learn-then, told-arrives}
 use Rattle.ndc_example_cell.proofs.engine.learn.Goals as goal
 

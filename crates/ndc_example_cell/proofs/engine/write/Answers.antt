@@ -1,4 +1,4 @@
-use Rattle.std.proofs.Common.{rules, ◌≡◌, ◌∙◌, sym, subst, ap, arith}
+use Rattle.std.proofs.Common.{rules, ◌≡◌, sym, subst, arith}
 use Rattle.ndc_laws_cells.specs.Keeping.{CanWrite}
 use Rattle.ndc_model_cells.specs.Writing.{Desk}
 use Rattle.ndc_example_cell.proofs.SharedLemmas.{desk-is, refuse-then, shared-flip, shared-write, write-then}
