@@ -1,0 +1,53 @@
+-- Two cells of two clusters that hold batches of one workflow.
+use Rattle.std.specs.Prelude.{◌≡◌, ◌≢◌, ◌≤◌, ℕ, false, length, List, [], Some}
+use Rattle.std.specs.List.{flat_map}
+use Rattle.ndc_domain.specs.Clusters.{ClusterList}
+use Rattle.ndc_domain.specs.declared.clusters.ClusterNo.{ClusterNo}
+use Rattle.ndc_domain.specs.declared.record.DomainRecord.{DomainRecord}
+use Rattle.ndc_event.specs.declared.batch.Batch.{Batch}
+use Rattle.ndc_event.specs.declared.name.Name.{Name}
+use Rattle.ndc_laws_cells.specs.Entries.{HaveTasksUpTo}
+use Rattle.ndc_laws_cells.specs.Keeping.{IsAuthored, IsKept, IsWhole}
+use Rattle.ndc_model_cells.specs.declared.message.Message.{Message}
+use Rattle.ndc_model_cells.specs.Cells.{Cell, arrived_of, learned_message, learned_of}
+use Rattle.ndc_model_sets.specs.Sets.{Has}
+use Rattle.ndc_model_cells.specs.Places.{is_of}
+use Rattle.ndc_model_cells.specs.Writing.{Desk}
+
+-- where a cell of a cluster stands, with histories of at most 100 events
+abbrev pub standing : ClusterList → ClusterNo → List DomainRecord → Desk
+standing clusters me table = record { clusters = clusters; me = me; limit = 100; table = table }
+
+-- nothing of any other workflow has arrived
+abbrev pub HoldsOnly : Name → Name → Cell → Type 0
+HoldsOnly domain workflow cell = (d w : Name) → ((b : Batch) → b.domain ≡ domain → b.workflow ≡ workflow → is_of d w b ≡ false) → arrived_of d w cell ≡ []
+
+-- a set is small: so many events, and so many tasks
+pub record IsSmallSet (most : ℕ) (all : List Batch) : Type 0 where
+  pub events_most : length (flat_map (λ b. b.events) all) ≤ most
+  pub tasks_most : HaveTasksUpTo most all
+
+-- the cells of two clusters keep one set of a workflow as its authors, and it is small
+pub record AreShared (clusters : ClusterList) (me them : ClusterNo) (most : ℕ) (domain workflow : Name) (mine theirs : Cell) : Type 0 where
+  pub all : List Batch
+  pub differ : me ≢ them
+  pub small : IsSmallSet most all
+  pub mine_is : IsAuthored (standing clusters me []) all domain workflow mine
+  pub theirs_is : IsAuthored (standing clusters them []) all domain workflow theirs
+  pub mine_only : HoldsOnly domain workflow mine
+  pub theirs_only : HoldsOnly domain workflow theirs
+
+-- one cell can tell another what it has learned of a workflow: both keep one set, which is small
+pub record CanTell (most : ℕ) (domain workflow : Name) (teller hearer : Cell) : Type 0 where
+  pub all : List Batch
+  pub small : IsSmallSet most all
+  pub kept : IsKept all domain workflow teller
+  pub whole : IsWhole domain workflow teller
+  pub heard : IsKept all domain workflow hearer
+  pub only : HoldsOnly domain workflow teller
+
+-- a message of what a cell has learned
+pub record IsSentBy (cell : Cell) (sent : Message) : Type 0 where
+  pub batch : Batch
+  pub learned : Has (learned_of batch.domain batch.workflow cell) batch
+  pub is : learned_message cell batch ≡ Some sent
