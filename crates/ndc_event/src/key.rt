@@ -2,6 +2,7 @@ ghost use Rattle.std.specs.Prelude.{◌≡◌, IfOk, List};
 ghost use Rattle.std.specs.String.{string_bytes};
 
 use std::alloc::{AllocError, Global};
+use std::hash::{Hash, Hasher};
 use uuid::Uuid;
 
 /// The key of a batch in its workflow: the failover version that it was written with, and its task
@@ -56,9 +57,41 @@ impl RunId {
 
 /// The signal event that a signal comes from: the run, the event id and the version that it was first
 /// written with.
-#[derive(Clone, Copy, Debug, PartialEq, Eq, PartialOrd, Ord, Hash)]
+#[derive(Clone, Copy, Debug, PartialEq, Eq, PartialOrd, Ord)]
 pub struct Origin {
     pub run: RunId,
     pub event: u64,
     pub version: u64,
+}
+
+impl Origin {
+    ghost use Rattle.std.specs.Prelude.{◌≡◌};
+    ghost use Rattle.ndc_event.specs.Key.{mixed};
+
+    /// One number of all fields, for hashing.
+    fn mixed(self) -> u64
+        ensures { result ≡ mixed self }
+    {
+        let task = (self.run.value % (1 << 64)) as u64;
+        let ids = self
+            .event
+            .wrapping_mul(0x9E37_79B9_7F4A_7C15)
+            .wrapping_add(task);
+        ids.wrapping_add(self.version.wrapping_mul(0xC2B2_AE3D_27D4_EB4F))
+    }
+}
+
+impl Hash for Origin {
+    ghost use Rattle.std.specs.Hash as fed;
+    ghost use Rattle.std.specs.Cmp.Rules.{hashing};
+    ghost use Rattle.std.proofs.Common.{rules};
+    ghost use Rattle.ndc_event.specs.Key.{mixed};
+
+    ghost hash_input = { λ origin. fed.u64 (mixed origin) };
+
+    ghost respects_eq = { Prim.search (hashing, rules) };
+
+    fn hash<H: Hasher>(&self, state: &mut H) {
+        self.mixed().hash(state);
+    }
 }

@@ -89,10 +89,14 @@ impl Chain {
         }
     }
 
-    /// The first batch whose key is not before this one.
+    /// The first batch whose key is not before this one. The first of all is looked at before the others are.
     pub(crate) fn first_from(&self, key: BatchKey) -> Option<&Batch>
         ensures { option_copied result ≡ first_from key self.now }
     {
+        let first = self.batches.first()?;
+        if !first.key.is_before(key) {
+            return Some(first);
+        }
         let place = match place_of(self.batches.as_slice(), key) {
             Ok(place) => place,
             Err(place) => place,

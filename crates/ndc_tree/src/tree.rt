@@ -299,8 +299,8 @@ impl Tree {
         Ok(path)
     }
 
-    /// The items of the path's version history to this batch, in order: those noted and one more, where those up to its
-    /// version are noted, in room for a multiple of so many, and else by a walk.
+    /// The items of the path's version history to this batch, in order: one alone where there is one version, those noted
+    /// and one more where those up to its version are noted, in room for a multiple of so many, and else by a walk.
     fn items_to(&self, alloc: Global, batch: &Batch, room: usize) -> Result<Vec<Item>, AllocError>
         requires has { Has self.now.batches batch.now }
         requires room { 0 < room }
@@ -313,7 +313,7 @@ impl Tree {
         }
     }
 
-    /// The items that are noted, where they are those before the batch's version on its path.
+    /// The items that stand before the batch's version on its path, where there is none or they are noted.
     fn noted_before(&self, batch: &Batch) -> Option<&[Item]>
         requires { Has self.now.batches batch.now }
         ensures items { IfSome result (λ front. items_of (Some batch.now) self.now.batches ≡ front.now ++ end_of (Some batch.now) ∷ []) }
@@ -322,7 +322,9 @@ impl Tree {
         let place = self
             .batches
             .place_near(batch.key.version, self.batches.last_place());
-        let elder = self.elder(batch, place)?;
+        let Some(elder) = self.elder(batch, place) else {
+            return Some(&[]);
+        };
         if !is_key(elder.key, self.noted_to) {
             return None;
         }

@@ -1,7 +1,0 @@
-use Rattle.std.proofs.Common.{◌≡◌, ◌++◌, drop}
-use Rattle.ndc_world_network.specs.Networks.{links_of}
-use Rattle.ndc_world_network.proofs.opening.add_links.Given as goal
-
-abbrev pub invariant-loop-source : goal.invariant-loop-source
-invariant-loop-source l =
-    l.links.items ++ links_of l.header (drop l.source-index l.clusters) l.reader ≡ l.initial.links.items ++ links_of l.header l.clusters l.reader
