@@ -1,4 +1,4 @@
-//! The script language: scripts read from text and printed, and scripts generated from a seed.
+//! The script language: scripts read from text, whole or line by line, and printed, and scripts generated from a seed.
 #![tactic(auto)]
 
 mod generating;
@@ -6,7 +6,7 @@ pub mod laws;
 
 pub use generating::generate;
 pub use ndc_script_print::print;
-pub use ndc_script_read::parse;
+pub use ndc_script_read::{parse, read_lines};
 pub use ndc_script_types::{
     Act, BurstJob, Header, Jobs, Line, Lines, Script, ScriptCause, ScriptError,
 };

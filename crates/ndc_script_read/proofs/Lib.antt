@@ -2,6 +2,7 @@ pub mod ActionFits
 pub mod BelowCount
 pub mod Differing
 pub mod LineLists
+pub mod Pieces
 pub mod ReadSteps
 pub mod Short
 pub mod Singles

@@ -29,23 +29,23 @@ use Rattle.ndc_script_words.proofs.HeaderNames.{clusters_same}
 use Rattle.ndc_script_read.proofs.Singles.{IsSingle, cluster_line_single, pair_line_single, domain_line_single, retain_line_single, target_line_single, handover_line_single, levels_line_single, place_line_single, pull_line_single, places_line_single, settle_line_single, workflow_line_single, compare_line_single, reset_line_single, beat_line_single, progress_line_single, register_line_single, command_line_single}
 
 -- the line is not past the limit
-not_past : Reading → Bool
+unfoldable pub not_past : Reading → Bool
 not_past Readable = true
 not_past Unreadable = true
 not_past PastLimit = false
 
 -- the first lines, so many, are there, and none of them is past the limit
-Front : ℕ → List KeptLine → Type 0
+unfoldable pub Front : ℕ → List KeptLine → Type 0
 Front zero lines = Unit {0}
 Front (suc n) [] = ⊥
 Front (suc n) (line ∷ lines) = (not_past line.reading ≡ true) × Front n lines
 
 -- none of the lines is past the limit
-Within : List KeptLine → Type 0
+unfoldable pub Within : List KeptLine → Type 0
 Within [] = Unit {0}
 Within (line ∷ lines) = (not_past line.reading ≡ true) × Within lines
 
-weaker : {A E : Type 0} (r : Result A E) (P : A → Type 0) (x : A) → IfOk r P → r ≡ Ok x → P x
+pub weaker : {A E : Type 0} (r : Result A E) (P : A → Type 0) (x : A) → IfOk r P → r ≡ Ok x → P x
 weaker (Ok y) P x p is = let same : y ≡ x = cc in rw (sym same) p
 weaker (Err e) P x p is = absurd (cc)
 
@@ -80,7 +80,7 @@ jobs_front end name [] = tt
 jobs_front end name (line ∷ lines) = job_front end name line lines (is_end line.reading line.words) refl (jobs_front end name lines)
 
 -- the lines that belong to a line are there
-FrontOf : List KeptLine → Act → Type 0
+unfoldable pub FrontOf : List KeptLine → Act → Type 0
 FrontOf lines asked = Front (lines_within asked) lines
 
 single_front : (lines : List KeptLine) (r : Result Act ScriptError) → IfOk r IsSingle → IfOk r (FrontOf lines)
@@ -128,7 +128,7 @@ unfolding words_act
 words_front header end line [] lines = tt
 words_front header end line (word ∷ words) lines = by_front header end line (verb_of word) words lines
 
-act_front : (header : Header) (end line : ℕ) (reading : Reading) (words : List (List ℕ)) (lines : List KeptLine) → IfOk (act_read header end line reading words lines) (FrontOf lines)
+pub act_front : (header : Header) (end line : ℕ) (reading : Reading) (words : List (List ℕ)) (lines : List KeptLine) → IfOk (act_read header end line reading words lines) (FrontOf lines)
 act_front header end line Readable words lines = words_front header end line words lines
 act_front header end line Unreadable words lines = tt
 act_front header end line PastLimit words lines = tt
@@ -140,7 +140,7 @@ act_within header end line Unreadable words lines asked ok = refl
 act_within header end line PastLimit words lines asked ok = absurd (cc)
 
 -- the lines of a body, behind those that belong to the line before: none is past the limit, and there are enough
-record Counted (within : ℕ) (lines : List KeptLine) (read : List Line) : Type 0 where
+pub record Counted (within : ℕ) (lines : List KeptLine) (read : List Line) : Type 0 where
   pub none_past : Within lines
   pub enough : within + read_count read ≤ length lines
 
@@ -148,7 +148,7 @@ counted_none : (lines : List KeptLine) → Counted 0 [] []
 unfolding Within read_count
 counted_none lines = record { none_past = tt; enough = omega arith }
 
-body_counted : (header : Header) (end within : ℕ) (lines : List KeptLine) → Front within lines → IfOk (body_behind header end within lines) (Counted within lines)
+pub body_counted : (header : Header) (end within : ℕ) (lines : List KeptLine) → Front within lines → IfOk (body_behind header end within lines) (Counted within lines)
 unfolding body_behind Front Within read_count FrontOf
 body_counted header end zero [] front = record { none_past = tt; enough = omega arith }
 body_counted header end (suc within) [] front = absurd front
@@ -177,7 +177,7 @@ kept_few number (line ∷ lines) most none =
     kept_by number (nat_le number 100000) (kept_line number line) (kept_from (number + 1) lines) refl (kept_few (number + 1) lines) most none
 
 -- what a header takes of lines: so many, none of them past the limit
-record Took (lines : List KeptLine) (count : ℕ) (rest : List KeptLine) : Type 0 where
+pub record Took (lines : List KeptLine) (count : ℕ) (rest : List KeptLine) : Type 0 where
   pub counts : length lines ≡ count + length rest
   pub none_past : Within rest → Within lines
 
@@ -206,7 +206,7 @@ members_by line lines None is took = record { counts = omega arith; none_past = 
 members_by line lines (Some member) is took =
     record { counts = omega (arith, took.counts); none_past = λ none. (read_within line.reading line.words member is, took.none_past none) }
 
-members_took : (lines : List KeptLine) → Took lines (length (members_of lines)) (behind_members lines)
+pub members_took : (lines : List KeptLine) → Took lines (length (members_of lines)) (behind_members lines)
 unfolding Within
 members_took [] = record { counts = refl; none_past = λ none. none }
 members_took (line ∷ lines) = members_by line lines (member_of line) refl (members_took lines)
@@ -219,12 +219,12 @@ same_body : (lines : List KeptLine) → IfOk (rest_lines lines) (λ body. body �
 same_body [] = refl
 same_body (line ∷ lines) = body_by line lines (is_cluster_line line.words)
 
-placed_ok : (end increment : ℕ) (lines : List KeptLine) (made : Result ClusterList ClustersError) (clusters : ClusterList) → placed end increment lines made ≡ Ok clusters → made ≡ Ok clusters
+pub placed_ok : (end increment : ℕ) (lines : List KeptLine) (made : Result ClusterList ClustersError) (clusters : ClusterList) → placed end increment lines made ≡ Ok clusters → made ≡ Ok clusters
 placed_ok end increment lines (Ok one) clusters ok = let same : one ≡ clusters = cc in ap Ok same
 placed_ok end increment lines (Err error) clusters ok = absurd (cc)
 
 -- a header that was read took its lines
-TookHeader : List KeptLine → ℕ → HeaderRead → Type 0
+unfoldable pub TookHeader : List KeptLine → ℕ → HeaderRead → Type 0
 TookHeader lines before read = Took lines (before + length read.header.clusters.members) read.body
 
 clusters_took : (end : ℕ) (increment : Setting) (shards limit : ℕ) (lines : List KeptLine) → IfOk (clusters_read end increment shards limit lines) (TookHeader lines 0)
@@ -247,7 +247,7 @@ next_took key low high end before lines f step =
     always (f setting) (TookHeader setting.rest before) (TookHeader lines (1 + before))
     (λ read. took_on before lines setting.rest 1 read (weaker (setting_of key low high end lines) (λ (s : Setting). Took lines 1 s.rest) setting (setting_took key low high end lines) ok)) (step setting))
 
-header_took : (end : ℕ) (lines : List KeptLine) → IfOk (header_of end lines) (TookHeader lines 4)
+pub header_took : (end : ℕ) (lines : List KeptLine) → IfOk (header_of end lines) (TookHeader lines 4)
 unfolding header_of
 header_took end lines =
     next_took (codes "ndc") 1 1 end 3 lines _ (λ edition.

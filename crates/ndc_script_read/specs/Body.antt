@@ -16,7 +16,7 @@ use Rattle.ndc_script_words.specs.declared.text.Reading.TheVariants.{Readable, U
 use Rattle.ndc_script_words.specs.declared.verb.CommandVerb.{CommandVerb}
 use Rattle.ndc_script_words.specs.declared.verb.Verb.{Verb}
 use Rattle.ndc_script_words.specs.declared.verb.Verb.TheVariants as verb
-use Rattle.ndc_script_words.specs.Text.{KeptLine, kept_of, line_after}
+use Rattle.ndc_script_words.specs.Text.{KeptLine, kept_from, kept_of, line_after, line_behind, text_lines}
 use Rattle.ndc_script_words.specs.Header.{refused, HeaderRead, header_of}
 use Rattle.ndc_script_words.specs.Operands.{named, known}
 use Rattle.ndc_script_read.specs.Commands.{command_of, command_line}
@@ -133,6 +133,10 @@ body_behind header end zero (line ∷ lines) = do
 -- the lines of the body, or the first faulty one
 abbrev pub body_of : Header → ℕ → List KeptLine → Result (List Line) ScriptError
 body_of header end lines = body_behind header end 0 lines
+
+-- the lines of a piece of a body whose first line has this number, or the first faulty one
+abbrev pub lines_read : Header → ℕ → List ℕ → Result (List Line) ScriptError
+lines_read header first bytes = body_of header (line_behind first bytes) (kept_from first (text_lines bytes))
 
 -- the script of a header and its body
 abbrev pub script_in : ℕ → HeaderRead → Result Script ScriptError

@@ -14,8 +14,9 @@ use crate::line::{
 };
 use crate::register::register_line;
 use ndc_script_types::{Act, BurstJob, Header, Jobs, Line, ScriptCause, ScriptError};
-use ndc_script_words::{CommandVerb, KeptLine, Reading, Verb, bad, known, named, verb_of};
-use std::alloc::Global;
+use ndc_script_words::{
+    CommandVerb, Interner, KeptLine, Reading, Verb, bad, known, named, verb_of,
+};
 
 /// The refusal of a line past the limit.
 fn past_limit(line: u64) -> ScriptError
@@ -30,7 +31,7 @@ fn past_limit(line: u64) -> ScriptError
 /// The job of a command line, behind the workflow.
 #[tactic(auto, unfolding(crate::specs::Body::job_at))]
 fn job_at(
-    alloc: Global,
+    names: &mut Interner,
     line: u64,
     verb: CommandVerb,
     domain: &[u8],
@@ -40,9 +41,9 @@ fn job_at(
     ensures answer { Gives Memory (λ job. job) result (job_at line verb domain.now workflow.now (map (λ word. word.now) operands.now)) }
     ensures well_formed { IfOk result IsWellFormedJob }
 {
-    let command = command_of(alloc, line, verb, operands)?;
-    let domain = named(alloc, line, domain)?;
-    let workflow = named(alloc, line, workflow)?;
+    let command = command_of(names, line, verb, operands)?;
+    let domain = named(names, line, domain)?;
+    let workflow = named(names, line, workflow)?;
     Ok(BurstJob {
         number: line,
         domain,
@@ -54,7 +55,7 @@ fn job_at(
 /// The job of a command line at the cluster of this name, behind its first word.
 #[tactic(auto, unfolding(crate::specs::Body::job_line))]
 fn job_line(
-    alloc: Global,
+    names: &mut Interner,
     name: &[u8],
     line: u64,
     verb: CommandVerb,
@@ -66,7 +67,7 @@ fn job_line(
     match words {
         [cluster, domain, workflow, operands @ ..] => {
             if *cluster == name {
-                job_at(alloc, line, verb, domain, workflow, operands)
+                job_at(names, line, verb, domain, workflow, operands)
             } else {
                 Err(bad(line))
             }
@@ -78,7 +79,7 @@ fn job_line(
 /// The job that words are, by the first.
 #[tactic(auto, unfolding(crate::specs::Body::words_job))]
 fn words_job(
-    alloc: Global,
+    names: &mut Interner,
     name: &[u8],
     line: u64,
     words: &[&[u8]],
@@ -89,21 +90,21 @@ fn words_job(
     match words {
         [] => Err(bad(line)),
         [word, words @ ..] => match verb_of(word) {
-            Some(Verb::Command(verb)) => job_line(alloc, name, line, verb, words),
+            Some(Verb::Command(verb)) => job_line(names, name, line, verb, words),
             _ => Err(bad(line)),
         },
     }
 }
 
 /// The job of a line of a burst.
-fn job_read(alloc: Global, name: &[u8], line: &KeptLine<'_>) -> Result<BurstJob, ScriptError>
+fn job_read(names: &mut Interner, name: &[u8], line: &KeptLine<'_>) -> Result<BurstJob, ScriptError>
     ensures answer { Gives Memory (λ job. job) result (job_read name.now line.now.number line.now.reading line.now.words) }
     ensures well_formed { IfOk result IsWellFormedJob }
 {
     match line.reading() {
         Reading::PastLimit => Err(past_limit(line.number())),
         Reading::Unreadable => Err(bad(line.number())),
-        Reading::Readable => words_job(alloc, name, line.number(), line.words()),
+        Reading::Readable => words_job(names, name, line.number(), line.words()),
     }
 }
 
@@ -130,7 +131,7 @@ fn is_end(line: &KeptLine<'_>) -> bool
 /// The jobs of a burst at the cluster of this name, up to its line `end`.
 #[tactic(auto, unfolding(crate::specs::Body::jobs_of))]
 fn jobs_of(
-    alloc: Global,
+    names: &mut Interner,
     end: u64,
     name: &[u8],
     lines: &[KeptLine<'_>],
@@ -138,12 +139,12 @@ fn jobs_of(
     ensures answer { Gives Memory (λ jobs. jobs.items) result (jobs_of end name.now lines.now) }
     ensures well_formed { IfOk result (λ jobs. All IsWellFormedJob jobs.items) }
 {
-    let mut jobs = Vec::new(alloc);
+    let mut jobs = Vec::new(names.alloc());
     for line in lines {
         if is_end(line) {
             return Ok(jobs);
         }
-        let job = job_read(alloc, name, line)?;
+        let job = job_read(names, name, line)?;
         jobs.push(job)?;
     }
     Err(bad(end))
@@ -152,7 +153,7 @@ fn jobs_of(
 /// `burst C`, by its words behind the first and the lines behind it.
 #[tactic(auto, unfolding(crate::specs::Body::burst_line))]
 fn burst_line(
-    alloc: Global,
+    names: &mut Interner,
     header: &Header,
     end: u64,
     line: u64,
@@ -165,7 +166,7 @@ fn burst_line(
     match words {
         [name] => {
             let cluster = known(header, line, name)?;
-            let jobs = jobs_of(alloc, end, name, lines)?;
+            let jobs = jobs_of(names, end, name, lines)?;
             Ok(Act::Burst {
                 cluster,
                 jobs: Jobs::new(jobs),
@@ -178,7 +179,7 @@ fn burst_line(
 /// The line that begins with a verb, by its words behind the first and the lines behind it.
 #[tactic(auto, unfolding(crate::specs::Body::verb_act))]
 fn verb_act(
-    alloc: Global,
+    names: &mut Interner,
     header: &Header,
     end: u64,
     line: u64,
@@ -191,13 +192,13 @@ fn verb_act(
     ensures well_formed { IfOk result (IsWellFormedAct header.now) }
 {
     match verb {
-        Verb::Command(command) => command_line(alloc, header, line, command, words),
-        Verb::Burst => burst_line(alloc, header, end, line, words, lines),
-        Verb::Register => register_line(alloc, header, line, words),
-        Verb::Retain => retain_line(alloc, header, line, words),
-        Verb::Domain(domain) => domain_line(alloc, header, line, domain, words),
-        Verb::Target(target) => target_line(alloc, header, line, target, words),
-        Verb::Handover => handover_line(alloc, header, line, words),
+        Verb::Command(command) => command_line(names, header, line, command, words),
+        Verb::Burst => burst_line(names, header, end, line, words, lines),
+        Verb::Register => register_line(names, header, line, words),
+        Verb::Retain => retain_line(names, header, line, words),
+        Verb::Domain(domain) => domain_line(names, header, line, domain, words),
+        Verb::Target(target) => target_line(names, header, line, target, words),
+        Verb::Handover => handover_line(names, header, line, words),
         Verb::Pair(pair) => pair_line(header, line, pair, words),
         Verb::Pull => pull_line(header, line, words),
         Verb::Place(place) => place_line(header, line, place, words),
@@ -205,18 +206,18 @@ fn verb_act(
         Verb::Levels => levels_line(header, line, words),
         Verb::Cluster(cluster) => cluster_line(header, line, cluster, words),
         Verb::Settle => settle_line(line, words),
-        Verb::Workflow(workflow) => workflow_line(alloc, header, line, workflow, words),
-        Verb::Compare => compare_line(alloc, header, line, words),
-        Verb::Reset => reset_line(alloc, header, line, words),
-        Verb::Beat => beat_line(alloc, header, line, words),
-        Verb::Progress => progress_line(alloc, header, line, words),
+        Verb::Workflow(workflow) => workflow_line(names, header, line, workflow, words),
+        Verb::Compare => compare_line(names, header, line, words),
+        Verb::Reset => reset_line(names, header, line, words),
+        Verb::Beat => beat_line(names, header, line, words),
+        Verb::Progress => progress_line(names, header, line, words),
     }
 }
 
 /// The line that these words are, by the first; the lines behind it are those of a burst.
 #[tactic(auto, unfolding(crate::specs::Body::words_act))]
 fn words_act(
-    alloc: Global,
+    names: &mut Interner,
     header: &Header,
     end: u64,
     line: u64,
@@ -230,7 +231,7 @@ fn words_act(
     match words {
         [] => Err(bad(line)),
         [word, words @ ..] => match verb_of(word) {
-            Some(verb) => verb_act(alloc, header, end, line, verb, words, lines),
+            Some(verb) => verb_act(names, header, end, line, verb, words, lines),
             None => Err(bad(line)),
         },
     }
@@ -238,7 +239,7 @@ fn words_act(
 
 /// What a line asks for, with the lines behind it.
 fn act_read(
-    alloc: Global,
+    names: &mut Interner,
     header: &Header,
     end: u64,
     line: &KeptLine<'_>,
@@ -251,7 +252,7 @@ fn act_read(
     match line.reading() {
         Reading::PastLimit => Err(past_limit(line.number())),
         Reading::Unreadable => Err(bad(line.number())),
-        Reading::Readable => words_act(alloc, header, end, line.number(), line.words(), lines),
+        Reading::Readable => words_act(names, header, end, line.number(), line.words(), lines),
     }
 }
 
@@ -268,7 +269,7 @@ fn lines_within(act: &Act) -> usize
 /// The lines of the body, or the first faulty one. The line behind the last has the number `end`.
 #[tactic(auto, unfolding(crate::specs::Body::body_behind))]
 pub fn body_of(
-    alloc: Global,
+    names: &mut Interner,
     header: &Header,
     end: u64,
     lines: &[KeptLine<'_>],
@@ -277,7 +278,7 @@ pub fn body_of(
     ensures answer { Gives Memory (λ body. body.items) result (body_of header.now end lines.now) }
     ensures well_formed { IfOk result (λ body. AreWellFormedLines header.now body.items) }
 {
-    let mut body = Vec::new(alloc);
+    let mut body = Vec::new(names.alloc());
     let mut within: usize = 0;
     for place in 0..lines.len() {
         if within > 0 {
@@ -285,7 +286,7 @@ pub fn body_of(
         } else {
             let (_, behind) = lines.split_at(place + 1);
             let line = &lines[place];
-            let act = act_read(alloc, header, end, line, behind)?;
+            let act = act_read(names, header, end, line, behind)?;
             within = lines_within(&act);
             body.push(Line {
                 number: line.number(),

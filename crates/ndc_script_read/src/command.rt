@@ -8,10 +8,9 @@ use ndc_command::{Action, Actions, Command};
 use ndc_event::Name;
 use ndc_script_types::{Act, Header, ScriptError};
 use ndc_script_words::{
-    ActionVerb, BareCommand, ClosingAction, CommandVerb, NamedAction, NamedCommand, PairedAction,
-    PairedCommand, action_verb, bad, named, workflow_at,
+    ActionVerb, BareCommand, ClosingAction, CommandVerb, Interner, NamedAction, NamedCommand,
+    PairedAction, PairedCommand, action_verb, bad, named, workflow_at,
 };
-use std::alloc::Global;
 
 /// An action, and how many words behind its first belong to it.
 #[derive(Drop)]
@@ -119,7 +118,7 @@ fn closing_action(verb: ClosingAction, name: Name) -> Action
 /// A group of an action and one name.
 #[tactic(auto, unfolding(crate::specs::Commands::named_group))]
 fn named_group(
-    alloc: Global,
+    names: &mut Interner,
     line: u64,
     verb: NamedAction,
     words: &[&[u8]],
@@ -128,7 +127,7 @@ fn named_group(
 {
     match words {
         [name, ..] => {
-            let name = named(alloc, line, name)?;
+            let name = named(names, line, name)?;
             Ok(Group {
                 action: named_action(verb, name),
                 operands: 1,
@@ -141,7 +140,7 @@ fn named_group(
 /// A group of an action and two names.
 #[tactic(auto, unfolding(crate::specs::Commands::paired_group))]
 fn paired_group(
-    alloc: Global,
+    names: &mut Interner,
     line: u64,
     verb: PairedAction,
     words: &[&[u8]],
@@ -150,8 +149,8 @@ fn paired_group(
 {
     match words {
         [one, two, ..] => {
-            let one = named(alloc, line, one)?;
-            let two = named(alloc, line, two)?;
+            let one = named(names, line, one)?;
+            let two = named(names, line, two)?;
             Ok(Group {
                 action: paired_action(verb, one, two),
                 operands: 2,
@@ -164,7 +163,7 @@ fn paired_group(
 /// A group of an action that closes the run and one name; it stands last.
 #[tactic(auto, unfolding(crate::specs::Commands::closing_group))]
 fn closing_group(
-    alloc: Global,
+    names: &mut Interner,
     line: u64,
     verb: ClosingAction,
     words: &[&[u8]],
@@ -173,7 +172,7 @@ fn closing_group(
 {
     match words {
         [name] => {
-            let name = named(alloc, line, name)?;
+            let name = named(names, line, name)?;
             Ok(Group {
                 action: closing_action(verb, name),
                 operands: 1,
@@ -199,31 +198,36 @@ fn canceled_group(line: u64, words: &[&[u8]]) -> Result<Group, ScriptError>
 
 /// The group that begins with a word, by the words behind it.
 #[tactic(auto, unfolding(crate::specs::Commands::group_of))]
-fn group_of(alloc: Global, line: u64, word: &[u8], words: &[&[u8]]) -> Result<Group, ScriptError>
+fn group_of(
+    names: &mut Interner,
+    line: u64,
+    word: &[u8],
+    words: &[&[u8]],
+) -> Result<Group, ScriptError>
     ensures { Gives Memory (λ group. group) result (group_of line word.now (map (λ word. word.now) words.now)) }
 {
     match action_verb(word) {
         None => Err(bad(line)),
-        Some(ActionVerb::Named(verb)) => named_group(alloc, line, verb, words),
-        Some(ActionVerb::Paired(verb)) => paired_group(alloc, line, verb, words),
-        Some(ActionVerb::Closing(verb)) => closing_group(alloc, line, verb, words),
+        Some(ActionVerb::Named(verb)) => named_group(names, line, verb, words),
+        Some(ActionVerb::Paired(verb)) => paired_group(names, line, verb, words),
+        Some(ActionVerb::Closing(verb)) => closing_group(names, line, verb, words),
         Some(ActionVerb::Canceled) => canceled_group(line, words),
     }
 }
 
 /// The actions that words are, read from left to right.
 #[tactic(auto, unfolding(crate::specs::Commands::actions_behind))]
-fn actions_of(alloc: Global, line: u64, words: &[&[u8]]) -> Result<Vec<Action>, ScriptError>
+fn actions_of(names: &mut Interner, line: u64, words: &[&[u8]]) -> Result<Vec<Action>, ScriptError>
     ensures { Gives Memory (λ actions. actions.items) result (actions_of line (map (λ word. word.now) words.now)) }
 {
-    let mut actions = Vec::new(alloc);
+    let mut actions = Vec::new(names.alloc());
     let mut operands: usize = 0;
     for place in 0..words.len() {
         if operands > 0 {
             operands -= 1;
         } else {
             let (_, behind) = words.split_at(place + 1);
-            let group = group_of(alloc, line, words[place], behind)?;
+            let group = group_of(names, line, words[place], behind)?;
             actions.push(group.action)?;
             operands = group.operands;
         }
@@ -246,7 +250,7 @@ fn bare_of(line: u64, verb: BareCommand, words: &[&[u8]]) -> Result<Command, Scr
 /// A command with one name, behind the workflow.
 #[tactic(auto, unfolding(crate::specs::Commands::named_of))]
 fn named_of(
-    alloc: Global,
+    names: &mut Interner,
     line: u64,
     verb: NamedCommand,
     words: &[&[u8]],
@@ -256,7 +260,7 @@ fn named_of(
 {
     match words {
         [name] => {
-            let name = named(alloc, line, name)?;
+            let name = named(names, line, name)?;
             Ok(named_command(verb, name))
         }
         _ => Err(bad(line)),
@@ -266,7 +270,7 @@ fn named_of(
 /// A command with two names, behind the workflow.
 #[tactic(auto, unfolding(crate::specs::Commands::paired_of))]
 fn paired_of(
-    alloc: Global,
+    names: &mut Interner,
     line: u64,
     verb: PairedCommand,
     words: &[&[u8]],
@@ -276,8 +280,8 @@ fn paired_of(
 {
     match words {
         [one, two] => {
-            let one = named(alloc, line, one)?;
-            let two = named(alloc, line, two)?;
+            let one = named(names, line, one)?;
+            let two = named(names, line, two)?;
             Ok(paired_command(verb, one, two))
         }
         _ => Err(bad(line)),
@@ -286,11 +290,11 @@ fn paired_of(
 
 /// `respond ACTION ..`, behind the workflow.
 #[tactic(auto, unfolding(crate::specs::Commands::respond_of))]
-fn respond_of(alloc: Global, line: u64, words: &[&[u8]]) -> Result<Command, ScriptError>
+fn respond_of(names: &mut Interner, line: u64, words: &[&[u8]]) -> Result<Command, ScriptError>
     ensures answer { Gives Memory (λ command. command) result (respond_of line (map (λ word. word.now) words.now)) }
     ensures well_formed { IfOk result IsWellFormedCommand }
 {
-    let actions = actions_of(alloc, line, words)?;
+    let actions = actions_of(names, line, words)?;
     Ok(Command::Respond {
         actions: Actions::new(actions),
     })
@@ -299,7 +303,7 @@ fn respond_of(alloc: Global, line: u64, words: &[&[u8]]) -> Result<Command, Scri
 /// The command of a verb, by the words behind the workflow.
 #[tactic(auto, unfolding(crate::specs::Commands::command_of))]
 pub fn command_of(
-    alloc: Global,
+    names: &mut Interner,
     line: u64,
     verb: CommandVerb,
     words: &[&[u8]],
@@ -309,16 +313,16 @@ pub fn command_of(
 {
     match verb {
         CommandVerb::Bare(verb) => bare_of(line, verb, words),
-        CommandVerb::Named(verb) => named_of(alloc, line, verb, words),
-        CommandVerb::Paired(verb) => paired_of(alloc, line, verb, words),
-        CommandVerb::Respond => respond_of(alloc, line, words),
+        CommandVerb::Named(verb) => named_of(names, line, verb, words),
+        CommandVerb::Paired(verb) => paired_of(names, line, verb, words),
+        CommandVerb::Respond => respond_of(names, line, words),
     }
 }
 
 /// A command line `WORD C D W ..`, behind its first word.
 #[tactic(auto, unfolding(crate::specs::Commands::command_line))]
 pub fn command_line(
-    alloc: Global,
+    names: &mut Interner,
     header: &Header,
     line: u64,
     verb: CommandVerb,
@@ -329,8 +333,8 @@ pub fn command_line(
 {
     match words {
         [cluster, domain, workflow, operands @ ..] => {
-            let command = command_of(alloc, line, verb, operands)?;
-            let at = workflow_at(alloc, header, line, cluster, domain, workflow)?;
+            let command = command_of(names, line, verb, operands)?;
+            let at = workflow_at(names, header, line, cluster, domain, workflow)?;
             Ok(Act::Command {
                 cluster: at.cluster,
                 domain: at.domain,

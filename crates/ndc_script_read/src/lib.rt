@@ -3,8 +3,9 @@
 
 mod body;
 mod command;
+pub mod laws;
 mod line;
 mod parsing;
 mod register;
 
-pub use parsing::parse;
+pub use parsing::{parse, read_lines};

@@ -9,11 +9,10 @@ use ndc_domain::ClusterNo;
 use ndc_event::Name;
 use ndc_script_types::{Act, Header, ScriptError};
 use ndc_script_words::{
-    ClusterVerb, DomainVerb, MAX_PLACE, PairVerb, PlaceVerb, PlacesVerb, TargetVerb, WorkflowAt,
-    WorkflowVerb, bad, both_known, known, named, numbered, place_of, shard_of, two_clusters,
-    workflow_at,
+    ClusterVerb, DomainVerb, Interner, MAX_PLACE, PairVerb, PlaceVerb, PlacesVerb, TargetVerb,
+    WorkflowAt, WorkflowVerb, bad, both_known, known, named, numbered, place_of, shard_of,
+    two_clusters, workflow_at,
 };
-use std::alloc::Global;
 
 /// What a line on one cluster asks for.
 fn cluster_act(verb: ClusterVerb, cluster: ClusterNo) -> Act
@@ -106,7 +105,7 @@ fn domain_act(verb: DomainVerb, at: ClusterNo, domain: Name) -> Act
 /// A line `WORD C D`, behind its first word.
 #[tactic(auto, unfolding(crate::specs::Lines::domain_line))]
 pub fn domain_line(
-    alloc: Global,
+    names: &mut Interner,
     header: &Header,
     line: u64,
     verb: DomainVerb,
@@ -117,7 +116,7 @@ pub fn domain_line(
 {
     match words {
         [at, domain] => {
-            let domain = named(alloc, line, domain)?;
+            let domain = named(names, line, domain)?;
             let at = known(header, line, at)?;
             Ok(domain_act(verb, at, domain))
         }
@@ -128,7 +127,7 @@ pub fn domain_line(
 /// `retain C D DAYS`, behind its first word.
 #[tactic(auto, unfolding(crate::specs::Lines::retain_line))]
 pub fn retain_line(
-    alloc: Global,
+    names: &mut Interner,
     header: &Header,
     line: u64,
     words: &[&[u8]],
@@ -138,7 +137,7 @@ pub fn retain_line(
 {
     match words {
         [at, domain, days] => {
-            let domain = named(alloc, line, domain)?;
+            let domain = named(names, line, domain)?;
             let days = numbered(line, 1, 1_000, days)?;
             let at = known(header, line, at)?;
             Ok(Act::Retain {
@@ -168,7 +167,7 @@ fn target_act(verb: TargetVerb, at: ClusterNo, domain: Name, target: ClusterNo) 
 /// A line `WORD C D CLUSTER`, behind its first word.
 #[tactic(auto, unfolding(crate::specs::Lines::target_line))]
 pub fn target_line(
-    alloc: Global,
+    names: &mut Interner,
     header: &Header,
     line: u64,
     verb: TargetVerb,
@@ -179,7 +178,7 @@ pub fn target_line(
 {
     match words {
         [at, domain, target] => {
-            let domain = named(alloc, line, domain)?;
+            let domain = named(names, line, domain)?;
             let clusters = both_known(header, line, at, target)?;
             Ok(target_act(verb, clusters.one, domain, clusters.two))
         }
@@ -190,7 +189,7 @@ pub fn target_line(
 /// `handover C D TARGET`, behind its first word; C and TARGET differ.
 #[tactic(auto, unfolding(crate::specs::Lines::handover_line))]
 pub fn handover_line(
-    alloc: Global,
+    names: &mut Interner,
     header: &Header,
     line: u64,
     words: &[&[u8]],
@@ -200,7 +199,7 @@ pub fn handover_line(
 {
     match words {
         [at, domain, target] => {
-            let domain = named(alloc, line, domain)?;
+            let domain = named(names, line, domain)?;
             let clusters = two_clusters(header, line, at, target)?;
             Ok(Act::Handover {
                 at: clusters.one,
@@ -422,7 +421,7 @@ fn workflow_act(verb: WorkflowVerb, at: WorkflowAt) -> Act
 /// A line `WORD C D W`, behind its first word.
 #[tactic(auto, unfolding(crate::specs::Lines::workflow_line))]
 pub fn workflow_line(
-    alloc: Global,
+    names: &mut Interner,
     header: &Header,
     line: u64,
     verb: WorkflowVerb,
@@ -433,7 +432,7 @@ pub fn workflow_line(
 {
     match words {
         [cluster, domain, workflow] => {
-            let at = workflow_at(alloc, header, line, cluster, domain, workflow)?;
+            let at = workflow_at(names, header, line, cluster, domain, workflow)?;
             Ok(workflow_act(verb, at))
         }
         _ => Err(bad(line)),
@@ -443,7 +442,7 @@ pub fn workflow_line(
 /// `compare C C D W`, behind its first word.
 #[tactic(auto, unfolding(crate::specs::Lines::compare_line))]
 pub fn compare_line(
-    alloc: Global,
+    names: &mut Interner,
     header: &Header,
     line: u64,
     words: &[&[u8]],
@@ -453,7 +452,7 @@ pub fn compare_line(
 {
     match words {
         [one, two, domain, workflow] => {
-            let at = workflow_at(alloc, header, line, one, domain, workflow)?;
+            let at = workflow_at(names, header, line, one, domain, workflow)?;
             let two = known(header, line, two)?;
             Ok(Act::Compare {
                 one: at.cluster,
@@ -469,7 +468,7 @@ pub fn compare_line(
 /// `reset C D W EVENT`, behind its first word.
 #[tactic(auto, unfolding(crate::specs::Lines::reset_line))]
 pub fn reset_line(
-    alloc: Global,
+    names: &mut Interner,
     header: &Header,
     line: u64,
     words: &[&[u8]],
@@ -480,7 +479,7 @@ pub fn reset_line(
     match words {
         [cluster, domain, workflow, event] => {
             let event = numbered(line, 1, MAX_PLACE, event)?;
-            let at = workflow_at(alloc, header, line, cluster, domain, workflow)?;
+            let at = workflow_at(names, header, line, cluster, domain, workflow)?;
             Ok(Act::Reset {
                 cluster: at.cluster,
                 domain: at.domain,
@@ -495,7 +494,7 @@ pub fn reset_line(
 /// The names of a line `beat`, and its workflow.
 #[tactic(auto, unfolding(crate::specs::Lines::beat_with))]
 fn beat_with(
-    alloc: Global,
+    names: &mut Interner,
     header: &Header,
     line: u64,
     cluster: &[u8],
@@ -507,9 +506,9 @@ fn beat_with(
     ensures answer { Gives Memory (λ act. act) result (beat_with header.now line cluster.now domain.now workflow.now id.now details.now) }
     ensures well_formed { IfOk result (IsWellFormedAct header.now) }
 {
-    let id = named(alloc, line, id)?;
-    let details = named(alloc, line, details)?;
-    let at = workflow_at(alloc, header, line, cluster, domain, workflow)?;
+    let id = named(names, line, id)?;
+    let details = named(names, line, details)?;
+    let at = workflow_at(names, header, line, cluster, domain, workflow)?;
     Ok(Act::Beat {
         cluster: at.cluster,
         domain: at.domain,
@@ -522,7 +521,7 @@ fn beat_with(
 /// `beat C D W ID DETAILS`, behind its first word.
 #[tactic(auto, unfolding(crate::specs::Lines::beat_line))]
 pub fn beat_line(
-    alloc: Global,
+    names: &mut Interner,
     header: &Header,
     line: u64,
     words: &[&[u8]],
@@ -532,7 +531,7 @@ pub fn beat_line(
 {
     match words {
         [cluster, domain, workflow, id, details] => {
-            beat_with(alloc, header, line, cluster, domain, workflow, id, details)
+            beat_with(names, header, line, cluster, domain, workflow, id, details)
         }
         _ => Err(bad(line)),
     }
@@ -541,7 +540,7 @@ pub fn beat_line(
 /// `progress C D W ID`, behind its first word.
 #[tactic(auto, unfolding(crate::specs::Lines::progress_line))]
 pub fn progress_line(
-    alloc: Global,
+    names: &mut Interner,
     header: &Header,
     line: u64,
     words: &[&[u8]],
@@ -551,8 +550,8 @@ pub fn progress_line(
 {
     match words {
         [cluster, domain, workflow, id] => {
-            let id = named(alloc, line, id)?;
-            let at = workflow_at(alloc, header, line, cluster, domain, workflow)?;
+            let id = named(names, line, id)?;
+            let at = workflow_at(names, header, line, cluster, domain, workflow)?;
             Ok(Act::ProgressOf {
                 cluster: at.cluster,
                 domain: at.domain,

@@ -9,7 +9,7 @@ ghost use Rattle.ndc_script_types.specs.WellFormed.{IsCluster, IsName, AreDays, 
 use ndc_domain::{ClusterNo, Members};
 use ndc_event::Name;
 use ndc_script_types::{Act, Header, ScriptError, clusters_below};
-use ndc_script_words::{bad, known, named, numbered};
+use ndc_script_words::{Interner, bad, known, named, numbered};
 use std::alloc::{AllocError, Global};
 use std::collections::BTreeSet;
 
@@ -114,7 +114,7 @@ fn register_with(
 /// `register C D ACTIVE DAYS CLUSTER ..`, behind its first word.
 #[tactic(auto, unfolding(crate::specs::Register::register_line))]
 pub fn register_line(
-    alloc: Global,
+    names: &mut Interner,
     header: &Header,
     line: u64,
     words: &[&[u8]],
@@ -123,13 +123,22 @@ pub fn register_line(
     ensures answer { Gives Memory (λ act. act) result (register_line header.now line (map (λ word. word.now) words.now)) }
 {
     match words {
-        [at, domain, target, days, names @ ..] => {
-            let domain = named(alloc, line, domain)?;
+        [at, domain, target, days, clusters @ ..] => {
+            let domain = named(names, line, domain)?;
             let days = numbered(line, 1, 1_000, days)?;
-            if !all_differ(alloc, names)? {
+            if !all_differ(names.alloc(), clusters)? {
                 return Err(bad(line));
             }
-            register_with(alloc, header, line, domain, days as u32, at, target, names)
+            register_with(
+                names.alloc(),
+                header,
+                line,
+                domain,
+                days as u32,
+                at,
+                target,
+                clusters,
+            )
         }
         _ => Err(bad(line)),
     }

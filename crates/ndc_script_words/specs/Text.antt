@@ -64,6 +64,10 @@ kept_from number (line ∷ lines) =
 abbrev pub kept_of : List ℕ → List KeptLine
 kept_of bytes = kept_from 1 (text_lines bytes)
 
+-- the number of the line behind those of a text whose first line has this number
+abbrev pub line_behind : ℕ → List ℕ → ℕ
+line_behind first bytes = first + length (text_lines bytes)
+
 -- the number of the line behind the last
 abbrev pub line_after : List ℕ → ℕ
 line_after bytes = length (text_lines bytes) + 1

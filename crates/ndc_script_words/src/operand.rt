@@ -7,11 +7,11 @@ ghost use Rattle.ndc_script_words.specs.Operands.{named, numbered, shard_of, pla
 ghost use Rattle.ndc_script_types.specs.WellFormed.{IsCluster, IsName, AreTwoClusters, IsWorkflowAt, IsPlace};
 
 use crate::header::within;
+use crate::interning::Interner;
 use crate::number::number_of;
 use ndc_domain::ClusterNo;
 use ndc_event::{Name, NameError};
 use ndc_script_types::{Header, ScriptCause, ScriptError};
-use std::alloc::Global;
 
 /// The greatest place, count or cut.
 pub const MAX_PLACE: u64 = 1_000_000;
@@ -42,11 +42,11 @@ pub fn bad(line: u64) -> ScriptError
 }
 
 /// The name that a word is.
-pub fn named(alloc: Global, line: u64, word: &[u8]) -> Result<Name, ScriptError>
+pub fn named(names: &mut Interner, line: u64, word: &[u8]) -> Result<Name, ScriptError>
     ensures answer { Gives Memory (λ name. name) result (named line word.now) }
     ensures well_formed { IfOk result IsName }
 {
-    match Name::new(alloc, word) {
+    match names.read(word) {
         Ok(name) => Ok(name),
         Err(NameError::Memory) => Err(ScriptError::Memory),
         Err(_) => Err(bad(line)),
@@ -140,7 +140,7 @@ pub fn two_clusters(
 /// The workflow at a cluster that three words name: a cluster, a domain, a workflow.
 #[tactic(auto, unfolding(crate::specs::Operands::workflow_at))]
 pub fn workflow_at(
-    alloc: Global,
+    names: &mut Interner,
     header: &Header,
     line: u64,
     cluster: &[u8],
@@ -150,8 +150,8 @@ pub fn workflow_at(
     ensures answer { Gives Memory (λ at. at) result (workflow_at header.now line cluster.now domain.now workflow.now) }
     ensures well_formed { IfOk result (λ at. IsWorkflowAt header.now at.cluster at.domain at.workflow) }
 {
-    let domain = named(alloc, line, domain)?;
-    let workflow = named(alloc, line, workflow)?;
+    let domain = named(names, line, domain)?;
+    let workflow = named(names, line, workflow)?;
     let cluster = known(header, line, cluster)?;
     Ok(WorkflowAt {
         cluster,

@@ -1,6 +1,6 @@
-ghost use Rattle.std.specs.Prelude.{◌≡◌, ◌<◌, length, map, IfOk, IfSome, IfNone, [], ◌∷◌};
+ghost use Rattle.std.specs.Prelude.{◌≡◌, ◌<◌, ◌≤◌, length, map, IfOk, IfSome, IfNone, [], ◌∷◌};
 ghost use Rattle.std.specs.List.{list_all};
-ghost use Rattle.ndc_script_words.specs.Text.{text_lines, line_len, words_of, is_line_byte, is_short, is_comment, is_skipped, kept_line, kept_of, line_after};
+ghost use Rattle.ndc_script_words.specs.Text.{text_lines, line_len, words_of, is_line_byte, is_short, is_comment, is_skipped, kept_line, kept_from, kept_of, line_behind, line_after};
 
 use std::alloc::{AllocError, Global};
 use std::marker::Model;
@@ -170,12 +170,16 @@ fn kept_line<'a>(
     }))
 }
 
-/// The lines that are not skipped, up to the limit and the first past it.
-pub fn kept_of<'a>(alloc: Global, bytes: &'a [u8]) -> Result<Vec<KeptLine<'a>>, AllocError>
-    ensures { IfOk result (λ kept. kept.items ≡ kept_of bytes.now) }
+/// The lines that are not skipped, where the first line has this number: up to the limit and the first past it.
+pub fn kept_from<'a>(
+    alloc: Global,
+    first: u64,
+    bytes: &'a [u8],
+) -> Result<Vec<KeptLine<'a>>, AllocError>
+    ensures { IfOk result (λ kept. kept.items ≡ kept_from first (text_lines bytes.now)) }
 {
     let mut kept = Vec::new(alloc);
-    let mut number = 1;
+    let mut number = first;
     let mut rest = bytes;
     while let Some((line, after)) = split_line(rest) {
         if number > MAX_LINES {
@@ -195,15 +199,37 @@ pub fn kept_of<'a>(alloc: Global, bytes: &'a [u8]) -> Result<Vec<KeptLine<'a>>, 
     Ok(kept)
 }
 
+/// The lines of a text that are not skipped, up to the limit and the first past it.
+pub fn kept_of<'a>(alloc: Global, bytes: &'a [u8]) -> Result<Vec<KeptLine<'a>>, AllocError>
+    ensures { IfOk result (λ kept. kept.items ≡ kept_of bytes.now) }
+{
+    kept_from(alloc, 1, bytes)
+}
+
+/// How many lines a text has.
+fn line_count(bytes: &[u8]) -> u64
+    ensures count { result ≡ length (text_lines bytes.now) }
+    ensures most { result ≤ length bytes.now }
+{
+    let mut count = 0;
+    let mut rest = bytes;
+    while let Some((_, after)) = split_line(rest) {
+        count += 1;
+        rest = after;
+    }
+    count
+}
+
+/// The number of the line behind the last, where the first line has this number.
+pub fn line_behind(first: u64, bytes: &[u8]) -> u64
+    ensures { first ≤ 100000 → result ≡ line_behind first bytes.now }
+{
+    first.saturating_add(line_count(bytes))
+}
+
 /// The number of the line behind the last.
 pub fn line_after(bytes: &[u8]) -> u64
     ensures { result ≡ line_after bytes.now }
 {
-    let mut number = 1;
-    let mut rest = bytes;
-    while let Some((_, after)) = split_line(rest) {
-        number += 1;
-        rest = after;
-    }
-    number
+    line_count(bytes) + 1
 }
