@@ -196,6 +196,20 @@ view-shown : (view v : View) (o : Option ℕ) → shown_or view o ≡ Ok v → v
 view-shown view v None e = cc
 view-shown view v (Some n) e = absurd (cc)
 
+-- batches that were read, and of which no cause holds, stand for a set that can be dumped
+pub set-found : (lines : List (List ℕ)) (heading : Heading) (body : List (List ℕ)) (batches : List Batch) → heading_of lines ≡ Ok heading → body_of lines ≡ Ok body → batches_on heading 2 None body ≡ Ok batches
+    → sound_or batches ≡ Ok tt → CanBeDumped heading.domain heading.workflow (standing_for heading.form batches)
+set-found lines heading body batches headed has reads sound =
+    let names = names-of lines heading headed in
+    let read = are-read heading 2 None body batches reads in
+    let found = standing heading.form heading.domain heading.workflow batches read (λ is. lines-bare heading 2 None body batches is reads) (record {
+      some = some-read heading 2 None body batches (body-lines lines body has) reads;
+      own = lines-own heading 2 None body batches reads;
+      range = read.range;
+      sound = read_is_sound batches read sound;
+    }) in
+    record { domain_name = names.domain; workflow_name = names.workflow; some = found.some; own = found.own; range = found.range; sound = found.sound }
+
 found-on : (lines : List (List ℕ)) (d : Dump) → dump_on lines ≡ Ok d → CanBeDumped d.domain d.workflow d.view.batches
 unfolding dump_on view_on
 found-on lines d e =
@@ -207,16 +221,8 @@ found-on lines d e =
     let last : dump_with one.0 five.0 ≡ d = cc in
     let view = view-shown (view_of (standing_for one.0.form three.0)) five.0 _ five.1 in
     let batches : standing_for one.0.form three.0 ≡ d.view.batches = sym (ap (λ (v : View). v.batches) view) ∙ ap (λ (x : Dump). x.view.batches) last in
-    let names = names-of lines one.0 one.1 in
-    let read = are-read one.0 2 None second.0 three.0 three.1 in
-    let found = standing one.0.form one.0.domain one.0.workflow three.0 read (λ is. lines-bare one.0 2 None second.0 three.0 is three.1) (record {
-      some = some-read one.0 2 None second.0 three.0 (body-lines lines second.0 second.1) three.1;
-      own = lines-own one.0 2 None second.0 three.0 three.1;
-      range = read.range;
-      sound = read_is_sound three.0 read (four.1 ∙ refl);
-    }) in
     subst (λ (x : Dump). CanBeDumped x.domain x.workflow d.view.batches) last
-    (subst (CanBeDumped one.0.domain one.0.workflow) batches (record { domain_name = names.domain; workflow_name = names.workflow; some = found.some; own = found.own; range = found.range; sound = found.sound }))
+    (subst (CanBeDumped one.0.domain one.0.workflow) batches (set-found lines one.0 second.0 three.0 one.1 second.1 three.1 (four.1 ∙ refl)))
 
 -- what is read, in whatever form, stands for a set that can be dumped
 pub can-be-dumped : (bytes : List ℕ) (d : Dump) → dump_of bytes ≡ Ok d → CanBeDumped d.domain d.workflow d.view.batches

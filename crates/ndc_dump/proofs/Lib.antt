@@ -15,3 +15,4 @@ pub mod Unbroken
 pub mod Printed
 pub mod Migration
 pub mod Dumped
+pub mod BareDumps

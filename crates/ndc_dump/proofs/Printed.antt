@@ -1,8 +1,9 @@
 -- What is printed of a sound set is read.
-use Rattle.std.proofs.Common.{◌≡◌, ℕ, ◌+◌, ◌≤◌, ◌<◌, ◌==◌, nat_le, Bool, true, false, not, ◌&&◌, List, [], ◌∷◌, ◌++◌, map, length, codes, Option, Some, None, Ok, if◌then◌else◌, cond, append_assoc, refl, ap, ◌∙◌, subst, arith, lit<}
+use Rattle.std.proofs.Common.{◌≡◌, ℕ, ◌+◌, ◌≤◌, ◌<◌, ◌==◌, nat_le, Bool, true, false, not, ◌&&◌, List, [], ◌∷◌, ◌++◌, map, length, codes, Option, Some, None, Ok, if◌then◌else◌, cond, append_assoc, refl, sym, ap, ◌∙◌, subst, arith, lit<}
 use Rattle.std.specs.List.{AllByRecursion, flat_map, list_all, onto_first, slice_split}
 use Rattle.std.specs.Str.{bytes_eq}
 use Rattle.std.proofs.lemmas.Bool.{and_from, and_parts, leb-true, ne_eqb}
+use Rattle.std.proofs.lemmas.List.{append-nil}
 use Rattle.std.proofs.lemmas.Slice.Eq.{bytes_eq-Decides}
 use Rattle.ndc_event.specs.Batch.{fault_of}
 use Rattle.ndc_event.specs.Key.{key_lt}
@@ -22,6 +23,7 @@ use Rattle.ndc_text.specs.declared.form.TextForm.TheVariants as form
 use Rattle.ndc_text.proofs.Exact.{text_again}
 use Rattle.ndc_dump_causes.specs.declared.error.LineCause.TheVariants as cause
 use Rattle.ndc_dump.specs.declared.frame.Heading.{Heading}
+use Rattle.ndc_dump.specs.Bare.{bare_dump_of, bare_dump_on, bare_text}
 use Rattle.ndc_dump.specs.Batches.{batch_on, batches_on, is_behind, is_own, is_same_as, out_of_order, view_lines}
 use Rattle.ndc_dump.specs.Frame.{begins_batch, begins_first, body_of, framed, heading_by, heading_in, heading_of, named}
 use Rattle.ndc_dump.specs.Lines.{differ_at, lines_of, onto_line, without_end}
@@ -220,4 +222,26 @@ module _ (domain workflow : Name) where
         is-causeless batches can.sound,
         view-again batches (lines_of (view_text (view_of batches))) none,
         view-same (2 + length batches) (view_of batches),
+      ) refl
+
+  -- ---- the batches alone
+
+  bare-lines : (batches : List Batch) → CanBeDumped domain workflow batches → lines_of (bare_text domain workflow batches) ≡ (heading_text own ++ 10 ∷ []) ∷ (map batch_line batches ++ [])
+  bare-lines batches can =
+      ap lines_of (append_assoc (heading_text own) (codes "\n") (flat_map batch_line batches))
+      ∙ lines-line (heading_text own) (flat_map batch_line batches) (heading-unbroken can.domain_name can.workflow_name)
+      ∙ ap (λ ls. (heading_text own ++ 10 ∷ []) ∷ lines_of ls) (sym (append-nil (flat_map batch_line batches)))
+      ∙ ap (λ ls. (heading_text own ++ 10 ∷ []) ∷ ls) (lines-again batches [] can.range)
+
+  pub bare-again : (batches : List Batch) → CanBeDumped domain workflow batches
+      → bare_dump_of (bare_text domain workflow batches) ≡ Ok (record { domain = domain; workflow = workflow; view = view_of batches })
+  unfolding bare_dump_of bare_dump_on
+  bare-again batches can =
+      rw (
+        bare-lines batches can,
+        heading-again (map batch_line batches ++ []) can.domain_name can.workflow_name,
+        body-again (heading_text own ++ 10 ∷ []) batches [] can.some,
+        batches-again 2 None batches [] (all-printed batches can) (λ key e. absurd (cc)) can.sound.set.ordered refl,
+        is-causeless batches can.sound,
+        view-again batches [] refl,
       ) refl

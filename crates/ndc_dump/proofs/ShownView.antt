@@ -12,7 +12,7 @@ use Rattle.ndc_dump.specs.Frame.{heading_of, body_of}
 use Rattle.ndc_dump.specs.Read.{dump_on, dump_with, shown_or, view_on}
 use Rattle.ndc_dump_causes.proofs.NoCause.{went}
 
-shown : (view v : View) (o : Option ℕ) → shown_or view o ≡ Ok v → v ≡ view
+pub shown : (view v : View) (o : Option ℕ) → shown_or view o ≡ Ok v → v ≡ view
 shown view v None e = cc
 shown view v (Some n) e = absurd (cc)
 

@@ -42,15 +42,16 @@ behind-batches f xs n e = map-dropped f xs n ∙ ap (λ k. drop k (map f xs)) e 
 pub few-batches : {X : Type 0} (f : X → List ℕ) (xs : List X) (n : ℕ) → n ≡ batch_count (map f xs) → n ≤ length xs
 few-batches f xs n e = let within : batch_count (map f xs) ≤ length (map f xs) = count-within (map f xs) in omega (arith, e, within, length-map xs f)
 
-one-too-many : (number : ℕ) (lines : List (List ℕ)) → 0 < length lines → differ_at number lines [] ≡ Some number
-one-too-many number [] some = absurd (omega (arith, some))
-one-too-many number (line ∷ lines) some = refl
+-- where nothing is wanted, the first line is one too many
+pub first-too-many : {X : Type 0} (f : X → List ℕ) (number : ℕ) (xs : List X) → 1 ≤ length xs → differ_at number (map f xs) [] ≡ Some number
+first-too-many f number [] some = absurd (omega (arith, some))
+first-too-many f number (x ∷ xs) some = refl
 
 -- where nothing is wanted any more, a line is one too many
 pub too-many : {X : Type 0} (f : X → List ℕ) (number : ℕ) (xs ys : List X) (i : ℕ) (all : Option ℕ) → i < length xs → length ys < 1 → differ_at number (map f (drop i xs)) (map f ys) ≡ all → Some number ≡ all
 too-many f number xs [] i all below none e =
-    let some : 0 < length (map f (drop i xs)) = omega (arith, length-map (drop i xs) f, length-drop i xs, below) in
-    sym (one-too-many number (map f (drop i xs)) some) ∙ e
+    let some : 1 ≤ length (drop i xs) = omega (arith, length-drop i xs, below) in
+    sym (first-too-many f number (drop i xs) some) ∙ e
 too-many f number xs (y ∷ ys) i all below none e = absurd (omega (arith, none))
 
 -- ---- what is shown

@@ -3,6 +3,7 @@ pub mod Frame
 pub mod Batches
 pub mod Migrated
 pub mod Read
+pub mod Bare
 pub mod Groups
 pub mod Marks
 pub mod Printed

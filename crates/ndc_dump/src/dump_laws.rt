@@ -10,6 +10,7 @@ ghost use Rattle.ndc_text.specs.Views.{dump_text};
 ghost use Rattle.ndc_text.specs.declared.form.TextForm.TheVariants.{Two};
 ghost use Rattle.ndc_dump.specs.declared.dump.Dump.{Dump as Read};
 ghost use Rattle.ndc_dump_causes.specs.Causes.{sound_or};
+ghost use Rattle.ndc_dump.specs.Bare.{bare_dump_of, bare_text};
 ghost use Rattle.ndc_dump.specs.Frame.{IsHeaded};
 ghost use Rattle.ndc_dump_causes.specs.Given.{AreRead};
 ghost use Rattle.ndc_dump.specs.Lines.{lines_of};
@@ -44,4 +45,17 @@ pub fn what_is_read_can_be_printed()
 pub fn only_what_is_printed_is_read()
     ensures { (bytes : List ℕ) (dump : Read) → IsHeaded Two (lines_of bytes) → dump_of bytes ≡ Ok dump
         → bytes ≡ dump_text dump.domain dump.workflow (view_of dump.view.batches) }
+{}
+
+/// The heading and the batches of a sound set that is not empty, whose batches are of the domain and workflow and in
+/// range, are read as the dump of that set.
+pub fn bare_batches_are_read()
+    ensures { (domain workflow : Name) (batches : List Batch) → CanBeDumped domain workflow batches
+        → bare_dump_of (bare_text domain workflow batches) ≡ Ok (record { domain = domain; workflow = workflow; view = view_of batches }) }
+{}
+
+/// Bytes that are read as a dump of batches alone stand for such a set, and what is printed of it is read as the same dump.
+pub fn what_is_read_bare_can_be_printed()
+    ensures set { (bytes : List ℕ) (dump : Read) → bare_dump_of bytes ≡ Ok dump → CanBeDumped dump.domain dump.workflow dump.view.batches }
+    ensures again { (bytes : List ℕ) (dump : Read) → bare_dump_of bytes ≡ Ok dump → dump_of (dump_text dump.domain dump.workflow dump.view) ≡ Ok dump }
 {}

@@ -1,6 +1,7 @@
 //! Dumps: what a cluster shows of a workflow, read back exactly, and its tree.
 #![tactic(auto)]
 
+mod bare;
 mod batches;
 mod cut;
 mod dump;
@@ -14,6 +15,7 @@ mod showing;
 mod tree;
 pub mod worked_dumps;
 
+pub use bare::read_bare_dump;
 pub use dump::Dump;
 pub use ndc_dump_causes::{DumpError, KeyCause, LineCause};
 pub use ndc_dump_show::dump_text;

@@ -40,7 +40,7 @@ fn batch_count(lines: &[&[u8]]) -> usize
 }
 
 /// The lines behind those of batches.
-fn view_lines<'l, 'b>(lines: &'l [&'b [u8]]) -> &'l [&'b [u8]]
+pub(crate) fn view_lines<'l, 'b>(lines: &'l [&'b [u8]]) -> &'l [&'b [u8]]
     ensures lines { map (λ line. line.now) result.now ≡ view_lines (map (λ line. line.now) lines.now) }
     ensures count { length result.now ≤ length lines.now }
 {
