@@ -27,6 +27,13 @@ pub fn is_addressed(table: &DomainTable, reader: ClusterNo, sent: &Message) -> b
     is_named(table, &sent.batch.domain, reader)
 }
 
+/// Takes the messages out that are not addressed to a reader. Takes no memory.
+pub(crate) fn keep_addressed(messages: &mut Vec<Message>, table: &DomainTable, reader: ClusterNo)
+    ensures { messages.new.items ≡ filter (is_addressed reader table.now) messages.old.items }
+{
+    messages.retain(|sent| is_addressed(table, reader, sent));
+}
+
 /// Copies of the messages that are addressed to a reader, in order.
 pub(crate) fn addressed(
     alloc: Global,

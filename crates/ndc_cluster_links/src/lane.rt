@@ -1,4 +1,4 @@
-ghost use Rattle.std.specs.Prelude.{◌≡◌, ◌≤◌, ◌+◌, ◌-◌, ◌^◌, drop, length, List};
+ghost use Rattle.std.specs.Prelude.{◌≡◌, ◌≤◌, ◌+◌, ◌-◌, ◌^◌, drop, length, List, IfOk};
 ghost use Rattle.std.specs.List.{prefix_len};
 ghost use Rattle.ndc_model.specs.Queues.{needs_nothing};
 ghost use Rattle.ndc_model_cells.specs.declared.message.Message.{Message as Sent};
@@ -6,7 +6,7 @@ ghost use Rattle.ndc_cluster_links.specs.Rest.{IsRestOf};
 ghost use Rattle.ndc_queue.specs.Lists.{entries_from};
 ghost use Rattle.ndc_queue.specs.Queues.{queue_len};
 
-use crate::addressed::{addressed, settled_front};
+use crate::addressed::{addressed, keep_addressed, settled_front};
 use ndc_cluster_rounds::Cell;
 use ndc_domain::{ClusterNo, DomainTable};
 use ndc_model_cells::Message;
@@ -34,19 +34,26 @@ impl Model for Lane {
     ghost invariant = { λ lane. lane.levels.read ≤ 10 ^ 12 };
 }
 
-/// The kept entries of a queue from a level on: all of them, or at most so many.
-fn entries_of(queue: &Queue, level: u64, count: Option<u64>) -> &[Message]
+/// Copies of the kept entries of a queue from a level on: all of them, or at most so many.
+fn taken(queue: &Queue, level: u64, count: Option<u64>) -> Result<Vec<Message>, AllocError>
     requires first { queue.now.first ≤ level }
     requires last { level ≤ queue_len queue.now }
-    ensures entries { result.now ≡ entries_from count (level - queue.now.first) queue.now.kept }
+    ensures entries { IfOk result (λ taken. taken.items ≡ entries_from count (level - queue.now.first) queue.now.kept) }
+    ensures most { IfOk result (λ taken. level + length taken.items ≤ 10 ^ 12) }
+{
+    let len = queue.len();
+    queue.after(level, count.unwrap_or(len))
+}
+
+/// The kept entries of a queue from a level on.
+fn entries_of(queue: &Queue, level: u64) -> &[Message]
+    requires first { queue.now.first ≤ level }
+    requires last { level ≤ queue_len queue.now }
+    ensures entries { result.now ≡ drop (level - queue.now.first) queue.now.kept }
     ensures most { level + length result.now ≤ 10 ^ 12 }
 {
     let _most = queue.len();
-    let entries = &queue.kept()[(level - queue.first()) as usize..];
-    match count {
-        Some(count) if count < entries.len() as u64 => &entries[..count as usize],
-        _ => entries,
-    }
+    &queue.kept()[(level - queue.first()) as usize..]
 }
 
 /// How many of a queue's entries from a level on there are for which nothing is to be done. Where the level is its end, no
@@ -66,7 +73,7 @@ fn settled_from<C: Cell>(
     if level == queue.len() {
         return 0;
     }
-    settled_front(table, reader, cell, entries_of(queue, level, None))
+    settled_front(table, reader, cell, entries_of(queue, level))
 }
 
 impl Lane {
@@ -109,7 +116,6 @@ impl Lane {
     /// not lie behind this. Where memory runs out, the lane stays as it was.
     pub fn pull(
         &mut self,
-        alloc: Global,
         table: &DomainTable,
         reader: ClusterNo,
         count: Option<u64>,
@@ -123,12 +129,13 @@ impl Lane {
         ensures done { self.new.levels.done ≡ self.old.levels.done }
         ensures unchanged { OnErr result (self.new ≡ self.old) }
     {
-        let entries = entries_of(queue, self.levels.read, count);
-        let sent = addressed(alloc, table, reader, entries)?;
+        let mut sent = taken(queue, self.levels.read, count)?;
+        let read = self.levels.read + sent.len() as u64;
+        keep_addressed(&mut sent, table, reader);
         let added = sent.len() as u64;
         self.flight.put(sent)?;
         self.levels = Levels {
-            read: self.levels.read + entries.len() as u64,
+            read,
             done: self.levels.done,
         };
         Ok(added)
@@ -171,7 +178,7 @@ impl Lane {
         requires last { self.now.levels.done ≤ queue_len queue.now }
         ensures { IfOk result (λ list. (whole : List Sent) → IsRestOf queue.now whole → list.items ≡ filter (is_addressed reader table.now) (drop self.now.levels.done whole)) }
     {
-        let entries = entries_of(queue, self.levels.done, None);
+        let entries = entries_of(queue, self.levels.done);
         let list = addressed(alloc, table, reader, entries)?;
         Ok(list)
     }

@@ -45,7 +45,6 @@ impl Model for Link {
 
 /// Pulls all entries for each shard, and counts what is put in flight.
 fn pull_lanes(
-    alloc: Global,
     lanes: &mut Vec<Lane>,
     table: &DomainTable,
     reader: ClusterNo,
@@ -64,7 +63,7 @@ fn pull_lanes(
     let mut count = 0;
     for shard in 0..lanes.len() {
         let lane = &mut lanes[shard];
-        count += lane.pull(alloc, table, reader, None, &queues[shard])?;
+        count += lane.pull(table, reader, None, &queues[shard])?;
     }
     Ok(count)
 }
@@ -242,12 +241,7 @@ impl Link {
     /// Takes all entries of each shard's queue from `read` on; those that are addressed to the reader go last in flight,
     /// and are counted. There is a queue for each shard, and what is kept of it reaches from the lane's `done` or before
     /// it to its end. After want of memory some shards were pulled.
-    pub fn pull(
-        &mut self,
-        alloc: Global,
-        table: &DomainTable,
-        queues: &Queues,
-    ) -> Result<u64, AllocError>
+    pub fn pull(&mut self, table: &DomainTable, queues: &Queues) -> Result<u64, AllocError>
         requires alike { length queues.now ≡ length self.old.lanes }
         requires within { AreWithin queues.now self.old.lanes }
         ensures pulled { OnOk result ((whole : ℕ → List Sent) → AreRests queues.now whole
@@ -257,14 +251,13 @@ impl Link {
     {
         let queues = queues.as_slice();
         self.quiet = false;
-        let count = pull_lanes(alloc, &mut self.lanes, table, self.reader, queues)?;
+        let count = pull_lanes(&mut self.lanes, table, self.reader, queues)?;
         Ok(count)
     }
 
     /// The same for one shard, at most so many entries. Where memory runs out, the link stays as it was.
     pub fn pull_some(
         &mut self,
-        alloc: Global,
         table: &DomainTable,
         shard: usize,
         count: u64,
@@ -281,7 +274,7 @@ impl Link {
         let reader = self.reader;
         self.quiet = false;
         let lane = &mut self.lanes[shard];
-        let sent = lane.pull(alloc, table, reader, Some(count), queue)?;
+        let sent = lane.pull(table, reader, Some(count), queue)?;
         Ok(sent)
     }
 

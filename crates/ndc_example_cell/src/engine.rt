@@ -28,6 +28,29 @@ pub(crate) struct Shared<'a> {
     pub most: u64,
 }
 
+impl<'a> Shared<'a> {
+    ghost use Rattle.std.specs.Prelude.{◌≡◌};
+
+    /// The workflow as two clusters share it, seen from the first one.
+    pub(crate) fn new(
+        domain: &'a Name,
+        workflow: &'a Name,
+        me: ClusterNo,
+        them: ClusterNo,
+        most: u64,
+    ) -> Shared<'a>
+        ensures { result ≡ record { domain = domain.entry; workflow = workflow.entry; me = me; them = them; most = most } }
+    {
+        Shared {
+            domain,
+            workflow,
+            me,
+            them,
+            most,
+        }
+    }
+}
+
 /// A cell writes what a command asks for, or refuses it.
 pub(crate) fn write<L>(
     mine: &mut Shard,

@@ -3,15 +3,19 @@
 #![tactic(auto)]
 
 mod engine;
+mod error;
 mod story;
 
 use crate::story::play;
 use std::process::ExitCode;
 
 fn main(rt: HostRuntime) -> ExitCode {
-    let Ok(lines) = play(rt.alloc()) else {
-        let _told = eprintln!(&rt; "out of memory");
-        return ExitCode::from(8);
+    let lines = match play(rt.alloc()) {
+        Ok(lines) => lines,
+        Err(error) => {
+            let _told = eprintln!(&rt; "{error}");
+            return ExitCode::from(8);
+        }
     };
     for line in lines {
         if println!(&rt; "{line}").is_err() {

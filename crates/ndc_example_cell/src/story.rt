@@ -5,6 +5,7 @@ ghost use Rattle.ndc_domain.specs.Clusters.{count_of};
 ghost use Rattle.ndc_example_cell.specs.Shared.{AreShared};
 
 use crate::engine::{GROWTH, LIMIT, Shared, begin, reapply, remake, repair, tell, write};
+use crate::error::StoryError;
 use ndc_command::{Command, Refusal};
 use ndc_domain::{ClusterNo, Clusters, DomainTable, Members};
 use ndc_event::{Batch, BatchKey, Name};
@@ -20,14 +21,14 @@ const B: ClusterNo = ClusterNo { number: 1 };
 struct Story;
 
 /// A name.
-fn name(alloc: Global, text: &str) -> Result<Name, AllocError>
+fn name(alloc: Global, text: &str) -> Result<Name, StoryError>
     ensures { IfOk result (λ name. name ≡ text.now) }
 {
-    Name::new(alloc, text.as_bytes()).map_err(|_| AllocError)
+    Ok(Name::new(alloc, text.as_bytes())?)
 }
 
 /// The clusters, A and B.
-fn clusters(alloc: Global) -> Result<Clusters, AllocError>
+fn clusters(alloc: Global) -> Result<Clusters, StoryError>
     ensures { IfOk result (λ clusters. 2 ≤ count_of clusters) }
 {
     let mut members = Vec::new(alloc);
@@ -40,15 +41,13 @@ fn clusters(alloc: Global) -> Result<Clusters, AllocError>
 }
 
 /// Records of a domain that A writes to and both are members of.
-fn records(alloc: Global, clusters: &Clusters, domain: &Name) -> Result<DomainTable, AllocError>
+fn records(alloc: Global, clusters: &Clusters, domain: &Name) -> Result<DomainTable, StoryError>
     requires { 2 ≤ count_of clusters.now }
 {
     let mut table = DomainTable::new(alloc);
     let members = Members::of(&[A, B]);
-    match table.register(clusters, A, domain, A, 7, members) {
-        Ok(_) => Ok(table),
-        Err(_) => Err(AllocError),
-    }
+    table.register(clusters, A, domain, A, 7, members)?;
+    Ok(table)
 }
 
 /// The records as B has them, where the domain fails over to it.
@@ -56,16 +55,14 @@ fn moved(
     clusters: &Clusters,
     domain: &Name,
     records: &DomainTable,
-) -> Result<DomainTable, AllocError> {
+) -> Result<DomainTable, StoryError> {
     let mut table = records.try_copy()?;
-    match table.failover(clusters, domain, B) {
-        Ok(_) => Ok(table),
-        Err(_) => Err(AllocError),
-    }
+    table.failover(clusters, domain, B)?;
+    Ok(table)
 }
 
 /// A signal.
-fn signal(alloc: Global, text: &str) -> Result<Command, AllocError> {
+fn signal(alloc: Global, text: &str) -> Result<Command, StoryError> {
     Ok(Command::Signal {
         name: name(alloc, text)?,
         input: name(alloc, "now")?,
@@ -162,35 +159,23 @@ fn start_and_signal(
     workflow: &Name,
     table: &DomainTable,
     lines: &mut Vec<String>,
-) -> Result<(Shard, Shard), AllocError>
+) -> Result<(Shard, Shard), StoryError>
     requires home { here.now.me ≡ record { number = 0 } }
     requires limit { here.now.limit ≡ 100 }
     ensures { IfOk result (λ pair. AreShared here.now.clusters (record { number = 0 }) (record { number = 1 }) 208 domain.now workflow.now pair.0 pair.1) }
 {
-    let shared = Shared {
-        domain,
-        workflow,
-        me: A,
-        them: B,
-        most: 0,
-    };
-    let (mut one, two) = begin(alloc, here, there, &shared)?;
+    let both = Shared::new(domain, workflow, A, B, 0);
+    let (mut one, two) = begin(alloc, here, there, &both)?;
     let start = Command::Start {
         workflow_type: name(alloc, "order")?,
     };
     write_told(
-        alloc, &mut one, &two, &shared, here, table, &start, "A", lines,
+        alloc, &mut one, &two, &both, here, table, &start, "A", lines,
     )?;
-    let shared = Shared {
-        domain,
-        workflow,
-        me: A,
-        them: B,
-        most: GROWTH,
-    };
+    let both = Shared::new(domain, workflow, A, B, GROWTH);
     let first = signal(alloc, "first")?;
     write_told(
-        alloc, &mut one, &two, &shared, here, table, &first, "A", lines,
+        alloc, &mut one, &two, &both, here, table, &first, "A", lines,
     )?;
     Ok((one, two))
 }
@@ -209,20 +194,14 @@ fn lose_and_serve(
     ensures { OnOk result (AreShared clusters.now (record { number = 1 }) (record { number = 0 }) 208 domain.now workflow.now two.new one.now) }
 {
     let mut steps: Steps<Story> = Steps::new();
-    let shared = Shared {
-        domain,
-        workflow,
-        me: A,
-        them: B,
-        most: 2 * GROWTH,
-    };
+    let both = Shared::new(domain, workflow, A, B, 2 * GROWTH);
     let key = BatchKey {
         version: 1,
         task: 2,
     };
-    let arrived = tell(one, two, &shared, clusters, key, &mut steps)?;
+    let arrived = tell(one, two, &both, clusters, key, &mut steps)?;
     lines.push(arrived_line(alloc, "B", &arrived)?)?;
-    let gaps = repair(one, two, &shared, clusters, &mut steps)?;
+    let gaps = repair(one, two, &both, clusters, &mut steps)?;
     lines.push(format!(in alloc; "B is served for {gaps} gap")?)?;
     let alike = are_alike(one, two, domain, workflow)?;
     lines.push(format!(in alloc; "alike: {alike}")?)?;
@@ -240,28 +219,16 @@ fn fail_over(
     table: &DomainTable,
     moved: &DomainTable,
     lines: &mut Vec<String>,
-) -> Result<(), AllocError>
+) -> Result<(), StoryError>
     requires shared { AreShared home.now.clusters (record { number = 1 }) (record { number = 0 }) 208 domain.now workflow.now two.old one.now }
     requires home { home.now.me ≡ record { number = 1 } }
     requires limit { home.now.limit ≡ 100 }
     ensures { OnOk result (AreShared home.now.clusters (record { number = 0 }) (record { number = 1 }) 416 domain.now workflow.now one.now two.new) }
 {
-    let before = Shared {
-        domain,
-        workflow,
-        me: B,
-        them: A,
-        most: 2 * GROWTH,
-    };
+    let before = Shared::new(domain, workflow, B, A, 2 * GROWTH);
     let second = signal(alloc, "second")?;
     write_told(alloc, two, one, &before, home, table, &second, "B", lines)?;
-    let before = Shared {
-        domain,
-        workflow,
-        me: B,
-        them: A,
-        most: 3 * GROWTH,
-    };
+    let before = Shared::new(domain, workflow, B, A, 3 * GROWTH);
     let third = signal(alloc, "third")?;
     write_told(alloc, two, one, &before, home, moved, &third, "B", lines)?;
     Ok(())
@@ -277,21 +244,15 @@ fn signal_too(
     workflow: &Name,
     table: &DomainTable,
     lines: &mut Vec<String>,
-) -> Result<(), AllocError>
+) -> Result<(), StoryError>
     requires shared { AreShared home.now.clusters (record { number = 0 }) (record { number = 1 }) 416 domain.now workflow.now one.old two.now }
     requires home { home.now.me ≡ record { number = 0 } }
     requires limit { home.now.limit ≡ 100 }
     ensures { OnOk result (AreShared home.now.clusters (record { number = 0 }) (record { number = 1 }) 520 domain.now workflow.now one.new two.now) }
 {
-    let shared = Shared {
-        domain,
-        workflow,
-        me: A,
-        them: B,
-        most: 4 * GROWTH,
-    };
+    let both = Shared::new(domain, workflow, A, B, 4 * GROWTH);
     let fourth = signal(alloc, "fourth")?;
-    write_told(alloc, one, two, &shared, home, table, &fourth, "A", lines)?;
+    write_told(alloc, one, two, &both, home, table, &fourth, "A", lines)?;
     Ok(())
 }
 
@@ -309,18 +270,8 @@ fn tell_each_other(
     ensures { OnOk result (AreShared clusters.now (record { number = 1 }) (record { number = 0 }) 520 domain.now workflow.now two.new one.new) }
 {
     let mut steps: Steps<Story> = Steps::new();
-    let there = Shared {
-        domain,
-        workflow,
-        me: A,
-        them: B,
-        most: 5 * GROWTH,
-    };
-    let back = Shared {
-        me: B,
-        them: A,
-        ..there
-    };
+    let there = Shared::new(domain, workflow, A, B, 5 * GROWTH);
+    let back = Shared::new(domain, workflow, B, A, 5 * GROWTH);
     let key = BatchKey {
         version: 1,
         task: 3,
@@ -354,24 +305,18 @@ fn make_anew(
     requires limit { home.now.limit ≡ 100 }
 {
     let mut steps: Steps<Story> = Steps::new();
-    let shared = Shared {
-        domain,
-        workflow,
-        me: B,
-        them: A,
-        most: 5 * GROWTH,
-    };
-    let copy = remake(alloc, two, one, &shared, home, &mut steps)?;
+    let both = Shared::new(domain, workflow, B, A, 5 * GROWTH);
+    let copy = remake(alloc, two, one, &both, home, &mut steps)?;
     let alike = are_alike(one, &copy, domain, workflow)?;
     lines.push(format!(in alloc; "made anew: {alike}")?)?;
-    let count = reapply(two, one, &shared, home, table, &mut steps)?;
+    let count = reapply(two, one, &both, home, table, &mut steps)?;
     lines.push(format!(in alloc; "B applies again: {count} batch")?)?;
     Ok(())
 }
 
 /// Two cells write, tell each other in another order than they wrote, lose a message and are served for it; one is made
 /// anew, and signals of a branch that lost are applied again. Gives the lines that tell of it.
-pub(crate) fn play(alloc: Global) -> Result<Vec<String>, AllocError> {
+pub(crate) fn play(alloc: Global) -> Result<Vec<String>, StoryError> {
     let mut lines = Vec::new(alloc);
     let clusters = clusters(alloc)?;
     let domain = &name(alloc, "alpha")?;

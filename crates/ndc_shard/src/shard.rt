@@ -8,7 +8,7 @@ use ndc_shard_entries::{
     Entry, command_entry, reapplication_entry, reset_entries, unless_behind, writes_to,
 };
 use ndc_shard_runs::Runs;
-use ndc_shard_workflows::{Arrival, Workflows, message_there};
+use ndc_shard_workflows::{Arrival, Workflows};
 use ndc_state::Steps;
 use std::alloc::{AllocError, Global};
 use std::marker::Model;
@@ -112,13 +112,7 @@ impl Shard {
         ensures { IfOk result (λ sent. slice_get self.now.written place ≡ Some sent) }
     {
         let at = &self.places[place];
-        let found = message_there(
-            self.alloc,
-            &self.workflows,
-            &at.domain,
-            &at.workflow,
-            at.key,
-        )?;
+        let found = self.message(&at.domain, &at.workflow, at.key)?;
         match found {
             Some(message) => Ok(message),
             None => unreachable!(),

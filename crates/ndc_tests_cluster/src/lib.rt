@@ -1,4 +1,4 @@
-//! Tests of links, clusters, the network, answers and dumps: each call that takes memory, and faults.
+//! Tests of links, clusters, the replication, answers and dumps: each call that takes memory, and faults.
 #![tactic(auto)]
 
 #[cfg(test)]
@@ -12,4 +12,4 @@ mod given;
 #[cfg(test)]
 mod links;
 #[cfg(test)]
-mod network;
+mod replication;

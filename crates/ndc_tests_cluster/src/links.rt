@@ -11,17 +11,12 @@ const A: ClusterNo = ClusterNo { number: 0 };
 const B: ClusterNo = ClusterNo { number: 1 };
 
 /// The entries of a queue that stand for a pull, where the lane's levels lie in it.
-fn pull(
-    lane: &mut Lane,
-    alloc: Global,
-    table: &DomainTable,
-    queue: &Queue,
-) -> Result<Option<u64>, AllocError> {
+fn pull(lane: &mut Lane, table: &DomainTable, queue: &Queue) -> Result<Option<u64>, AllocError> {
     let read = lane.levels().read;
     if read < queue.first() || queue.len() < read {
         return Ok(None);
     }
-    Ok(Some(lane.pull(alloc, table, B, None, queue)?))
+    Ok(Some(lane.pull(table, B, None, queue)?))
 }
 
 /// How many messages are taken from a lane that pulled one and repeated it.
@@ -29,7 +24,7 @@ fn taken(alloc: Global, table: &DomainTable) -> Result<Option<usize>, AllocError
     let mut queue = Queue::new(alloc);
     queue.push(message(alloc)?)?;
     let mut lane = Lane::new(alloc);
-    let pulled = pull(&mut lane, alloc, table, &queue)?;
+    let pulled = pull(&mut lane, table, &queue)?;
     if pulled != Some(1) || lane.repeat(0).is_err() {
         return Ok(None);
     }

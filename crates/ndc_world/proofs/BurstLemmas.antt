@@ -24,7 +24,7 @@ use Rattle.ndc_model.specs.Moves.{jobs_done, notes_of}
 use Rattle.ndc_model.specs.Steps.{command_step, outcome_answer, seen_at, seen_of}
 use Rattle.ndc_model.specs.World.{Cluster, World, cell_at, cluster_at, home_at, new_cluster}
 use Rattle.ndc_model.proofs.WorldLemmas.{same-cells}
-use Rattle.ndc_world_network.proofs.ShardLemmas.{cells_there}
+use Rattle.ndc_world_replication.proofs.ShardLemmas.{cells_there}
 use Rattle.ndc_world.specs.Bursts.{burst_text}
 use Rattle.ndc_world.specs.Counts.{one_if, refusals, refused_in}
 

@@ -18,8 +18,8 @@ use Rattle.ndc_model.specs.Fair.{AreMembersKnown, IsRecordInRange}
 use Rattle.ndc_model.specs.World.{World, cluster_at}
 use Rattle.ndc_model.proofs.ListLemmas.{all-weaker}
 use Rattle.ndc_world_steps.specs.Links.{IsBetween}
-use Rattle.ndc_world_network.specs.Orderly.{IsOrderly}
-use Rattle.ndc_world_network.proofs.OrderlyLemmas.{orderly_fair}
+use Rattle.ndc_world_replication.specs.Orderly.{IsOrderly}
+use Rattle.ndc_world_replication.proofs.OrderlyLemmas.{orderly_fair}
 
 -- what holds of all records holds of the one that is found
 found-record : (P : DomainRecord → Type 0) (table : List DomainRecord) (name : Name) → AllByRecursion P table → IfSome (record_of table name) P

@@ -26,7 +26,7 @@ use Rattle.ndc_model.specs.World.{World}
 use Rattle.ndc_model.specs.Conditions.{MayDoAll, MaySettle}
 use Rattle.ndc_model_cells.specs.Conditions.{Condition}
 use Rattle.ndc_model_cells.specs.Allowed.{IsAllowed}
-use Rattle.ndc_world_steps.specs.Told.{Told, leaving}
+use Rattle.ndc_world_steps.specs.Told.{AnswerValue, leaving}
 use Rattle.ndc_world.specs.Bursts.{burst_text}
 use Rattle.ndc_world.specs.Counts.{one_if, refusals}
 use Rattle.ndc_world.specs.Running.{HaveRun}
@@ -62,10 +62,10 @@ module _ (header : Header) (lines : ℕ) (w : World) (well : IsWellFormedHeader 
     }
 
 -- a line that stands for itself is run
-pub one_run : (header : Header) (w : World) (number : ℕ) (asked : Act) (v : World) (step : Told) (told : List ℕ) (shown : List Seen) (count : ℕ) → lines_of_act number asked ≡ record { number = number; act = asked } ∷ []
-    → leaving v step ≡ act_step header asked w → told ≡ decimal number ++ codes " " ++ step.answer → shown ≡ step.seen → count ≡ one_if (is_refusal step.answer)
+pub one_run : (header : Header) (w : World) (number : ℕ) (asked : Act) (v : World) (answer : AnswerValue) (told : List ℕ) (shown : List Seen) (count : ℕ) → lines_of_act number asked ≡ record { number = number; act = asked } ∷ []
+    → leaving v answer ≡ act_step header asked w → told ≡ decimal number ++ codes " " ++ answer.text → shown ≡ answer.seen → count ≡ one_if (is_refusal answer.text)
     → HaveRun (ran_from header w (lines_of_act number asked)) w v told shown count
-one_run header w number asked v step told shown count one left text same counted =
+one_run header w number asked v answer told shown count one left text same counted =
     subst (λ (ls : List Line). HaveRun (ran_from header w ls) w v told shown count) (sym one) (record {
       world = ap (λ (s : Stepped). s.world) left;
       answers = text ∙ ap (λ (s : Stepped). decimal number ++ codes " " ++ s.answer) left ∙ sym (append-nil (decimal number ++ codes " " ++ (act_step header asked w).answer));

@@ -66,7 +66,7 @@ pub behind_report : (header : Header) (number : ℕ) (line : Act) (w v : World) 
     → IsBehind header (record { number = number; act = line }) w v reports told shown count
 behind_report header number line w v reports answer told seen shown count on left text same counted =
     let one : lines_of_act number line ≡ record { number = number; act = line } ∷ [] = one-line number line on in
-    let run = one_run header w number line (act_step header line w).world (record { answer = (act_step header line w).answer; seen = (act_step header line w).seen }) told shown count one refl
+    let run = one_run header w number line (act_step header line w).world (record { text = (act_step header line w).answer; seen = (act_step header line w).seen }) told shown count one refl
     (text ∙ ap (λ (a : List ℕ). decimal number ++ codes " " ++ a) left.answer) (same ∙ left.seen) (counted ∙ ap (λ (a : List ℕ). one_if (is_refusal a)) left.answer) in
     record {
       stands = subst (StandFor v reports) run.world left.stands;

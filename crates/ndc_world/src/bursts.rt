@@ -12,14 +12,14 @@ ghost use Rattle.ndc_model.specs.Conditions.{MayDoAll};
 ghost use Rattle.ndc_world.specs.Bursts.{burst_text};
 ghost use Rattle.ndc_world.specs.Counts.{refusals};
 
-use crate::answer::Answer;
 use ndc_cluster_reads::Reads;
 use ndc_domain::ClusterNo;
 use ndc_model_cells::{Job, JobReply, Outcome, ShardJob, shard_of};
 use ndc_port::Gate;
 use ndc_script_types::{BurstJob, Header};
 use ndc_world_answers::{add_seen, behind_number, outcome};
-use ndc_world_network::Network;
+use ndc_world_replication::Replication;
+use ndc_world_steps::Answer;
 use std::alloc::{AllocError, Global};
 use std::thread::Threads;
 
@@ -97,7 +97,7 @@ fn refusals(replies: &[JobReply]) -> u64
 /// The commands of a burst are done side by side, and their answers are given together, each behind its number;
 /// and how many of these are refusals.
 pub(crate) fn burst<R: Threads + Sync, G: Gate, C: Reads + Drop + Send>(
-    network: &mut Network<C>,
+    replication: &mut Replication<C>,
     rt: &R,
     alloc: Global,
     gate: &G,
@@ -109,16 +109,16 @@ pub(crate) fn burst<R: Threads + Sync, G: Gate, C: Reads + Drop + Send>(
     requires workers { 0 < workers }
     requires cluster { IsCluster header.now cluster }
     requires shards { 0 < header.now.shards }
-    requires shaped { IsShaped header.now network.old }
-    requires allowed { MayDoAll C.allows header.now cluster (burst_jobs header.now burst.now) network.old }
-    ensures world { OnOk result (network.new ≡ with_cells cluster (cells_after (home_at header.now cluster network.old) (burst_jobs header.now burst.now) (cluster_at cluster network.old).cells) network.old) }
-    ensures answer { IfOk result (λ told. told.0.text.items ≡ burst_text burst.now (replies_to (home_at header.now cluster network.old) (burst_jobs header.now burst.now) (cluster_at cluster network.old).cells)) }
-    ensures seen { IfOk result (λ told. told.0.seen.items ≡ seen_of (notes_of cluster (burst_jobs header.now burst.now)
-        (replies_to (home_at header.now cluster network.old) (burst_jobs header.now burst.now) (cluster_at cluster network.old).cells))) }
-    ensures refused { IfOk result (λ told. told.1 ≡ refusals (replies_to (home_at header.now cluster network.old) (burst_jobs header.now burst.now) (cluster_at cluster network.old).cells)) }
+    requires shaped { IsShaped header.now replication.old }
+    requires allowed { MayDoAll C.allows header.now cluster (burst_jobs header.now burst.now) replication.old }
+    ensures world { OnOk result (replication.new ≡ with_cells cluster (cells_after (home_at header.now cluster replication.old) (burst_jobs header.now burst.now) (cluster_at cluster replication.old).cells) replication.old) }
+    ensures answer { IfOk result (λ told. told.0.text ≡ burst_text burst.now (replies_to (home_at header.now cluster replication.old) (burst_jobs header.now burst.now) (cluster_at cluster replication.old).cells)) }
+    ensures seen { IfOk result (λ told. told.0.seen ≡ seen_of (notes_of cluster (burst_jobs header.now burst.now)
+        (replies_to (home_at header.now cluster replication.old) (burst_jobs header.now burst.now) (cluster_at cluster replication.old).cells))) }
+    ensures refused { IfOk result (λ told. told.1 ≡ refusals (replies_to (home_at header.now cluster replication.old) (burst_jobs header.now burst.now) (cluster_at cluster replication.old).cells)) }
 {
     let jobs = jobs_of(alloc, header, burst)?;
-    let replies = network.do_jobs(rt, alloc, gate, workers, header, cluster, jobs.as_slice())?;
+    let replies = replication.do_jobs(rt, alloc, gate, workers, header, cluster, jobs.as_slice())?;
     let text = answers_of(alloc, burst, replies.as_slice())?;
     let refused = refusals(replies.as_slice());
     let mut seen = Vec::new(alloc);

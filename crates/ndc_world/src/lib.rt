@@ -2,13 +2,14 @@
 #![tactic(auto)]
 
 mod acting;
-mod answer;
 mod bursts;
 mod reporting;
 mod running;
+mod settled;
 mod summary;
 mod world;
 
-pub use answer::{Answer, Settled};
+pub use ndc_world_steps::Answer;
+pub use settled::Settled;
 pub use summary::Summary;
 pub use world::World;

@@ -15,8 +15,8 @@ ghost use Rattle.ndc_model_sets.specs.Sound.{IsSound};
 use ndc_cluster_reads::Reads;
 use ndc_progress::Progress;
 use ndc_script_types::{Act, Header, clusters_below};
-use ndc_world_network::Network;
-use ndc_world_steps::{Step, answered, reports};
+use ndc_world_replication::Replication;
+use ndc_world_steps::{Answer, answered, reports};
 use std::alloc::{AllocError, Global};
 
 /// Whether a line tells of activities, takes reports over or shows one.
@@ -44,20 +44,20 @@ pub(crate) fn no_reports(alloc: Global, header: &Header) -> Result<Vec<Progress>
 /// What a line on progress reports asks for is done.
 #[tactic(auto, unfolding(ndc_model::specs::Lines::act_step))]
 pub(crate) fn report<C: Reads + Drop>(
-    network: &Network<C>,
+    replication: &Replication<C>,
     reports: &mut Vec<Progress>,
     alloc: Global,
     header: &Header,
     act: &Act,
-) -> Result<Step, AllocError>
+) -> Result<Answer, AllocError>
     requires header { IsWellFormedHeader header.now }
     requires act { IsWellFormedAct header.now act.now }
     requires on { is_on_reports act.now ≡ true }
-    requires shaped { IsShaped header.now network.now }
-    requires sound { (cluster : Number) (domain workflow : Text) → IsCluster header.now cluster → IsSound (learned_at header.now cluster domain workflow network.now) }
+    requires shaped { IsShaped header.now replication.now }
+    requires sound { (cluster : Number) (domain workflow : Text) → IsCluster header.now cluster → IsSound (learned_at header.now cluster domain workflow replication.now) }
     requires seats { length reports.old.items ≡ count_of header.now.clusters }
     requires beats { (cluster : Number) → IsCluster header.now cluster → AllByRecursion (λ report. report.beat < 10 ^ 12) (slice_index_or reports.old.items cluster.number []) }
-    ensures { IfOk result (λ step. (w : World) → StandFor network.now reports.old.items w → IsLeftBy (act_step header.now act.now w) network.now reports.new.items step.answer step.seen) }
+    ensures { IfOk result (λ answer. (w : World) → StandFor replication.now reports.old.items w → IsLeftBy (act_step header.now act.now w) replication.now reports.new.items answer.text answer.seen) }
 {
     match act {
         Act::Beat {
@@ -67,9 +67,17 @@ pub(crate) fn report<C: Reads + Drop>(
             id,
             details,
         } => reports::beat(
-            network, reports, alloc, header, *cluster, domain, workflow, id, details,
+            replication,
+            reports,
+            alloc,
+            header,
+            *cluster,
+            domain,
+            workflow,
+            id,
+            details,
         ),
-        Act::Sync { to, from } => reports::sync(network, reports, alloc, *to, *from),
+        Act::Sync { to, from } => reports::sync(replication, reports, alloc, *to, *from),
         Act::ProgressOf {
             cluster,
             domain,
@@ -78,7 +86,14 @@ pub(crate) fn report<C: Reads + Drop>(
         } => {
             let held = reports.as_slice();
             let text = reports::progress(
-                network, held, alloc, header, *cluster, domain, workflow, id,
+                replication,
+                held,
+                alloc,
+                header,
+                *cluster,
+                domain,
+                workflow,
+                id,
             )?;
             Ok(answered(alloc, text))
         }

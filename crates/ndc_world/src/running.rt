@@ -19,7 +19,6 @@ ghost use Rattle.ndc_world.specs.Running.{HaveRun};
 ghost use Rattle.ndc_world.specs.Standing.{IsBehind, IsStanding};
 
 use crate::acting::act;
-use crate::answer::Answer;
 use crate::bursts::burst;
 use crate::reporting::{is_on_reports, report};
 use ndc_cluster_reads::Reads;
@@ -28,8 +27,8 @@ use ndc_port::Gate;
 use ndc_progress::Progress;
 use ndc_script_types::{Act, BurstJob, Header, Line};
 use ndc_world_answers::behind_number;
-use ndc_world_network::Network;
-use ndc_world_steps::Step;
+use ndc_world_replication::Replication;
+use ndc_world_steps::Answer;
 use std::alloc::{AllocError, Global};
 use std::thread::Threads;
 
@@ -44,20 +43,20 @@ pub(crate) fn line_count(asked: &Act) -> u64
 }
 
 /// The answer of a line that is no burst, behind its number; and how many answers are refusals, none or one.
-fn one_answer(alloc: Global, number: u64, step: Step) -> Result<(Answer, u64), AllocError>
-    ensures text { IfOk result (λ told. told.0.text.items ≡ decimal number ++ codes " " ++ step.answer) }
-    ensures seen { IfOk result (λ told. told.0.seen.items ≡ step.seen) }
-    ensures refused { IfOk result (λ told. told.1 ≡ one_if (is_refusal step.answer)) }
+fn one_answer(alloc: Global, number: u64, answer: Answer) -> Result<(Answer, u64), AllocError>
+    ensures text { IfOk result (λ told. told.0.text ≡ decimal number ++ codes " " ++ answer.text) }
+    ensures seen { IfOk result (λ told. told.0.seen ≡ answer.seen) }
+    ensures refused { IfOk result (λ told. told.1 ≡ one_if (is_refusal answer.text)) }
 {
-    let (answer, seen) = step.into_parts();
-    let refused = u64::from(answer.as_slice().starts_with(b"refused"));
-    let text = behind_number(alloc, number, answer.as_slice())?;
+    let Answer { text, seen } = answer;
+    let refused = u64::from(text.as_slice().starts_with(b"refused"));
+    let text = behind_number(alloc, number, text.as_slice())?;
     Ok((Answer { text, seen }, refused))
 }
 
 /// Runs a line that is no burst and not on progress reports.
 fn run_one<R: Threads + Sync, G: Gate, C: Reads + Drop + Send>(
-    network: &mut Network<C>,
+    replication: &mut Replication<C>,
     rt: &R,
     alloc: Global,
     gate: &G,
@@ -73,17 +72,17 @@ fn run_one<R: Threads + Sync, G: Gate, C: Reads + Drop + Send>(
     requires other { is_on_reports asked.now ≡ false }
     requires one { lines_of_act number asked.now ≡ record { number = number; act = asked.now } ∷ [] }
     requires lines { lines < 100000 }
-    requires reached { IsReached header.now lines network.old }
-    ensures { IfOk result (λ told. HaveRun (ran_from header.now network.old (lines_of_act number asked.now)) network.old network.new told.0.text.items told.0.seen.items told.1) }
+    requires reached { IsReached header.now lines replication.old }
+    ensures { IfOk result (λ told. HaveRun (ran_from header.now replication.old (lines_of_act number asked.now)) replication.old replication.new told.0.text told.0.seen told.1) }
 {
-    let step = act(network, rt, alloc, gate, workers, header, lines, asked)?;
-    let told = one_answer(alloc, number, step)?;
+    let answer = act(replication, rt, alloc, gate, workers, header, lines, asked)?;
+    let told = one_answer(alloc, number, answer)?;
     Ok(told)
 }
 
 /// Runs the lines in a burst, side by side.
 fn run_burst<R: Threads + Sync, G: Gate, C: Reads + Drop + Send>(
-    network: &mut Network<C>,
+    replication: &mut Replication<C>,
     rt: &R,
     alloc: Global,
     gate: &G,
@@ -98,16 +97,16 @@ fn run_burst<R: Threads + Sync, G: Gate, C: Reads + Drop + Send>(
     requires cluster { IsCluster header.now cluster }
     requires jobs { All IsWellFormedJob jobs.now }
     requires lines { lines + length jobs.now ≤ 100000 }
-    requires reached { IsReached header.now lines network.old }
-    ensures { IfOk result (λ told. HaveRun (ran_from header.now network.old (map (job_line cluster) jobs.now)) network.old network.new told.0.text.items told.0.seen.items told.1) }
+    requires reached { IsReached header.now lines replication.old }
+    ensures { IfOk result (λ told. HaveRun (ran_from header.now replication.old (map (job_line cluster) jobs.now)) replication.old replication.new told.0.text told.0.seen told.1) }
 {
-    let told = burst(network, rt, alloc, gate, workers, header, cluster, jobs)?;
+    let told = burst(replication, rt, alloc, gate, workers, header, cluster, jobs)?;
     Ok(told)
 }
 
 /// Runs a line that is not on progress reports.
 fn run_other<R: Threads + Sync, G: Gate, C: Reads + Drop + Send>(
-    network: &mut Network<C>,
+    replication: &mut Replication<C>,
     rt: &R,
     alloc: Global,
     gate: &G,
@@ -121,20 +120,36 @@ fn run_other<R: Threads + Sync, G: Gate, C: Reads + Drop + Send>(
     requires act { IsWellFormedAct header.now line.now.act }
     requires other { is_on_reports line.now.act ≡ false }
     requires lines { lines + length (lines_of_act line.now.number line.now.act) ≤ 100000 }
-    requires reached { IsReached header.now lines network.old }
-    ensures { IfOk result (λ told. HaveRun (ran_from header.now network.old (lines_of_act line.now.number line.now.act)) network.old network.new told.0.text.items told.0.seen.items told.1) }
+    requires reached { IsReached header.now lines replication.old }
+    ensures { IfOk result (λ told. HaveRun (ran_from header.now replication.old (lines_of_act line.now.number line.now.act)) replication.old replication.new told.0.text told.0.seen told.1) }
 {
     match &line.act {
         Act::Burst { cluster, jobs } => {
             let jobs = jobs.as_slice();
             run_burst(
-                network, rt, alloc, gate, workers, header, lines, *cluster, jobs,
+                replication,
+                rt,
+                alloc,
+                gate,
+                workers,
+                header,
+                lines,
+                *cluster,
+                jobs,
             )
         }
         asked => {
             let number = line.number;
             run_one(
-                network, rt, alloc, gate, workers, header, lines, number, asked,
+                replication,
+                rt,
+                alloc,
+                gate,
+                workers,
+                header,
+                lines,
+                number,
+                asked,
             )
         }
     }
@@ -142,7 +157,7 @@ fn run_other<R: Threads + Sync, G: Gate, C: Reads + Drop + Send>(
 
 /// Runs a line on progress reports.
 fn run_report<C: Reads + Drop>(
-    network: &Network<C>,
+    replication: &Replication<C>,
     reports: &mut Vec<Progress>,
     alloc: Global,
     header: &Header,
@@ -152,22 +167,22 @@ fn run_report<C: Reads + Drop>(
     requires header { IsWellFormedHeader header.now }
     requires act { IsWellFormedAct header.now asked.now }
     requires on { is_on_reports asked.now ≡ true }
-    requires shaped { IsShaped header.now network.now }
-    requires sound { (cluster : Number) (domain workflow : Text) → IsCluster header.now cluster → IsSound (learned_at header.now cluster domain workflow network.now) }
+    requires shaped { IsShaped header.now replication.now }
+    requires sound { (cluster : Number) (domain workflow : Text) → IsCluster header.now cluster → IsSound (learned_at header.now cluster domain workflow replication.now) }
     requires seats { length reports.old.items ≡ count_of header.now.clusters }
     requires beats { (cluster : Number) → IsCluster header.now cluster → AllByRecursion (λ report. report.beat < 10 ^ 12) (slice_index_or reports.old.items cluster.number []) }
-    ensures { IfOk result (λ told. (w : World) → StandFor network.now reports.old.items w
-        → IsBehind header.now (record { number = number; act = asked.now }) w network.now reports.new.items told.0.text.items told.0.seen.items told.1) }
+    ensures { IfOk result (λ told. (w : World) → StandFor replication.now reports.old.items w
+        → IsBehind header.now (record { number = number; act = asked.now }) w replication.now reports.new.items told.0.text told.0.seen told.1) }
 {
-    let step = report(network, reports, alloc, header, asked)?;
-    let told = one_answer(alloc, number, step)?;
+    let answer = report(replication, reports, alloc, header, asked)?;
+    let told = one_answer(alloc, number, answer)?;
     Ok(told)
 }
 
 /// Runs a line of the text; gives its answer, and how many of its answers are refusals. In each world for which clusters
 /// and reports stand, the line answers this and makes this learned, and behind it they stand for the world that it leaves.
 pub(crate) fn run_line<R: Threads + Sync, G: Gate, C: Reads + Drop + Send>(
-    network: &mut Network<C>,
+    replication: &mut Replication<C>,
     reports: &mut Vec<Progress>,
     rt: &R,
     alloc: Global,
@@ -180,14 +195,14 @@ pub(crate) fn run_line<R: Threads + Sync, G: Gate, C: Reads + Drop + Send>(
     requires workers { 0 < workers }
     requires act { IsWellFormedAct header.now line.now.act }
     requires lines { lines + length (lines_of_act line.now.number line.now.act) ≤ 100000 }
-    requires standing { IsStanding header.now lines network.old reports.old.items }
-    ensures { IfOk result (λ told. (w : World) → StandFor network.old reports.old.items w
-        → IsBehind header.now line.now w network.new reports.new.items told.0.text.items told.0.seen.items told.1) }
+    requires standing { IsStanding header.now lines replication.old reports.old.items }
+    ensures { IfOk result (λ told. (w : World) → StandFor replication.old reports.old.items w
+        → IsBehind header.now line.now w replication.new reports.new.items told.0.text told.0.seen told.1) }
 {
     if is_on_reports(&line.act) {
-        let told = run_report(network, reports, alloc, header, line.number, &line.act)?;
+        let told = run_report(replication, reports, alloc, header, line.number, &line.act)?;
         return Ok(told);
     }
-    let told = run_other(network, rt, alloc, gate, workers, header, lines, line)?;
+    let told = run_other(replication, rt, alloc, gate, workers, header, lines, line)?;
     Ok(told)
 }

@@ -1,12 +1,16 @@
-use crate::answer::{Answer, Settled};
 use crate::reporting::no_reports;
 use crate::running::{line_count, run_line};
+use crate::settled::Settled;
 use crate::summary::Summary;
+use ndc_cluster::Cluster;
 use ndc_cluster_reads::Reads;
+use ndc_domain::ClusterNo;
 use ndc_port::Gate;
 use ndc_progress::Progress;
 use ndc_script_types::{Header, Line};
-use ndc_world_network::Network;
+use ndc_world_replication::Replication;
+use ndc_world_replication::publishers::cluster_of;
+use ndc_world_steps::Answer;
 use ndc_world_steps::moving::{Telling, settlement};
 use ndc_world_summary::totals;
 use std::alloc::{AllocError, Global};
@@ -19,7 +23,7 @@ use std::thread::Threads;
 /// spent, and may only be dropped.
 pub struct World<'a, C: Reads + Drop> {
     header: &'a Header,
-    network: Network<C>,
+    replication: Replication<C>,
     reports: Vec<Progress>,
     lines: u64,
     answers: u64,
@@ -33,17 +37,17 @@ impl<'a, C: Reads + Drop> Model for World<'a, C> {
 
     ghost Value = { WorldValue };
 
-    ghost view = { λ world. record { spent = world.spent; header = world.header.now; lines = world.lines; answers = world.answers; refused = world.refused; world = world.network; reports = world.reports.items } };
+    ghost view = { λ world. record { spent = world.spent; header = world.header.now; lines = world.lines; answers = world.answers; refused = world.refused; world = world.replication; reports = world.reports.items } };
 
     ghost invariant = { λ world. world.spent ≡ false
-        → IsUnspent (record { spent = world.spent; header = world.header.now; lines = world.lines; answers = world.answers; refused = world.refused; world = world.network; reports = world.reports.items }) };
+        → IsUnspent (record { spent = world.spent; header = world.header.now; lines = world.lines; answers = world.answers; refused = world.refused; world = world.replication; reports = world.reports.items }) };
 }
 
 impl<'a, C: Reads + Drop> Drop for World<'a, C> {
     fn drop(self) {
         let World {
             header: _header,
-            network: _network,
+            replication: _replication,
             reports: _reports,
             lines: _lines,
             answers: _answers,
@@ -56,11 +60,13 @@ impl<'a, C: Reads + Drop> Drop for World<'a, C> {
 impl<'a, C: Reads + Drop> World<'a, C> {
     ghost use Rattle.std.specs.Prelude.{◌≡◌, ◌<◌, ◌+◌, ◌≤◌, false, length, true, IfOk, OnErr};
     ghost use Rattle.ndc_script_types.specs.WellFormed.{IsWellFormedAct, IsWellFormedHeader};
+    ghost use Rattle.ndc_domain.specs.Clusters.{cluster_no, count_of};
     ghost use Rattle.ndc_laws_jobs.specs.Standing.{StandFor};
     ghost use Rattle.ndc_model.specs.Lines.{lines_of_act};
-    ghost use Rattle.ndc_model.specs.World.{opening_world};
+    ghost use Rattle.ndc_model.specs.World.{cluster_at, opening_world};
     ghost use Rattle.ndc_world.specs.Standing.{IsSettledBy, IsStepped};
     ghost use Rattle.ndc_world.specs.Summary.{summary_of};
+    ghost use Rattle.ndc_world_replication.specs.Publishers.{cluster_alone};
 
     /// The world of a header in the beginning: nothing is registered, written or sent.
     pub fn build(alloc: Global, header: &'a Header) -> Result<World<'a, C>, AllocError>
@@ -73,10 +79,10 @@ impl<'a, C: Reads + Drop> World<'a, C> {
         ensures stands { IfOk result (λ world. StandFor world.world world.reports (opening_world header.now)) }
     {
         let reports = no_reports(alloc, header)?;
-        let network = Network::new(alloc, header)?;
+        let replication = Replication::new(alloc, header)?;
         Ok(World {
             header,
-            network,
+            replication,
             reports,
             lines: 0,
             answers: 0,
@@ -90,6 +96,16 @@ impl<'a, C: Reads + Drop> World<'a, C> {
         ensures { result ≡ self.now.lines }
     {
         self.lines
+    }
+
+    /// The cluster at a place of the header, counted from 0: its domain records, and a cell for each shard. Takes no memory.
+    pub fn cluster(&self, place: u32) -> &Cluster<C>
+        requires unspent { self.now.spent ≡ false }
+        requires place { place < count_of self.now.header.clusters }
+        ensures cluster { result.now ≡ cluster_alone (cluster_at (cluster_no place) self.now.world) }
+        ensures shards { length result.now.cells ≡ self.now.header.shards }
+    {
+        cluster_of(&self.replication, ClusterNo { number: place })
     }
 
     /// Runs a line of the text, on so many workers at most, behind the gate. The lines in a burst run side by side. No more
@@ -108,12 +124,12 @@ impl<'a, C: Reads + Drop> World<'a, C> {
         requires workers { 0 < workers }
         requires act { IsWellFormedAct self.old.header line.now.act }
         requires lines { self.old.lines + length (lines_of_act line.now.number line.now.act) ≤ 100000 }
-        ensures steps { IfOk result (λ answer. IsStepped self.old line.now self.new answer.text.items answer.seen.items) }
+        ensures steps { IfOk result (λ answer. IsStepped self.old line.now self.new answer.text answer.seen) }
         ensures spent { OnErr result (self.new.spent ≡ true) }
     {
         self.spent = true;
         let (answer, refused) = run_line(
-            &mut self.network,
+            &mut self.replication,
             &mut self.reports,
             rt,
             alloc,
@@ -150,7 +166,7 @@ impl<'a, C: Reads + Drop> World<'a, C> {
     {
         self.spent = true;
         let Telling { tally, seen } = settlement(
-            &mut self.network,
+            &mut self.replication,
             rt,
             alloc,
             gate,
@@ -171,7 +187,7 @@ impl<'a, C: Reads + Drop> World<'a, C> {
         requires { self.now.spent ≡ false }
         ensures { IfOk result (λ summary. summary ≡ summary_of self.now) }
     {
-        let clusters = totals(alloc, self.header, &self.network)?;
+        let clusters = totals(alloc, self.header, &self.replication)?;
         Ok(Summary {
             answers: self.answers,
             refused: self.refused,

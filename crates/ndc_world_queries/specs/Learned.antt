@@ -11,7 +11,7 @@ use Rattle.ndc_model_sets.specs.Current.{status_of}
 use Rattle.ndc_state.specs.Replay.{history_of}
 use Rattle.ndc_state.specs.Value.{StateValue}
 use Rattle.ndc_text.specs.Views.{key_text, status_text}
-use Rattle.ndc_world_network.specs.Found.{batches_or_none}
+use Rattle.ndc_world_replication.specs.Found.{batches_or_none}
 
 -- the answer of a line on the current run, by the tip of its current branch and the state of it
 abbrev pub current_text : Batch → StateValue → List ℕ

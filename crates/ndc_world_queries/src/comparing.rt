@@ -1,7 +1,7 @@
 ghost use Rattle.std.specs.Prelude.{◌≡◌, ◌↔◌, map, option_copied, IfOk, IsTrue};
 ghost use Rattle.std.specs.List.{AllByRecursion};
 ghost use Rattle.ndc_model.specs.Reading.{compare_answer};
-ghost use Rattle.ndc_world_network.specs.Found.{batches_or_none};
+ghost use Rattle.ndc_world_replication.specs.Found.{batches_or_none};
 ghost use Rattle.ndc_text.specs.Ranges.{InRange};
 ghost use Rattle.ndc_world_queries.specs.Learned.{last_key};
 

@@ -11,13 +11,13 @@ use ndc_cluster_reads::Reads;
 use ndc_domain::ClusterNo;
 use ndc_resend::GapOf;
 use ndc_script_types::Header;
-use ndc_world_network::Network;
-use ndc_world_network::sites::cell_of;
+use ndc_world_replication::Replication;
+use ndc_world_replication::publishers::cell_of;
 use std::alloc::{AllocError, Global};
 
 /// Adds what is put off at a cluster in a shard, in order of place, each batch with the gap before it, as its cell tells it.
 fn add_shard<C: Reads + Drop>(
-    network: &Network<C>,
+    replication: &Replication<C>,
     alloc: Global,
     gaps: &mut Vec<GapOf>,
     header: &Header,
@@ -26,10 +26,10 @@ fn add_shard<C: Reads + Drop>(
 ) -> Result<(), AllocError>
     requires cluster { IsCluster header.now cluster }
     requires shard { shard < header.now.shards }
-    requires reached { IsReachedSometime header.now network.now }
-    ensures { OnOk result (gaps.new.items ≡ gaps.old.items ++ gaps_of (cell_at cluster shard network.now)) }
+    requires reached { IsReachedSometime header.now replication.now }
+    ensures { OnOk result (gaps.new.items ≡ gaps.old.items ++ gaps_of (cell_at cluster shard replication.now)) }
 {
-    let cell = cell_of(network, cluster, shard);
+    let cell = cell_of(replication, cluster, shard);
     let mut more = cell.gaps(alloc)?;
     gaps.append(&mut more)?;
     Ok(())
@@ -37,34 +37,34 @@ fn add_shard<C: Reads + Drop>(
 
 /// What is put off at a cluster, by shard and then in order of place.
 fn all_gaps<C: Reads + Drop>(
-    network: &Network<C>,
+    replication: &Replication<C>,
     alloc: Global,
     header: &Header,
     cluster: ClusterNo,
 ) -> Result<Vec<GapOf>, AllocError>
     requires cluster { IsCluster header.now cluster }
-    requires reached { IsReachedSometime header.now network.now }
-    ensures { IfOk result (λ gaps. gaps.items ≡ flat_map (gaps_at cluster network.now) (shards_of header.now)) }
+    requires reached { IsReachedSometime header.now replication.now }
+    ensures { IfOk result (λ gaps. gaps.items ≡ flat_map (gaps_at cluster replication.now) (shards_of header.now)) }
 {
     let mut gaps = Vec::new(alloc);
     for shard in 0..header.shards {
-        add_shard(network, alloc, &mut gaps, header, cluster, shard)?;
+        add_shard(replication, alloc, &mut gaps, header, cluster, shard)?;
     }
     Ok(gaps)
 }
 
 /// `gaps`.
 pub fn gaps<C: Reads + Drop>(
-    network: &Network<C>,
+    replication: &Replication<C>,
     alloc: Global,
     header: &Header,
     cluster: ClusterNo,
 ) -> Result<Vec<u8>, AllocError>
     requires cluster { IsCluster header.now cluster }
-    requires reached { IsReachedSometime header.now network.now }
-    ensures { IfOk result (λ text. text.items ≡ gaps_answer header.now cluster network.now) }
+    requires reached { IsReachedSometime header.now replication.now }
+    ensures { IfOk result (λ text. text.items ≡ gaps_answer header.now cluster replication.now) }
 {
-    let gaps = all_gaps(network, alloc, header, cluster)?;
+    let gaps = all_gaps(replication, alloc, header, cluster)?;
     let text = ndc_world_answers::gaps(alloc, gaps.as_slice())?;
     Ok(text)
 }

@@ -10,8 +10,8 @@ use ndc_domain::ClusterNo;
 use ndc_event::Name;
 use ndc_script_types::Header;
 use ndc_state::Steps;
-use ndc_world_network::Network;
-use ndc_world_network::sites::runs_of;
+use ndc_world_replication::Replication;
+use ndc_world_replication::publishers::runs_of;
 use std::alloc::{AllocError, Global};
 
 /// Steps of restoring states are counted under this name.
@@ -19,7 +19,7 @@ struct Restoring;
 
 /// `history`.
 pub fn history<C: Reads + Drop>(
-    network: &Network<C>,
+    replication: &Replication<C>,
     alloc: Global,
     header: &Header,
     cluster: ClusterNo,
@@ -28,10 +28,10 @@ pub fn history<C: Reads + Drop>(
 ) -> Result<Vec<u8>, AllocError>
     requires shards { 0 < header.now.shards }
     requires cluster { IsCluster header.now cluster }
-    requires shaped { IsShaped header.now network.now }
-    ensures { IfOk result (λ text. text.items ≡ read_answer history_answer (learned_at header.now cluster domain.now workflow.now network.now)) }
+    requires shaped { IsShaped header.now replication.now }
+    ensures { IfOk result (λ text. text.items ≡ read_answer history_answer (learned_at header.now cluster domain.now workflow.now replication.now)) }
 {
-    match runs_of(network, header, cluster, domain, workflow) {
+    match runs_of(replication, header, cluster, domain, workflow) {
         Some(runs) => crate::queries::history(alloc, runs),
         None => ndc_world_answers::no_workflow(alloc),
     }
@@ -39,7 +39,7 @@ pub fn history<C: Reads + Drop>(
 
 /// `branches`.
 pub fn branches<C: Reads + Drop>(
-    network: &Network<C>,
+    replication: &Replication<C>,
     alloc: Global,
     header: &Header,
     cluster: ClusterNo,
@@ -48,11 +48,11 @@ pub fn branches<C: Reads + Drop>(
 ) -> Result<Vec<u8>, AllocError>
     requires shards { 0 < header.now.shards }
     requires cluster { IsCluster header.now cluster }
-    requires shaped { IsShaped header.now network.now }
-    ensures { IfOk result (λ text. text.items ≡ read_answer branches_answer (learned_at header.now cluster domain.now workflow.now network.now)) }
+    requires shaped { IsShaped header.now replication.now }
+    ensures { IfOk result (λ text. text.items ≡ read_answer branches_answer (learned_at header.now cluster domain.now workflow.now replication.now)) }
 {
     let mut steps: Steps<Restoring> = Steps::new();
-    match runs_of(network, header, cluster, domain, workflow) {
+    match runs_of(replication, header, cluster, domain, workflow) {
         Some(runs) => crate::queries::branches(alloc, runs, &mut steps),
         None => ndc_world_answers::no_workflow(alloc),
     }
@@ -60,7 +60,7 @@ pub fn branches<C: Reads + Drop>(
 
 /// `current`.
 pub fn current<C: Reads + Drop>(
-    network: &Network<C>,
+    replication: &Replication<C>,
     alloc: Global,
     header: &Header,
     cluster: ClusterNo,
@@ -69,10 +69,10 @@ pub fn current<C: Reads + Drop>(
 ) -> Result<Vec<u8>, AllocError>
     requires shards { 0 < header.now.shards }
     requires cluster { IsCluster header.now cluster }
-    requires shaped { IsShaped header.now network.now }
-    ensures { IfOk result (λ text. text.items ≡ read_answer current_answer (learned_at header.now cluster domain.now workflow.now network.now)) }
+    requires shaped { IsShaped header.now replication.now }
+    ensures { IfOk result (λ text. text.items ≡ read_answer current_answer (learned_at header.now cluster domain.now workflow.now replication.now)) }
 {
-    match runs_of(network, header, cluster, domain, workflow) {
+    match runs_of(replication, header, cluster, domain, workflow) {
         Some(runs) => crate::queries::current(alloc, runs),
         None => ndc_world_answers::no_workflow(alloc),
     }
@@ -80,7 +80,7 @@ pub fn current<C: Reads + Drop>(
 
 /// `state`.
 pub fn state<C: Reads + Drop>(
-    network: &Network<C>,
+    replication: &Replication<C>,
     alloc: Global,
     header: &Header,
     cluster: ClusterNo,
@@ -89,10 +89,10 @@ pub fn state<C: Reads + Drop>(
 ) -> Result<Vec<u8>, AllocError>
     requires shards { 0 < header.now.shards }
     requires cluster { IsCluster header.now cluster }
-    requires shaped { IsShaped header.now network.now }
-    ensures { IfOk result (λ text. text.items ≡ read_answer state_answer (learned_at header.now cluster domain.now workflow.now network.now)) }
+    requires shaped { IsShaped header.now replication.now }
+    ensures { IfOk result (λ text. text.items ≡ read_answer state_answer (learned_at header.now cluster domain.now workflow.now replication.now)) }
 {
-    match runs_of(network, header, cluster, domain, workflow) {
+    match runs_of(replication, header, cluster, domain, workflow) {
         Some(runs) => crate::queries::state(alloc, runs),
         None => ndc_world_answers::no_workflow(alloc),
     }
@@ -100,7 +100,7 @@ pub fn state<C: Reads + Drop>(
 
 /// `dump`.
 pub fn dump<C: Reads + Drop>(
-    network: &Network<C>,
+    replication: &Replication<C>,
     alloc: Global,
     header: &Header,
     cluster: ClusterNo,
@@ -109,11 +109,11 @@ pub fn dump<C: Reads + Drop>(
 ) -> Result<Vec<u8>, AllocError>
     requires shards { 0 < header.now.shards }
     requires cluster { IsCluster header.now cluster }
-    requires shaped { IsShaped header.now network.now }
-    ensures { IfOk result (λ text. text.items ≡ read_answer (dump_answer domain.now workflow.now) (learned_at header.now cluster domain.now workflow.now network.now)) }
+    requires shaped { IsShaped header.now replication.now }
+    ensures { IfOk result (λ text. text.items ≡ read_answer (dump_answer domain.now workflow.now) (learned_at header.now cluster domain.now workflow.now replication.now)) }
 {
     let mut steps: Steps<Restoring> = Steps::new();
-    match runs_of(network, header, cluster, domain, workflow) {
+    match runs_of(replication, header, cluster, domain, workflow) {
         Some(runs) => crate::queries::dump(alloc, domain, workflow, runs, &mut steps),
         None => ndc_world_answers::no_workflow(alloc),
     }
@@ -121,7 +121,7 @@ pub fn dump<C: Reads + Drop>(
 
 /// `compare`. The numbers of what both have learned are in the ranges of batch texts.
 pub fn compare<C: Reads + Drop>(
-    network: &Network<C>,
+    replication: &Replication<C>,
     alloc: Global,
     header: &Header,
     one: ClusterNo,
@@ -132,12 +132,12 @@ pub fn compare<C: Reads + Drop>(
     requires shards { 0 < header.now.shards }
     requires one { IsCluster header.now one }
     requires two { IsCluster header.now two }
-    requires shaped { IsShaped header.now network.now }
-    requires range_one { AllByRecursion InRange (learned_at header.now one domain.now workflow.now network.now) }
-    requires range_two { AllByRecursion InRange (learned_at header.now two domain.now workflow.now network.now) }
-    ensures { IfOk result (λ text. text.items ≡ compare_answer domain.now workflow.now (learned_at header.now one domain.now workflow.now network.now) (learned_at header.now two domain.now workflow.now network.now)) }
+    requires shaped { IsShaped header.now replication.now }
+    requires range_one { AllByRecursion InRange (learned_at header.now one domain.now workflow.now replication.now) }
+    requires range_two { AllByRecursion InRange (learned_at header.now two domain.now workflow.now replication.now) }
+    ensures { IfOk result (λ text. text.items ≡ compare_answer domain.now workflow.now (learned_at header.now one domain.now workflow.now replication.now) (learned_at header.now two domain.now workflow.now replication.now)) }
 {
-    let first = runs_of(network, header, one, domain, workflow);
-    let second = runs_of(network, header, two, domain, workflow);
+    let first = runs_of(replication, header, one, domain, workflow);
+    let second = runs_of(replication, header, two, domain, workflow);
     crate::comparing::compare(alloc, domain, workflow, first, second)
 }

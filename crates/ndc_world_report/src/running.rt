@@ -72,7 +72,8 @@ fn keep_where(keeps: bool, told: &mut Vec<Seen>, seen: Vec<Seen>) -> Result<(), 
 
 /// Runs a script on so many workers at most, behind the gate. The answers of each line are written in one piece as soon
 /// as it has run, and then those indexers are told of what it made learned that are told as a script runs. Behind the
-/// last line the late ones are told of all of it, and the lines of all indexers are written in one piece.
+/// last line the late ones are told of all of it, and the lines of all indexers are written in one piece. The program ends
+/// then, so what the world holds by that time is not given back piece by piece.
 /// [`RunError::Write`] where a write failed, and only there, [`RunError::Memory`] where memory ran out: then a front of
 /// this was written.
 pub fn run_script<R: Threads + Sync, G: Gate, K: Sink, C: Reads + Drop + Send>(
@@ -106,5 +107,7 @@ pub fn run_script<R: Threads + Sync, G: Gate, K: Sink, C: Reads + Drop + Send>(
     let mut lines = Vec::new(alloc);
     indexers.lines(&mut lines)?;
     write_all(out, lines.as_slice())?;
+    std::mem::forget(world);
+    std::mem::forget(told);
     Ok(())
 }

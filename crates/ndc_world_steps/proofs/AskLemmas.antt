@@ -18,8 +18,8 @@ use Rattle.ndc_model.specs.Sending.{work_step}
 use Rattle.ndc_model.specs.Steps.{Stepped, seen_of, writing_step}
 use Rattle.ndc_model.specs.Texts.{ok}
 use Rattle.ndc_model.specs.World.{World, cluster_at, home_at, with_cells}
-use Rattle.ndc_world_network.specs.Dones.{notes_in}
-use Rattle.ndc_world_network.specs.declared.working.Done.{Done}
+use Rattle.ndc_world_replication.specs.Dones.{notes_in}
+use Rattle.ndc_world_replication.specs.declared.working.Done.{Done}
 use Rattle.ndc_world_steps.specs.Telling.{tally_of}
 use Rattle.ndc_world_steps.specs.Told.{first_answer}
 

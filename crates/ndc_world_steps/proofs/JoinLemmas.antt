@@ -7,7 +7,7 @@ use Rattle.ndc_model.specs.Steps.{Stepped, answered}
 use Rattle.ndc_model.specs.Tables.{join_step, join_words}
 use Rattle.ndc_model.specs.Texts.{refused}
 use Rattle.ndc_model.specs.World.{World}
-use Rattle.ndc_world_network.specs.Tables.{table_left}
+use Rattle.ndc_world_replication.specs.Tables.{table_left}
 
 -- a refused call is a refused line
 pub join_refuses : (at : ClusterNo) (w : World) (error : JoinError) (r : Result (List DomainRecord) JoinError) → table_left at w r ≡ Err error → answered w (refused (join_words error)) ≡ join_step at w r

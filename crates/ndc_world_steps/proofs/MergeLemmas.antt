@@ -26,12 +26,12 @@ use Rattle.ndc_model.specs.Texts.{ok}
 use Rattle.ndc_model.specs.World.{Cluster, Link, World, cell_of, cluster_at, home_at, lane_in, new_cluster, queue_at, with_cells}
 use Rattle.ndc_model.proofs.ListLemmas.{all-set, all-weaker}
 use Rattle.ndc_model.proofs.WorldLemmas.{set-cases}
-use Rattle.ndc_world_network.proofs.OrderlyLemmas.{orderly_jobs}
-use Rattle.ndc_world_network.specs.Dones.{notes_in}
-use Rattle.ndc_world_network.specs.declared.working.Done.{Done}
+use Rattle.ndc_world_replication.proofs.OrderlyLemmas.{orderly_jobs}
+use Rattle.ndc_world_replication.specs.Dones.{notes_in}
+use Rattle.ndc_world_replication.specs.declared.working.Done.{Done}
 use Rattle.ndc_world_steps.specs.Telling.{tally_of}
-use Rattle.ndc_world_network.specs.Orderly.{AreLevelsKept, IsOrderly}
-use Rattle.ndc_world_network.proofs.ShapeLemmas.{cells_there}
+use Rattle.ndc_world_replication.specs.Orderly.{AreLevelsKept, IsOrderly}
+use Rattle.ndc_world_replication.proofs.ShapeLemmas.{cells_there}
 
 -- letters that become others
 orderly-letters : (header : Header) (w : World) (reader : ClusterNo) (letters : List Letter) → IsOrderly header w → IsCluster header reader → IsOrderly header (with_letters reader letters w)

@@ -11,7 +11,7 @@ use Rattle.ndc_model_cells.specs.declared.job.ShardJob.{ShardJob}
 use Rattle.ndc_world_answers.proofs.TallyLemmas.{with-note}
 use Rattle.ndc_world_answers.specs.Tallies.{with_notes, with_reply}
 use Rattle.ndc_world_answers.specs.declared.tally.Tally.{Tally}
-use Rattle.ndc_world_network.specs.Dones.{idle_note, notes_passing}
+use Rattle.ndc_world_replication.specs.Dones.{idle_note, notes_passing}
 
 module _ (cluster : ClusterNo) where
   -- an idle cell counts nothing

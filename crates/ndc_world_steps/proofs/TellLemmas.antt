@@ -7,8 +7,8 @@ use Rattle.ndc_world_answers.specs.Tallies.{no_tally, with_notes}
 use Rattle.ndc_world_answers.specs.declared.tally.Tally.{Tally}
 use Rattle.ndc_model.specs.Moves.{Note}
 use Rattle.ndc_model.specs.Steps.{applied_by, arrived_by, known_by, learned_by, put_off_by, seen_at, seen_of}
-use Rattle.ndc_world_network.specs.Dones.{notes_in}
-use Rattle.ndc_world_network.specs.declared.working.Done.{Done}
+use Rattle.ndc_world_replication.specs.Dones.{notes_in}
+use Rattle.ndc_world_replication.specs.declared.working.Done.{Done}
 use Rattle.ndc_world_steps.specs.Telling.{tally_of}
 
 map-both : (f : Note → ℕ) (one two : List Note) → map f (one ++ two) ≡ map f one ++ map f two

@@ -5,18 +5,18 @@ use Rattle.ndc_index.specs.declared.seen.Seen.{Seen}
 use Rattle.ndc_model.specs.Steps.{Stepped, outcome_answer}
 use Rattle.ndc_model.specs.World.{World}
 
--- what a line answers behind its number, and what it made learned, in the order of being told
-pub record Told : Type 0 where
-  pub answer : List ℕ
+-- what a line answers, and what it makes learned, in the order of being told
+pub record AnswerValue : Type 0 where
+  pub text : List ℕ
   pub seen : List Seen
 
 -- a line that makes nothing learned
-abbrev pub only_answer : List ℕ → Told
-only_answer answer = record { answer = answer; seen = [] }
+abbrev pub only_answer : List ℕ → AnswerValue
+only_answer text = record { text = text; seen = [] }
 
 -- what a line leaves and tells
-abbrev pub leaving : World → Told → Stepped
-leaving w told = record { world = w; answer = told.answer; seen = told.seen }
+abbrev pub leaving : World → AnswerValue → Stepped
+leaving w answer = record { world = w; answer = answer.text; seen = answer.seen }
 
 -- what the first of replies answers
 abbrev pub first_answer : List JobReply → List ℕ

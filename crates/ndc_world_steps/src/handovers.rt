@@ -13,7 +13,7 @@ ghost use Rattle.ndc_model.specs.World.{cluster_at, link_at};
 ghost use Rattle.ndc_world_steps.specs.Links.{IsBetween, is_handover_to, is_late_by, levels_by};
 ghost use Rattle.ndc_world_steps.specs.Told.{leaving};
 
-use crate::step::{Step, answered};
+use crate::answer::{Answer, answered};
 use ndc_cluster_links::Link;
 use ndc_cluster_rounds::Cell;
 use ndc_domain::{ClusterNo, DomainTable};
@@ -21,8 +21,8 @@ use ndc_event::Name;
 use ndc_graceful::{BeginError, Handover, ReadyError};
 use ndc_queue::Levels;
 use ndc_script_types::Header;
-use ndc_world_network::Network;
-use ndc_world_network::sites::{link_of, queue_of, table_of};
+use ndc_world_replication::Replication;
+use ndc_world_replication::publishers::{link_of, queue_of, table_of};
 use std::alloc::{AllocError, Global};
 
 /// Whether one of these handovers is of a domain.
@@ -33,48 +33,48 @@ fn has_handover(handovers: &[Handover], domain: &Name) -> bool
 }
 
 /// Whether a handover of a domain is open.
-#[tactic(auto, using(ndc_world_network::proofs::FindLemmas::any_found))]
-fn is_open<C: Cell + Drop>(network: &Network<C>, domain: &Name) -> bool
-    ensures { result ≡ is_some (open_handover domain.now network.now) }
+#[tactic(auto, using(ndc_world_replication::proofs::FindLemmas::any_found))]
+fn is_open<C: Cell + Drop>(replication: &Replication<C>, domain: &Name) -> bool
+    ensures { result ≡ is_some (open_handover domain.now replication.now) }
 {
-    has_handover(network.handovers(), domain)
+    has_handover(replication.handovers(), domain)
 }
 
 /// Where the queues of a cluster end, by shard.
 fn queue_ends<C: Cell + Drop>(
-    network: &Network<C>,
+    replication: &Replication<C>,
     alloc: Global,
     header: &Header,
     cluster: ClusterNo,
 ) -> Result<Vec<u64>, AllocError>
     requires cluster { IsCluster header.now cluster }
-    requires shaped { IsShaped header.now network.now }
-    ensures { IfOk result (λ ends. ends.items ≡ queue_ends header.now cluster network.now) }
+    requires shaped { IsShaped header.now replication.now }
+    ensures { IfOk result (λ ends. ends.items ≡ queue_ends header.now cluster replication.now) }
 {
     let mut ends = Vec::new(alloc);
     for shard in 0..header.shards {
-        ends.push(queue_of(network, cluster, shard).len())?;
+        ends.push(queue_of(replication, cluster, shard).len())?;
     }
     Ok(ends)
 }
 
 /// A handover begins, where none of the domain is open.
 fn begin<C: Cell + Drop>(
-    network: &mut Network<C>,
+    replication: &mut Replication<C>,
     alloc: Global,
     header: &Header,
     at: ClusterNo,
     domain: &Name,
     target: ClusterNo,
-) -> Result<Step, AllocError>
+) -> Result<Answer, AllocError>
     requires at { IsCluster header.now at }
-    requires shaped { IsShaped header.now network.old }
-    ensures { IfOk result (λ step. leaving network.new step
-        ≡ handover_begun at network.old (begin_of header.now.clusters at domain.now target (queue_ends header.now at network.old) (cluster_at at network.old).table)) }
+    requires shaped { IsShaped header.now replication.old }
+    ensures { IfOk result (λ answer. leaving replication.new answer
+        ≡ handover_begun at replication.old (begin_of header.now.clusters at domain.now target (queue_ends header.now at replication.old) (cluster_at at replication.old).table)) }
 {
-    let places = queue_ends(network, alloc, header, at)?;
-    match network.begin_handover(header, at, domain, target, places) {
-        Ok(begun) => open(network, alloc, begun),
+    let places = queue_ends(replication, alloc, header, at)?;
+    match replication.begin_handover(header, at, domain, target, places) {
+        Ok(begun) => open(replication, alloc, begun),
         Err(BeginError::Memory) => Err(AllocError),
         Err(error) => Ok(answered(alloc, ndc_world_answers::begin_refused(alloc, error)?)),
     }
@@ -82,34 +82,34 @@ fn begin<C: Cell + Drop>(
 
 /// A handover that has begun is opened.
 fn open<C: Cell + Drop>(
-    network: &mut Network<C>,
+    replication: &mut Replication<C>,
     alloc: Global,
     begun: Handover,
-) -> Result<Step, AllocError>
-    ensures { IfOk result (λ step. leaving network.new step ≡ answered (with_handover begun network.old) (ok (decimal begun.new ∷ []))) }
+) -> Result<Answer, AllocError>
+    ensures { IfOk result (λ answer. leaving replication.new answer ≡ answered (with_handover begun replication.old) (ok (decimal begun.new ∷ []))) }
 {
     let new = begun.new;
-    network.open_handover(begun)?;
+    replication.open_handover(begun)?;
     Ok(answered(alloc, ndc_world_answers::counted(alloc, new)?))
 }
 
 /// `handover`.
 pub fn handover<C: Cell + Drop>(
-    network: &mut Network<C>,
+    replication: &mut Replication<C>,
     alloc: Global,
     header: &Header,
     at: ClusterNo,
     domain: &Name,
     target: ClusterNo,
-) -> Result<Step, AllocError>
+) -> Result<Answer, AllocError>
     requires at { IsCluster header.now at }
-    requires shaped { IsShaped header.now network.old }
-    ensures { IfOk result (λ step. leaving network.new step ≡ handover_step header.now at domain.now target network.old) }
+    requires shaped { IsShaped header.now replication.old }
+    ensures { IfOk result (λ answer. leaving replication.new answer ≡ handover_step header.now at domain.now target replication.old) }
 {
-    if is_open(network, domain) {
+    if is_open(replication, domain) {
         return Ok(answered(alloc, ndc_world_answers::still_open(alloc)?));
     }
-    begin(network, alloc, header, at, domain, target)
+    begin(replication, alloc, header, at, domain, target)
 }
 
 /// Whether a handover is of a domain, and to a target.
@@ -200,34 +200,34 @@ fn ready_by(
 
 /// Whether a handover is ready, or what keeps it.
 fn ready_in<C: Cell + Drop>(
-    network: &Network<C>,
+    replication: &Replication<C>,
     alloc: Global,
     handover: &Handover,
 ) -> Result<Result<(), ReadyError>, AllocError>
-    requires to { handover.now.to.number < length network.now.clusters }
-    requires places { length (link_at handover.now.to handover.now.from network.now).lanes ≡ length handover.now.places }
+    requires to { handover.now.to.number < length replication.now.clusters }
+    requires places { length (link_at handover.now.to handover.now.from replication.now).lanes ≡ length handover.now.places }
     requires few { length handover.now.places ≤ 64 }
-    ensures { IfOk result (λ ready. ready ≡ ready_in handover.now network.now) }
+    ensures { IfOk result (λ ready. ready ≡ ready_in handover.now replication.now) }
 {
-    let link = link_of(network, handover.to, handover.from);
+    let link = link_of(replication, handover.to, handover.from);
     let levels = levels_of(alloc, link)?;
     let late = is_late(link, &handover.domain);
-    let table = table_of(network, handover.to);
+    let table = table_of(replication, handover.to);
     Ok(ready_by(handover, levels.as_slice(), late, table))
 }
 
 /// The target merges the one record, and the handover ends.
 fn hand_over<C: Cell + Drop>(
-    network: &mut Network<C>,
+    replication: &mut Replication<C>,
     alloc: Global,
     handover: &Handover,
 ) -> Result<(), AllocError>
-    requires to { handover.now.to.number < length network.old.clusters }
-    requires from { handover.now.from.number < length network.old.clusters }
-    ensures { OnOk result (network.new ≡ handed_over handover.now network.old) }
+    requires to { handover.now.to.number < length replication.old.clusters }
+    requires from { handover.now.from.number < length replication.old.clusters }
+    ensures { OnOk result (replication.new ≡ handed_over handover.now replication.old) }
 {
-    network.merge_record(alloc, handover.to, handover.from, &handover.domain)?;
-    network.close_handover(&handover.domain);
+    replication.merge_record(alloc, handover.to, handover.from, &handover.domain)?;
+    replication.close_handover(&handover.domain);
     Ok(())
 }
 
@@ -243,24 +243,24 @@ fn version_of(table: &DomainTable, domain: &Name) -> u64
 
 /// A handover is completed where it is ready.
 fn complete_by<C: Cell + Drop>(
-    network: &mut Network<C>,
+    replication: &mut Replication<C>,
     alloc: Global,
     handover: &Handover,
     ready: Result<(), ReadyError>,
-) -> Result<Step, AllocError>
-    requires to { handover.now.to.number < length network.old.clusters }
-    requires from { handover.now.from.number < length network.old.clusters }
-    ensures { IfOk result (λ step. leaving network.new step ≡ complete_by handover.now network.old ready) }
+) -> Result<Answer, AllocError>
+    requires to { handover.now.to.number < length replication.old.clusters }
+    requires from { handover.now.from.number < length replication.old.clusters }
+    ensures { IfOk result (λ answer. leaving replication.new answer ≡ complete_by handover.now replication.old ready) }
 {
     match ready {
         Ok(()) => {
-            hand_over(network, alloc, handover)?;
-            let version = version_of(table_of(network, handover.to), &handover.domain);
+            hand_over(replication, alloc, handover)?;
+            let version = version_of(table_of(replication, handover.to), &handover.domain);
             Ok(answered(alloc, ndc_world_answers::counted(alloc, version)?))
         }
         Err(error) => {
             if let ReadyError::Overtaken { .. } = error {
-                network.close_handover(&handover.domain);
+                replication.close_handover(&handover.domain);
             }
             Ok(answered(alloc, ndc_world_answers::ready_refused(alloc, error)?))
         }
@@ -269,37 +269,37 @@ fn complete_by<C: Cell + Drop>(
 
 /// The target completes a handover to it, which is between clusters of the header and has a place for each shard.
 fn complete_one<C: Cell + Drop>(
-    network: &mut Network<C>,
+    replication: &mut Replication<C>,
     alloc: Global,
     header: &Header,
     handover: &Handover,
-) -> Result<Step, AllocError>
-    requires shaped { IsShaped header.now network.old }
+) -> Result<Answer, AllocError>
+    requires shaped { IsShaped header.now replication.old }
     requires few { header.now.shards ≤ 64 }
     requires fit { IsBetween header.now handover.now }
-    ensures { IfOk result (λ step. leaving network.new step ≡ complete_by handover.now network.old (ready_in handover.now network.old)) }
+    ensures { IfOk result (λ answer. leaving replication.new answer ≡ complete_by handover.now replication.old (ready_in handover.now replication.old)) }
 {
-    let ready = ready_in(network, alloc, handover)?;
-    complete_by(network, alloc, handover, ready)
+    let ready = ready_in(replication, alloc, handover)?;
+    complete_by(replication, alloc, handover, ready)
 }
 
 /// `complete`. Each open handover is between clusters of the header and has a place for each shard. That the target has
 /// learned all of the old version by then is
 /// `ndc_laws::handover_laws::at_the_end_of_a_handover_all_of_the_old_version_is_learned`.
 pub fn complete<C: Cell + Drop>(
-    network: &mut Network<C>,
+    replication: &mut Replication<C>,
     alloc: Global,
     header: &Header,
     at: ClusterNo,
     domain: &Name,
-) -> Result<Step, AllocError>
-    requires shaped { IsShaped header.now network.old }
+) -> Result<Answer, AllocError>
+    requires shaped { IsShaped header.now replication.old }
     requires few { header.now.shards ≤ 64 }
-    requires fit { AllByRecursion (IsBetween header.now) network.old.handovers }
-    ensures { IfOk result (λ step. leaving network.new step ≡ complete_step at domain.now network.old) }
+    requires fit { AllByRecursion (IsBetween header.now) replication.old.handovers }
+    ensures { IfOk result (λ answer. leaving replication.new answer ≡ complete_step at domain.now replication.old) }
 {
-    let Some(handover) = handover_to(network.handovers(), at, domain)? else {
+    let Some(handover) = handover_to(replication.handovers(), at, domain)? else {
         return Ok(answered(alloc, ndc_world_answers::no_handover(alloc)?));
     };
-    complete_one(network, alloc, header, &handover)
+    complete_one(replication, alloc, header, &handover)
 }

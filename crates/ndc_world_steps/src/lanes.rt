@@ -4,65 +4,65 @@ ghost use Rattle.ndc_model.specs.Moves.{rewound};
 ghost use Rattle.ndc_model.specs.Sending.{levels_answer, lose_step, move_step, pull_some_step, pull_step, repeat_step, trim_step};
 ghost use Rattle.ndc_model.specs.Steps.{answered};
 ghost use Rattle.ndc_model.specs.Texts.{ok};
-ghost use Rattle.ndc_world_network.specs.Orderly.{IsOrderly};
+ghost use Rattle.ndc_world_replication.specs.Orderly.{IsOrderly};
 ghost use Rattle.ndc_world_steps.specs.Told.{leaving};
 
-use crate::step::{Step, answered};
+use crate::answer::{Answer, answered};
 use ndc_cluster_rounds::Cell;
 use ndc_domain::ClusterNo;
 use ndc_queue::FlightError;
 use ndc_script_types::Header;
-use ndc_world_network::Network;
-use ndc_world_network::sites::{flight_of, levels_of, queue_of};
+use ndc_world_replication::Replication;
+use ndc_world_replication::publishers::{flight_of, levels_of, queue_of};
 use std::alloc::{AllocError, Global};
 
 /// `pull` for every shard.
 pub fn pull<C: Cell + Drop>(
-    network: &mut Network<C>,
+    replication: &mut Replication<C>,
     alloc: Global,
     header: &Header,
     reader: ClusterNo,
     source: ClusterNo,
-) -> Result<Step, AllocError>
+) -> Result<Answer, AllocError>
     requires source { IsCluster header.now source }
-    requires orderly { IsOrderly header.now network.old }
-    ensures { IfOk result (λ step. leaving network.new step ≡ pull_step reader source network.old) }
+    requires orderly { IsOrderly header.now replication.old }
+    ensures { IfOk result (λ answer. leaving replication.new answer ≡ pull_step reader source replication.old) }
 {
-    let sent = network.pull(alloc, header, reader, source)?;
+    let sent = replication.pull(header, reader, source)?;
     Ok(answered(alloc, ndc_world_answers::counted(alloc, sent)?))
 }
 
 /// `pull` for one shard.
 pub fn pull_some<C: Cell + Drop>(
-    network: &mut Network<C>,
+    replication: &mut Replication<C>,
     alloc: Global,
     header: &Header,
     reader: ClusterNo,
     source: ClusterNo,
     shard: u32,
     count: u64,
-) -> Result<Step, AllocError>
+) -> Result<Answer, AllocError>
     requires ends { AreTwoClusters header.now reader source }
     requires shard { shard < header.now.shards }
-    requires orderly { IsOrderly header.now network.old }
-    ensures { IfOk result (λ step. leaving network.new step ≡ pull_some_step reader source shard count network.old) }
+    requires orderly { IsOrderly header.now replication.old }
+    ensures { IfOk result (λ answer. leaving replication.new answer ≡ pull_some_step reader source shard count replication.old) }
 {
-    let sent = network.pull_some(alloc, header, reader, source, shard, count)?;
+    let sent = replication.pull_some(header, reader, source, shard, count)?;
     Ok(answered(alloc, ndc_world_answers::counted(alloc, sent)?))
 }
 
 /// `lose`.
 pub fn lose<C: Cell + Drop>(
-    network: &mut Network<C>,
+    replication: &mut Replication<C>,
     alloc: Global,
     reader: ClusterNo,
     source: ClusterNo,
     shard: u32,
     place: usize,
-) -> Result<Step, AllocError>
-    ensures { IfOk result (λ step. leaving network.new step ≡ lose_step reader source shard place network.old) }
+) -> Result<Answer, AllocError>
+    ensures { IfOk result (λ answer. leaving replication.new answer ≡ lose_step reader source shard place replication.old) }
 {
-    let answer = match network.lose(reader, source, shard as usize, place) {
+    let answer = match replication.lose(reader, source, shard as usize, place) {
         Ok(()) => ndc_world_answers::done(alloc)?,
         Err(_) => ndc_world_answers::no_place(alloc)?,
     };
@@ -71,16 +71,16 @@ pub fn lose<C: Cell + Drop>(
 
 /// `repeat`.
 pub fn repeat<C: Cell + Drop>(
-    network: &mut Network<C>,
+    replication: &mut Replication<C>,
     alloc: Global,
     reader: ClusterNo,
     source: ClusterNo,
     shard: u32,
     place: usize,
-) -> Result<Step, AllocError>
-    ensures { IfOk result (λ step. leaving network.new step ≡ repeat_step reader source shard place network.old) }
+) -> Result<Answer, AllocError>
+    ensures { IfOk result (λ answer. leaving replication.new answer ≡ repeat_step reader source shard place replication.old) }
 {
-    let answer = match network.repeat(reader, source, shard as usize, place) {
+    let answer = match replication.repeat(reader, source, shard as usize, place) {
         Ok(()) => ndc_world_answers::done(alloc)?,
         Err(FlightError::NoSuchPlace) => ndc_world_answers::no_place(alloc)?,
         Err(FlightError::Memory) => return Err(AllocError),
@@ -90,17 +90,17 @@ pub fn repeat<C: Cell + Drop>(
 
 /// `move`.
 pub fn move_to<C: Cell + Drop>(
-    network: &mut Network<C>,
+    replication: &mut Replication<C>,
     alloc: Global,
     reader: ClusterNo,
     source: ClusterNo,
     shard: u32,
     place: usize,
     to: usize,
-) -> Result<Step, AllocError>
-    ensures { IfOk result (λ step. leaving network.new step ≡ move_step reader source shard place to network.old) }
+) -> Result<Answer, AllocError>
+    ensures { IfOk result (λ answer. leaving replication.new answer ≡ move_step reader source shard place to replication.old) }
 {
-    let answer = match network.move_to(reader, source, shard as usize, place, to) {
+    let answer = match replication.move_to(reader, source, shard as usize, place, to) {
         Ok(()) => ndc_world_answers::done(alloc)?,
         Err(_) => ndc_world_answers::no_place(alloc)?,
     };
@@ -109,35 +109,35 @@ pub fn move_to<C: Cell + Drop>(
 
 /// `rewind`.
 pub fn rewind<C: Cell + Drop>(
-    network: &mut Network<C>,
+    replication: &mut Replication<C>,
     alloc: Global,
     reader: ClusterNo,
     source: ClusterNo,
-) -> Result<Step, AllocError>
-    ensures { IfOk result (λ step. leaving network.new step ≡ answered (rewound reader source network.old) (ok [])) }
+) -> Result<Answer, AllocError>
+    ensures { IfOk result (λ answer. leaving replication.new answer ≡ answered (rewound reader source replication.old) (ok [])) }
 {
-    network.rewind(reader, source);
+    replication.rewind(reader, source);
     Ok(answered(alloc, ndc_world_answers::done(alloc)?))
 }
 
 /// `trim`.
 pub fn trim<C: Cell + Drop>(
-    network: &mut Network<C>,
+    replication: &mut Replication<C>,
     alloc: Global,
     header: &Header,
     source: ClusterNo,
-) -> Result<Step, AllocError>
+) -> Result<Answer, AllocError>
     requires source { IsCluster header.now source }
-    requires orderly { IsOrderly header.now network.old }
-    ensures { IfOk result (λ step. leaving network.new step ≡ trim_step header.now source network.old) }
+    requires orderly { IsOrderly header.now replication.old }
+    ensures { IfOk result (λ answer. leaving replication.new answer ≡ trim_step header.now source replication.old) }
 {
-    let dropped = network.trim(header, source);
+    let dropped = replication.trim(header, source);
     Ok(answered(alloc, ndc_world_answers::counted(alloc, dropped)?))
 }
 
 /// `levels`.
 pub fn levels<C: Cell + Drop>(
-    network: &Network<C>,
+    replication: &Replication<C>,
     alloc: Global,
     header: &Header,
     reader: ClusterNo,
@@ -146,11 +146,11 @@ pub fn levels<C: Cell + Drop>(
 ) -> Result<Vec<u8>, AllocError>
     requires source { IsCluster header.now source }
     requires shard { shard < header.now.shards }
-    requires orderly { IsOrderly header.now network.now }
-    ensures { IfOk result (λ text. text.items ≡ levels_answer reader source shard network.now) }
+    requires orderly { IsOrderly header.now replication.now }
+    ensures { IfOk result (λ text. text.items ≡ levels_answer reader source shard replication.now) }
 {
-    let queue = queue_of(network, source, shard);
-    let levels = levels_of(network, reader, source, shard);
-    let flight = flight_of(network, reader, source, shard).len() as u64;
+    let queue = queue_of(replication, source, shard);
+    let levels = levels_of(replication, reader, source, shard);
+    let flight = flight_of(replication, reader, source, shard).len() as u64;
     ndc_world_answers::levels(alloc, queue.len(), queue.first(), levels, flight)
 }

@@ -10,12 +10,12 @@ ghost use Rattle.ndc_model.specs.Letters.{damage_step, damaged, letter_job, lett
 ghost use Rattle.ndc_model.specs.Moves.{from_world, jobs_done, renewed};
 ghost use Rattle.ndc_model.specs.World.{cluster_at, flight_at, with_flight};
 ghost use Rattle.ndc_model.specs.Conditions.{MayDoAll};
-ghost use Rattle.ndc_world_network.specs.Dones.{notes_in};
-ghost use Rattle.ndc_world_network.specs.Orderly.{IsOrderly};
+ghost use Rattle.ndc_world_replication.specs.Dones.{notes_in};
+ghost use Rattle.ndc_world_replication.specs.Orderly.{IsOrderly};
 ghost use Rattle.ndc_world_steps.specs.Told.{leaving};
 
+use crate::answer::{Answer, answered};
 use crate::moving::{Telling, tell_all};
-use crate::step::{Step, answered};
 use ndc_cluster_reads::Reads;
 use ndc_cluster_rounds::Cell;
 use ndc_domain::ClusterNo;
@@ -25,36 +25,36 @@ use ndc_model_cells::{Job, ShardJob, shard_of};
 use ndc_port::Gate;
 use ndc_script_types::Header;
 use ndc_text::print_batch;
-use ndc_world_network::sites::{cell_of, flight_of, site_of};
-use ndc_world_network::{Done, Network};
+use ndc_world_replication::publishers::{cell_of, flight_of, publisher_of};
+use ndc_world_replication::{Done, Replication};
 use std::alloc::{AllocError, Global};
 use std::thread::Threads;
 
 /// `letters`.
 pub fn letters<C: Cell + Drop>(
-    network: &Network<C>,
+    replication: &Replication<C>,
     alloc: Global,
     header: &Header,
     reader: ClusterNo,
 ) -> Result<Vec<u8>, AllocError>
-    requires reader { reader.number < length network.now.clusters }
-    requires sources { AllByRecursion (λ letter. letter.source.number < count_of header.now.clusters) (cluster_at reader network.now).letters }
-    ensures { IfOk result (λ text. text.items ≡ letters_answer header.now (cluster_at reader network.now).letters) }
+    requires reader { reader.number < length replication.now.clusters }
+    requires sources { AllByRecursion (λ letter. letter.source.number < count_of header.now.clusters) (cluster_at reader replication.now).letters }
+    ensures { IfOk result (λ text. text.items ≡ letters_answer header.now (cluster_at reader replication.now).letters) }
 {
-    let letters = site_of(network, reader).letters();
+    let letters = publisher_of(replication, reader).letters();
     ndc_world_answers::letters(alloc, header, letters.list())
 }
 
 /// `purge`.
 pub fn purge<C: Cell + Drop>(
-    network: &mut Network<C>,
+    replication: &mut Replication<C>,
     alloc: Global,
     reader: ClusterNo,
-) -> Result<Step, AllocError>
-    requires reader { reader.number < length network.old.clusters }
-    ensures { IfOk result (λ step. leaving network.new step ≡ purge_step reader network.old) }
+) -> Result<Answer, AllocError>
+    requires reader { reader.number < length replication.old.clusters }
+    ensures { IfOk result (λ answer. leaving replication.new answer ≡ purge_step reader replication.old) }
 {
-    let mut letters = network.replace_letters(reader, Letters::new(alloc));
+    let mut letters = replication.replace_letters(reader, Letters::new(alloc));
     let count = letters.purge();
     Ok(answered(alloc, ndc_world_answers::counted(alloc, count)?))
 }
@@ -81,7 +81,7 @@ fn letter_of(
 
 /// What comes of the message at a place in flight, where there is one and so many bytes of it arrive.
 fn letter_at<C: Cell + Drop>(
-    network: &Network<C>,
+    replication: &Replication<C>,
     alloc: Global,
     reader: ClusterNo,
     source: ClusterNo,
@@ -89,9 +89,9 @@ fn letter_at<C: Cell + Drop>(
     place: usize,
     cut: usize,
 ) -> Result<Option<Letter>, AllocError>
-    ensures { IfOk result (λ letter. letter ≡ option_map (λ sent. letter_of source cut sent.batch) (slice_get (flight_at reader source shard network.now) place)) }
+    ensures { IfOk result (λ letter. letter ≡ option_map (λ sent. letter_of source cut sent.batch) (slice_get (flight_at reader source shard replication.now) place)) }
 {
-    let flight = flight_of(network, reader, source, shard);
+    let flight = flight_of(replication, reader, source, shard);
     if flight.len() <= place {
         return Ok(None);
     }
@@ -100,39 +100,39 @@ fn letter_at<C: Cell + Drop>(
 
 /// A letter is taken by a reader, and it is told whether it is whole; else it goes last among those that are set aside.
 fn take<C: Cell + Drop>(
-    network: &mut Network<C>,
+    replication: &mut Replication<C>,
     alloc: Global,
     reader: ClusterNo,
     letter: Letter,
 ) -> Result<bool, AllocError>
-    requires { reader.number < length network.old.clusters }
+    requires { reader.number < length replication.old.clusters }
     ensures whole { IfOk result (λ whole. whole ≡ is_whole letter) }
-    ensures letters { OnOk result (network.new ≡ with_letters reader (with_letter letter (cluster_at reader network.old).letters) network.old) }
+    ensures letters { OnOk result (replication.new ≡ with_letters reader (with_letter letter (cluster_at reader replication.old).letters) replication.old) }
 {
-    let mut letters = network.replace_letters(reader, Letters::new(alloc));
+    let mut letters = replication.replace_letters(reader, Letters::new(alloc));
     let taken = letters.take(letter)?;
-    network.replace_letters(reader, letters);
+    replication.replace_letters(reader, letters);
     Ok(matches!(taken, Taken::Whole { .. }))
 }
 
 /// A message that comes damaged leaves the flight and is set aside, where its bytes are not read as the batch that it was.
 fn set_aside<C: Cell + Drop>(
-    network: &mut Network<C>,
+    replication: &mut Replication<C>,
     alloc: Global,
     reader: ClusterNo,
     source: ClusterNo,
     shard: u32,
     place: usize,
     letter: Letter,
-) -> Result<Step, AllocError>
-    requires reader { reader.number < length network.old.clusters }
-    requires place { place < length (flight_at reader source shard network.old) }
-    ensures { IfOk result (λ step. leaving network.new step ≡ damaged reader source shard place network.old letter) }
+) -> Result<Answer, AllocError>
+    requires reader { reader.number < length replication.old.clusters }
+    requires place { place < length (flight_at reader source shard replication.old) }
+    ensures { IfOk result (λ answer. leaving replication.new answer ≡ damaged reader source shard place replication.old letter) }
 {
-    if take(network, alloc, reader, letter)? {
+    if take(replication, alloc, reader, letter)? {
         return Ok(answered(alloc, ndc_world_answers::whole(alloc)?));
     }
-    match network.lose(reader, source, shard as usize, place) {
+    match replication.lose(reader, source, shard as usize, place) {
         Ok(()) => Ok(answered(alloc, ndc_world_answers::set_aside(alloc)?)),
         Err(_) => unreachable!(),
     }
@@ -140,37 +140,37 @@ fn set_aside<C: Cell + Drop>(
 
 /// `damage`.
 pub fn damage<C: Cell + Drop>(
-    network: &mut Network<C>,
+    replication: &mut Replication<C>,
     alloc: Global,
     reader: ClusterNo,
     source: ClusterNo,
     shard: u32,
     place: usize,
     cut: usize,
-) -> Result<Step, AllocError>
-    requires { reader.number < length network.old.clusters }
-    ensures { IfOk result (λ step. leaving network.new step ≡ damage_step reader source shard place cut network.old) }
+) -> Result<Answer, AllocError>
+    requires { reader.number < length replication.old.clusters }
+    ensures { IfOk result (λ answer. leaving replication.new answer ≡ damage_step reader source shard place cut replication.old) }
 {
-    let Some(letter) = letter_at(network, alloc, reader, source, shard, place, cut)? else {
+    let Some(letter) = letter_at(replication, alloc, reader, source, shard, place, cut)? else {
         return Ok(answered(alloc, ndc_world_answers::no_place(alloc)?));
     };
-    set_aside(network, alloc, reader, source, shard, place, letter)
+    set_aside(replication, alloc, reader, source, shard, place, letter)
 }
 
 /// The job in which the message of a letter arrives, where its source has it.
 fn letter_job<C: Reads + Drop>(
-    network: &Network<C>,
+    replication: &Replication<C>,
     alloc: Global,
     header: &Header,
     letter: &Letter,
 ) -> Result<Option<ShardJob>, AllocError>
     requires shards { 0 < header.now.shards }
-    requires shaped { IsShaped header.now network.now }
+    requires shaped { IsShaped header.now replication.now }
     requires source { IsCluster header.now letter.now.source }
-    ensures { IfOk result (λ asked. asked ≡ letter_job header.now network.now letter.now) }
+    ensures { IfOk result (λ asked. asked ≡ letter_job header.now replication.now letter.now) }
 {
     let shard = shard_of(&letter.domain, &letter.workflow, header.shards);
-    let cell = cell_of(network, letter.source, shard);
+    let cell = cell_of(replication, letter.source, shard);
     let found = cell.message_at(alloc, &letter.domain, &letter.workflow, letter.key)?;
     Ok(found.map(|message| ShardJob {
         shard,
@@ -190,19 +190,19 @@ fn add_job(jobs: &mut Vec<ShardJob>, asked: Option<ShardJob>) -> Result<(), Allo
 
 /// The jobs in which the messages of letters arrive, in order.
 fn letter_jobs<C: Reads + Drop>(
-    network: &Network<C>,
+    replication: &Replication<C>,
     alloc: Global,
     header: &Header,
     letters: &[Letter],
 ) -> Result<Vec<ShardJob>, AllocError>
     requires shards { 0 < header.now.shards }
-    requires shaped { IsShaped header.now network.now }
+    requires shaped { IsShaped header.now replication.now }
     requires sources { AllByRecursion (λ letter. IsCluster header.now letter.source) letters.now }
-    ensures { IfOk result (λ jobs. jobs.items ≡ filter_map (letter_job header.now network.now) letters.now) }
+    ensures { IfOk result (λ jobs. jobs.items ≡ filter_map (letter_job header.now replication.now) letters.now) }
 {
     let mut jobs = Vec::new(alloc);
     for place in 0..letters.len() {
-        let asked = letter_job(network, alloc, header, &letters[place])?;
+        let asked = letter_job(replication, alloc, header, &letters[place])?;
         add_job(&mut jobs, asked)?;
     }
     Ok(jobs)
@@ -210,25 +210,25 @@ fn letter_jobs<C: Reads + Drop>(
 
 /// The jobs in which the messages of the letters of a cluster arrive, in order.
 fn jobs_of<C: Reads + Drop>(
-    network: &Network<C>,
+    replication: &Replication<C>,
     alloc: Global,
     header: &Header,
     reader: ClusterNo,
 ) -> Result<Vec<ShardJob>, AllocError>
     requires reader { IsCluster header.now reader }
     requires shards { 0 < header.now.shards }
-    requires shaped { IsShaped header.now network.now }
-    requires sources { AllByRecursion (λ letter. IsCluster header.now letter.source) (cluster_at reader network.now).letters }
-    ensures { IfOk result (λ jobs. jobs.items ≡ letter_jobs header.now reader network.now) }
+    requires shaped { IsShaped header.now replication.now }
+    requires sources { AllByRecursion (λ letter. IsCluster header.now letter.source) (cluster_at reader replication.now).letters }
+    ensures { IfOk result (λ jobs. jobs.items ≡ letter_jobs header.now reader replication.now) }
 {
-    let letters = site_of(network, reader).letters();
-    let jobs = letter_jobs(network, alloc, header, letters.list())?;
+    let letters = publisher_of(replication, reader).letters();
+    let jobs = letter_jobs(replication, alloc, header, letters.list())?;
     Ok(jobs)
 }
 
 /// The messages of all letters arrive in order, and the list is emptied.
 fn serve<R: Threads + Sync, G: Gate, C: Reads + Drop + Send>(
-    network: &mut Network<C>,
+    replication: &mut Replication<C>,
     rt: &R,
     alloc: Global,
     gate: &G,
@@ -239,16 +239,16 @@ fn serve<R: Threads + Sync, G: Gate, C: Reads + Drop + Send>(
     requires workers { 0 < workers }
     requires reader { IsCluster header.now reader }
     requires shards { 0 < header.now.shards }
-    requires shaped { IsShaped header.now network.old }
-    requires sources { AllByRecursion (λ letter. IsCluster header.now letter.source) (cluster_at reader network.old).letters }
-    requires allowed { MayDoAll C.allows header.now reader (letter_jobs header.now reader network.old) network.old }
-    ensures world { OnOk result (network.new ≡ with_letters reader [] (jobs_done header.now reader (letter_jobs header.now reader network.old) (from_world network.old)).world) }
-    ensures notes { IfOk result (λ done. notes_in done ≡ (jobs_done header.now reader (letter_jobs header.now reader network.old) (from_world network.old)).notes) }
+    requires shaped { IsShaped header.now replication.old }
+    requires sources { AllByRecursion (λ letter. IsCluster header.now letter.source) (cluster_at reader replication.old).letters }
+    requires allowed { MayDoAll C.allows header.now reader (letter_jobs header.now reader replication.old) replication.old }
+    ensures world { OnOk result (replication.new ≡ with_letters reader [] (jobs_done header.now reader (letter_jobs header.now reader replication.old) (from_world replication.old)).world) }
+    ensures notes { IfOk result (λ done. notes_in done ≡ (jobs_done header.now reader (letter_jobs header.now reader replication.old) (from_world replication.old)).notes) }
 {
-    let jobs = jobs_of(network, alloc, header, reader)?;
+    let jobs = jobs_of(replication, alloc, header, reader)?;
     let asked = jobs.as_slice();
-    let replies = network.do_jobs(rt, alloc, gate, workers, header, reader, asked)?;
-    network.replace_letters(reader, Letters::new(alloc));
+    let replies = replication.do_jobs(rt, alloc, gate, workers, header, reader, asked)?;
+    replication.replace_letters(reader, Letters::new(alloc));
     Ok(Done {
         cluster: reader,
         jobs,
@@ -259,27 +259,27 @@ fn serve<R: Threads + Sync, G: Gate, C: Reads + Drop + Send>(
 
 /// `mergeletters`.
 pub fn merge<R: Threads + Sync, G: Gate, C: Reads + Drop + Send>(
-    network: &mut Network<C>,
+    replication: &mut Replication<C>,
     rt: &R,
     alloc: Global,
     gate: &G,
     workers: u32,
     header: &Header,
     reader: ClusterNo,
-) -> Result<Step, AllocError>
+) -> Result<Answer, AllocError>
     requires workers { 0 < workers }
     requires reader { IsCluster header.now reader }
     requires shards { 0 < header.now.shards }
-    requires orderly { IsOrderly header.now network.old }
-    requires sources { AllByRecursion (λ letter. IsCluster header.now letter.source) (cluster_at reader network.old).letters }
-    requires allowed { MayDoAll C.allows header.now reader (letter_jobs header.now reader network.old) network.old }
-    ensures { IfOk result (λ step. leaving network.new step ≡ mergeletters_step header.now reader network.old) }
+    requires orderly { IsOrderly header.now replication.old }
+    requires sources { AllByRecursion (λ letter. IsCluster header.now letter.source) (cluster_at reader replication.old).letters }
+    requires allowed { MayDoAll C.allows header.now reader (letter_jobs header.now reader replication.old) replication.old }
+    ensures { IfOk result (λ answer. leaving replication.new answer ≡ mergeletters_step header.now reader replication.old) }
 {
-    let done = serve(network, rt, alloc, gate, workers, header, reader)?;
-    network.renew(header, reader);
+    let done = serve(replication, rt, alloc, gate, workers, header, reader)?;
+    replication.renew(header, reader);
     let mut dones = Vec::new(alloc);
     dones.push(done)?;
     let Telling { tally, seen } = tell_all(alloc, dones)?;
     let answer = ndc_world_answers::arrived(alloc, tally)?;
-    Ok(Step::new(answer, seen))
+    Ok(Answer { text: answer, seen })
 }

@@ -9,11 +9,11 @@ ghost use Rattle.ndc_model.specs.Sending.{bootstrap_step, resend_step, settle_st
 ghost use Rattle.ndc_model.specs.Steps.{seen_of};
 ghost use Rattle.ndc_model.specs.World.{link_at};
 ghost use Rattle.ndc_model.specs.Conditions.{MayDoAll, MaySettle, MayWork, again_jobs, late_jobs};
-ghost use Rattle.ndc_world_network.specs.Dones.{notes_in};
-ghost use Rattle.ndc_world_network.specs.Orderly.{IsOrderly};
+ghost use Rattle.ndc_world_replication.specs.Dones.{notes_in};
+ghost use Rattle.ndc_world_replication.specs.Orderly.{IsOrderly};
 ghost use Rattle.ndc_world_steps.specs.Told.{leaving};
 
-use crate::step::Step;
+use crate::answer::Answer;
 use ndc_cluster_reads::Reads;
 use ndc_cluster_rounds::Cell;
 use ndc_domain::ClusterNo;
@@ -21,8 +21,8 @@ use ndc_index::Seen;
 use ndc_port::Gate;
 use ndc_script_types::Header;
 use ndc_world_answers::{Tally, add_seen};
-use ndc_world_network::sites::link_of;
-use ndc_world_network::{Done, Network, Worked};
+use ndc_world_replication::publishers::link_of;
+use ndc_world_replication::{Done, Replication, Worked};
 use std::alloc::{AllocError, Global};
 use std::thread::Threads;
 
@@ -74,54 +74,56 @@ fn in_turn(alloc: Global, first: Done, second: Done) -> Result<Vec<Done>, AllocE
 
 /// `work`.
 pub fn work<R: Threads + Sync, G: Gate, C: Cell + Drop + Send>(
-    network: &mut Network<C>,
+    replication: &mut Replication<C>,
     rt: &R,
     alloc: Global,
     gate: &G,
     workers: u32,
     header: &Header,
     cluster: ClusterNo,
-) -> Result<Step, AllocError>
+) -> Result<Answer, AllocError>
     requires workers { 0 < workers }
     requires cluster { IsCluster header.now cluster }
-    requires orderly { IsOrderly header.now network.old }
-    requires allowed { MayWork C.allows header.now cluster network.old }
-    ensures { IfOk result (λ step. leaving network.new step ≡ work_step header.now cluster network.old) }
+    requires orderly { IsOrderly header.now replication.old }
+    requires allowed { MayWork C.allows header.now cluster replication.old }
+    ensures { IfOk result (λ answer. leaving replication.new answer ≡ work_step header.now cluster replication.old) }
 {
-    let Worked { arrived, reapplied } = network.work(rt, alloc, gate, workers, header, cluster)?;
+    let Worked { arrived, reapplied } = replication.work(
+        rt, alloc, gate, workers, header, cluster,
+    )?;
     let dones = in_turn(alloc, arrived, reapplied)?;
     let Telling { tally, seen } = tell_all(alloc, dones)?;
     let answer = ndc_world_answers::worked(alloc, tally)?;
-    Ok(Step::new(answer, seen))
+    Ok(Answer { text: answer, seen })
 }
 
 /// `resend`.
 pub fn resend<R: Threads + Sync, G: Gate, C: Reads + Drop + Send>(
-    network: &mut Network<C>,
+    replication: &mut Replication<C>,
     rt: &R,
     alloc: Global,
     gate: &G,
     workers: u32,
     header: &Header,
     reader: ClusterNo,
-) -> Result<Step, AllocError>
+) -> Result<Answer, AllocError>
     requires workers { 0 < workers }
     requires reader { IsCluster header.now reader }
-    requires reached { IsReachedSometime header.now network.old }
-    requires allowed { MayDoAll C.allows header.now reader (again_jobs header.now reader network.old) network.old }
-    ensures { IfOk result (λ step. leaving network.new step ≡ resend_step header.now reader network.old) }
+    requires reached { IsReachedSometime header.now replication.old }
+    requires allowed { MayDoAll C.allows header.now reader (again_jobs header.now reader replication.old) replication.old }
+    ensures { IfOk result (λ answer. leaving replication.new answer ≡ resend_step header.now reader replication.old) }
 {
-    let done = network.resend(rt, alloc, gate, workers, header, reader)?;
+    let done = replication.resend(rt, alloc, gate, workers, header, reader)?;
     let mut dones = Vec::new(alloc);
     dones.push(done)?;
     let Telling { tally, seen } = tell_all(alloc, dones)?;
     let answer = ndc_world_answers::arrived(alloc, tally)?;
-    Ok(Step::new(answer, seen))
+    Ok(Answer { text: answer, seen })
 }
 
 /// `bootstrap`.
 pub fn bootstrap<R: Threads + Sync, G: Gate, C: Cell + Drop + Send>(
-    network: &mut Network<C>,
+    replication: &mut Replication<C>,
     rt: &R,
     alloc: Global,
     gate: &G,
@@ -129,25 +131,25 @@ pub fn bootstrap<R: Threads + Sync, G: Gate, C: Cell + Drop + Send>(
     header: &Header,
     reader: ClusterNo,
     source: ClusterNo,
-) -> Result<Step, AllocError>
+) -> Result<Answer, AllocError>
     requires workers { 0 < workers }
     requires clusters { AreTwoClusters header.now reader source }
-    requires orderly { IsOrderly header.now network.old }
-    requires allowed { MayDoAll C.allows header.now reader (late_jobs header.now reader source network.old) network.old }
-    ensures { IfOk result (λ step. leaving network.new step ≡ bootstrap_step header.now reader source network.old) }
+    requires orderly { IsOrderly header.now replication.old }
+    requires allowed { MayDoAll C.allows header.now reader (late_jobs header.now reader source replication.old) replication.old }
+    ensures { IfOk result (λ answer. leaving replication.new answer ≡ bootstrap_step header.now reader source replication.old) }
 {
-    let domains = late_count(network, reader, source);
-    let done = network.bootstrap(rt, alloc, gate, workers, header, reader, source)?;
+    let domains = late_count(replication, reader, source);
+    let done = replication.bootstrap(rt, alloc, gate, workers, header, reader, source)?;
     let mut dones = Vec::new(alloc);
     dones.push(done)?;
     let Telling { tally, seen } = tell_all(alloc, dones)?;
     let answer = ndc_world_answers::brought(alloc, domains, tally)?;
-    Ok(Step::new(answer, seen))
+    Ok(Answer { text: answer, seen })
 }
 
 /// A settlement: what its jobs came to, and what they made learned.
 pub fn settlement<R: Threads + Sync, G: Gate, C: Cell + Drop + Send>(
-    network: &mut Network<C>,
+    replication: &mut Replication<C>,
     rt: &R,
     alloc: Global,
     gate: &G,
@@ -155,41 +157,45 @@ pub fn settlement<R: Threads + Sync, G: Gate, C: Cell + Drop + Send>(
     header: &Header,
 ) -> Result<Telling, AllocError>
     requires workers { 0 < workers }
-    requires orderly { IsOrderly header.now network.old }
-    requires allowed { MaySettle C.allows header.now network.old }
-    ensures world { OnOk result (network.new ≡ (after_settlement header.now network.old).world) }
-    ensures tally { IfOk result (λ telling. telling.tally ≡ tally_of (after_settlement header.now network.old).notes) }
-    ensures seen { IfOk result (λ telling. telling.seen.items ≡ seen_of (after_settlement header.now network.old).notes) }
+    requires orderly { IsOrderly header.now replication.old }
+    requires allowed { MaySettle C.allows header.now replication.old }
+    ensures world { OnOk result (replication.new ≡ (after_settlement header.now replication.old).world) }
+    ensures tally { IfOk result (λ telling. telling.tally ≡ tally_of (after_settlement header.now replication.old).notes) }
+    ensures seen { IfOk result (λ telling. telling.seen.items ≡ seen_of (after_settlement header.now replication.old).notes) }
 {
-    let dones = network.settle(rt, alloc, gate, workers, header)?;
+    let dones = replication.settle(rt, alloc, gate, workers, header)?;
     let telling = tell_all(alloc, dones)?;
     Ok(telling)
 }
 
 /// `settle`.
 pub fn settle<R: Threads + Sync, G: Gate, C: Cell + Drop + Send>(
-    network: &mut Network<C>,
+    replication: &mut Replication<C>,
     rt: &R,
     alloc: Global,
     gate: &G,
     workers: u32,
     header: &Header,
-) -> Result<Step, AllocError>
+) -> Result<Answer, AllocError>
     requires workers { 0 < workers }
-    requires orderly { IsOrderly header.now network.old }
-    requires allowed { MaySettle C.allows header.now network.old }
-    ensures { IfOk result (λ step. leaving network.new step ≡ settle_step header.now network.old) }
+    requires orderly { IsOrderly header.now replication.old }
+    requires allowed { MaySettle C.allows header.now replication.old }
+    ensures { IfOk result (λ answer. leaving replication.new answer ≡ settle_step header.now replication.old) }
 {
-    let Telling { tally, seen } = settlement(network, rt, alloc, gate, workers, header)?;
+    let Telling { tally, seen } = settlement(replication, rt, alloc, gate, workers, header)?;
     let answer = ndc_world_answers::settled(alloc, tally)?;
-    Ok(Step::new(answer, seen))
+    Ok(Answer { text: answer, seen })
 }
 
 /// Of how many domains a reader is a member late, as to a source.
-fn late_count<C: Cell + Drop>(network: &Network<C>, reader: ClusterNo, source: ClusterNo) -> u64
-    ensures { result ≡ length (link_at reader source network.now).late }
+fn late_count<C: Cell + Drop>(
+    replication: &Replication<C>,
+    reader: ClusterNo,
+    source: ClusterNo,
+) -> u64
+    ensures { result ≡ length (link_at reader source replication.now).late }
 {
-    match link_of(network, reader, source) {
+    match link_of(replication, reader, source) {
         Some(link) => link.late().len() as u64,
         None => 0,
     }

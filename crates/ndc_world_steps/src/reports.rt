@@ -16,7 +16,7 @@ ghost use Rattle.ndc_progress.specs.Reports.{merge_count, merged, stale_by};
 ghost use Rattle.ndc_world_steps.specs.Told.{only_answer};
 
 use crate::activities::{pending_activity, told_of};
-use crate::step::{Step, answered};
+use crate::answer::{Answer, answered};
 use ndc_cluster_reads::Reads;
 use ndc_command::CommandError;
 use ndc_domain::ClusterNo;
@@ -24,8 +24,8 @@ use ndc_event::Name;
 use ndc_progress::{ActivityRef, Progress, Report};
 use ndc_script_types::Header;
 use ndc_shard_runs::Runs;
-use ndc_world_network::Network;
-use ndc_world_network::sites::{runs_of, table_of};
+use ndc_world_replication::Replication;
+use ndc_world_replication::publishers::{runs_of, table_of};
 use std::alloc::{AllocError, Global};
 use std::mem;
 
@@ -46,9 +46,9 @@ fn tell(
     version: u64,
     activity: ActivityRef,
     details: &Name,
-) -> Result<Step, AllocError>
+) -> Result<Answer, AllocError>
     requires { AllByRecursion (λ report. report.beat < 10 ^ 12) own.old }
-    ensures answer { IfOk result (λ step. step ≡ only_answer (told_by details.now own.old (Ok (version, activity))).answer) }
+    ensures answer { IfOk result (λ answer. answer ≡ only_answer (told_by details.now own.old (Ok (version, activity))).answer) }
     ensures reports { OnOk result (own.new ≡ (told_by details.now own.old (Ok (version, activity))).reports) }
 {
     if let Some(stale) = stale_by(version, own.find(&activity)) {
@@ -60,7 +60,7 @@ fn tell(
 
 /// The version with which a cluster may tell of an activity of a workflow of which this is learned, and the activity.
 fn told_with<C: Reads + Drop>(
-    network: &Network<C>,
+    replication: &Replication<C>,
     alloc: Global,
     header: &Header,
     cluster: ClusterNo,
@@ -69,18 +69,18 @@ fn told_with<C: Reads + Drop>(
     id: &Name,
     runs: &Runs,
 ) -> Result<(u64, ActivityRef), CommandError>
-    requires there { cluster.number < length network.now.clusters }
-    requires runs { runs.now ≡ learned_at header.now cluster domain.now workflow.now network.now }
+    requires there { cluster.number < length replication.now.clusters }
+    requires runs { runs.now ≡ learned_at header.now cluster domain.now workflow.now replication.now }
     requires sound { IsSound runs.now }
-    ensures { Gives Memory (λ told. told) result (told_at header.now cluster domain.now workflow.now id.now network.now) }
+    ensures { Gives Memory (λ told. told) result (told_at header.now cluster domain.now workflow.now id.now replication.now) }
 {
-    let table = table_of(network, cluster);
+    let table = table_of(replication, cluster);
     told_of(alloc, header, cluster, table, domain, workflow, id, runs)
 }
 
 /// The version with which a cluster may tell of an activity of a workflow, and the activity.
 fn told_at<C: Reads + Drop>(
-    network: &Network<C>,
+    replication: &Replication<C>,
     alloc: Global,
     header: &Header,
     cluster: ClusterNo,
@@ -90,15 +90,33 @@ fn told_at<C: Reads + Drop>(
 ) -> Result<(u64, ActivityRef), CommandError>
     requires shards { 0 < header.now.shards }
     requires cluster { IsCluster header.now cluster }
-    requires shaped { IsShaped header.now network.now }
-    requires sound { IsSound (learned_at header.now cluster domain.now workflow.now network.now) }
-    ensures { Gives Memory (λ told. told) result (told_at header.now cluster domain.now workflow.now id.now network.now) }
+    requires shaped { IsShaped header.now replication.now }
+    requires sound { IsSound (learned_at header.now cluster domain.now workflow.now replication.now) }
+    ensures { Gives Memory (λ told. told) result (told_at header.now cluster domain.now workflow.now id.now replication.now) }
 {
-    match runs_of(network, header, cluster, domain, workflow) {
-        Some(runs) => told_with(network, alloc, header, cluster, domain, workflow, id, runs),
+    match runs_of(replication, header, cluster, domain, workflow) {
+        Some(runs) => told_with(
+            replication,
+            alloc,
+            header,
+            cluster,
+            domain,
+            workflow,
+            id,
+            runs,
+        ),
         None => {
             let none = Runs::new(alloc);
-            told_with(network, alloc, header, cluster, domain, workflow, id, &none)
+            told_with(
+                replication,
+                alloc,
+                header,
+                cluster,
+                domain,
+                workflow,
+                id,
+                &none,
+            )
         }
     }
 }
@@ -106,7 +124,7 @@ fn told_at<C: Reads + Drop>(
 /// `beat`. The reports that clusters hold stand beside them. What is learned of the workflow is sound. In time of the
 /// versions on the current branch.
 pub fn beat<C: Reads + Drop>(
-    network: &Network<C>,
+    replication: &Replication<C>,
     reports: &mut Vec<Progress>,
     alloc: Global,
     header: &Header,
@@ -115,21 +133,21 @@ pub fn beat<C: Reads + Drop>(
     workflow: &Name,
     id: &Name,
     details: &Name,
-) -> Result<Step, AllocError>
+) -> Result<Answer, AllocError>
     requires shards { 0 < header.now.shards }
     requires cluster { IsCluster header.now cluster }
-    requires shaped { IsShaped header.now network.now }
-    requires sound { IsSound (learned_at header.now cluster domain.now workflow.now network.now) }
+    requires shaped { IsShaped header.now replication.now }
+    requires sound { IsSound (learned_at header.now cluster domain.now workflow.now replication.now) }
     requires seat { cluster.number < length reports.old.items }
     requires beats { AllByRecursion (λ report. report.beat < 10 ^ 12) (slice_index_or reports.old.items cluster.number []) }
-    ensures { IfOk result (λ step. (w : World) → StandFor network.now reports.old.items w
-        → IsLeftBy (beat_step header.now cluster domain.now workflow.now id.now details.now w) network.now reports.new.items step.answer step.seen) }
+    ensures { IfOk result (λ answer. (w : World) → StandFor replication.now reports.old.items w
+        → IsLeftBy (beat_step header.now cluster domain.now workflow.now id.now details.now w) replication.now reports.new.items answer.text answer.seen) }
 {
-    match told_at(network, alloc, header, cluster, domain, workflow, id) {
+    match told_at(replication, alloc, header, cluster, domain, workflow, id) {
         Ok((version, activity)) => {
             let own = &mut reports[cluster.number as usize];
-            let step = tell(alloc, own, version, activity, details)?;
-            Ok(step)
+            let answer = tell(alloc, own, version, activity, details)?;
+            Ok(answer)
         }
         Err(CommandError::Refused(why)) => {
             Ok(answered(alloc, ndc_world_answers::refusal(alloc, why)?))
@@ -140,16 +158,16 @@ pub fn beat<C: Reads + Drop>(
 
 /// `sync`.
 pub fn sync<C: Reads + Drop>(
-    network: &Network<C>,
+    replication: &Replication<C>,
     reports: &mut Vec<Progress>,
     alloc: Global,
     to: ClusterNo,
     from: ClusterNo,
-) -> Result<Step, AllocError>
+) -> Result<Answer, AllocError>
     requires to { to.number < length reports.old.items }
     requires from { from.number < length reports.old.items }
     requires differ { to.number ≢ from.number }
-    ensures { IfOk result (λ step. (w : World) → StandFor network.now reports.old.items w → IsLeftBy (sync_step to from w) network.now reports.new.items step.answer step.seen) }
+    ensures { IfOk result (λ answer. (w : World) → StandFor replication.now reports.old.items w → IsLeftBy (sync_step to from w) replication.now reports.new.items answer.text answer.seen) }
 {
     let count = take_over(alloc, reports, to.number as usize, from.number as usize)?;
     Ok(answered(alloc, ndc_world_answers::counted(alloc, count)?))
@@ -216,7 +234,7 @@ fn shown(
 
 /// What is shown of an activity of a workflow.
 fn shown_at<C: Reads + Drop>(
-    network: &Network<C>,
+    replication: &Replication<C>,
     alloc: Global,
     own: &Progress,
     header: &Header,
@@ -227,11 +245,11 @@ fn shown_at<C: Reads + Drop>(
 ) -> Result<Vec<u8>, AllocError>
     requires shards { 0 < header.now.shards }
     requires cluster { IsCluster header.now cluster }
-    requires shaped { IsShaped header.now network.now }
-    requires sound { IsSound (learned_at header.now cluster domain.now workflow.now network.now) }
-    ensures { IfOk result (λ text. text.items ≡ shown_of domain.now workflow.now id.now own.now (learned_at header.now cluster domain.now workflow.now network.now)) }
+    requires shaped { IsShaped header.now replication.now }
+    requires sound { IsSound (learned_at header.now cluster domain.now workflow.now replication.now) }
+    ensures { IfOk result (λ text. text.items ≡ shown_of domain.now workflow.now id.now own.now (learned_at header.now cluster domain.now workflow.now replication.now)) }
 {
-    match runs_of(network, header, cluster, domain, workflow) {
+    match runs_of(replication, header, cluster, domain, workflow) {
         Some(runs) => shown(alloc, own, domain, workflow, id, runs),
         None => ndc_world_answers::no_workflow(alloc),
     }
@@ -239,7 +257,7 @@ fn shown_at<C: Reads + Drop>(
 
 /// `progress`. What is learned of the workflow is sound. In time of the versions on the current branch.
 pub fn progress<C: Reads + Drop>(
-    network: &Network<C>,
+    replication: &Replication<C>,
     reports: &[Progress],
     alloc: Global,
     header: &Header,
@@ -250,12 +268,21 @@ pub fn progress<C: Reads + Drop>(
 ) -> Result<Vec<u8>, AllocError>
     requires shards { 0 < header.now.shards }
     requires cluster { IsCluster header.now cluster }
-    requires shaped { IsShaped header.now network.now }
-    requires sound { IsSound (learned_at header.now cluster domain.now workflow.now network.now) }
+    requires shaped { IsShaped header.now replication.now }
+    requires sound { IsSound (learned_at header.now cluster domain.now workflow.now replication.now) }
     requires seat { cluster.number < length reports.now }
-    ensures { IfOk result (λ text. (w : World) → StandFor network.now reports.now w → text.items ≡ progress_answer header.now cluster domain.now workflow.now id.now w) }
+    ensures { IfOk result (λ text. (w : World) → StandFor replication.now reports.now w → text.items ≡ progress_answer header.now cluster domain.now workflow.now id.now w) }
 {
     let own = &reports[cluster.number as usize];
-    let text = shown_at(network, alloc, own, header, cluster, domain, workflow, id)?;
+    let text = shown_at(
+        replication,
+        alloc,
+        own,
+        header,
+        cluster,
+        domain,
+        workflow,
+        id,
+    )?;
     Ok(text)
 }

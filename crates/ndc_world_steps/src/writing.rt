@@ -7,7 +7,7 @@ ghost use Rattle.ndc_model.specs.Steps.{command_step, reset_step, writing_step};
 ghost use Rattle.ndc_model.specs.Conditions.{MayDoAll};
 ghost use Rattle.ndc_world_steps.specs.Told.{first_answer, leaving};
 
-use crate::step::Step;
+use crate::answer::Answer;
 use ndc_cluster_rounds::Cell;
 use ndc_command::Command;
 use ndc_domain::ClusterNo;
@@ -16,7 +16,7 @@ use ndc_model_cells::{Job, JobReply, ShardJob, shard_of};
 use ndc_port::Gate;
 use ndc_script_types::Header;
 use ndc_world_answers::add_seen;
-use ndc_world_network::Network;
+use ndc_world_replication::Replication;
 use std::alloc::{AllocError, Global};
 use std::thread::Threads;
 
@@ -32,7 +32,7 @@ fn first_answer(alloc: Global, replies: &[JobReply]) -> Result<Vec<u8>, AllocErr
 
 /// A cluster does one job that writes.
 fn ask<R: Threads + Sync, G: Gate, C: Cell + Drop + Send>(
-    network: &mut Network<C>,
+    replication: &mut Replication<C>,
     rt: &R,
     alloc: Global,
     gate: &G,
@@ -40,27 +40,27 @@ fn ask<R: Threads + Sync, G: Gate, C: Cell + Drop + Send>(
     header: &Header,
     cluster: ClusterNo,
     asked: ShardJob,
-) -> Result<Step, AllocError>
+) -> Result<Answer, AllocError>
     requires workers { 0 < workers }
     requires cluster { IsCluster header.now cluster }
     requires shard { asked.shard < header.now.shards }
-    requires shaped { IsShaped header.now network.old }
-    requires allowed { MayDoAll C.allows header.now cluster (asked ∷ []) network.old }
-    ensures { IfOk result (λ step. leaving network.new step ≡ writing_step header.now cluster asked network.old) }
+    requires shaped { IsShaped header.now replication.old }
+    requires allowed { MayDoAll C.allows header.now cluster (asked ∷ []) replication.old }
+    ensures { IfOk result (λ answer. leaving replication.new answer ≡ writing_step header.now cluster asked replication.old) }
 {
     let mut jobs = Vec::new(alloc);
     jobs.push(asked)?;
     let jobs = jobs.as_slice();
-    let replies = network.do_jobs(rt, alloc, gate, workers, header, cluster, jobs)?;
+    let replies = replication.do_jobs(rt, alloc, gate, workers, header, cluster, jobs)?;
     let answer = first_answer(alloc, replies.as_slice())?;
     let mut seen = Vec::new(alloc);
     add_seen(&mut seen, cluster, jobs, replies)?;
-    Ok(Step::new(answer, seen))
+    Ok(Answer { text: answer, seen })
 }
 
 /// A command line.
 pub fn command<R: Threads + Sync, G: Gate, C: Cell + Drop + Send>(
-    network: &mut Network<C>,
+    replication: &mut Replication<C>,
     rt: &R,
     alloc: Global,
     gate: &G,
@@ -70,13 +70,13 @@ pub fn command<R: Threads + Sync, G: Gate, C: Cell + Drop + Send>(
     domain: &Name,
     workflow: &Name,
     command: &Command,
-) -> Result<Step, AllocError>
+) -> Result<Answer, AllocError>
     requires workers { 0 < workers }
     requires cluster { IsCluster header.now cluster }
     requires shards { 0 < header.now.shards }
-    requires shaped { IsShaped header.now network.old }
-    requires allowed { MayDoAll C.allows header.now cluster (job_for header.now domain.now workflow.now (job.Command domain.now workflow.now command.now) ∷ []) network.old }
-    ensures { IfOk result (λ step. leaving network.new step ≡ command_step header.now cluster domain.now workflow.now command.now network.old) }
+    requires shaped { IsShaped header.now replication.old }
+    requires allowed { MayDoAll C.allows header.now cluster (job_for header.now domain.now workflow.now (job.Command domain.now workflow.now command.now) ∷ []) replication.old }
+    ensures { IfOk result (λ answer. leaving replication.new answer ≡ command_step header.now cluster domain.now workflow.now command.now replication.old) }
 {
     let asked = ShardJob {
         shard: shard_of(domain, workflow, header.shards),
@@ -86,12 +86,21 @@ pub fn command<R: Threads + Sync, G: Gate, C: Cell + Drop + Send>(
             command: command.try_copy()?,
         },
     };
-    ask(network, rt, alloc, gate, workers, header, cluster, asked)
+    ask(
+        replication,
+        rt,
+        alloc,
+        gate,
+        workers,
+        header,
+        cluster,
+        asked,
+    )
 }
 
 /// `reset`.
 pub fn reset<R: Threads + Sync, G: Gate, C: Cell + Drop + Send>(
-    network: &mut Network<C>,
+    replication: &mut Replication<C>,
     rt: &R,
     alloc: Global,
     gate: &G,
@@ -101,13 +110,13 @@ pub fn reset<R: Threads + Sync, G: Gate, C: Cell + Drop + Send>(
     domain: &Name,
     workflow: &Name,
     event: u64,
-) -> Result<Step, AllocError>
+) -> Result<Answer, AllocError>
     requires workers { 0 < workers }
     requires cluster { IsCluster header.now cluster }
     requires shards { 0 < header.now.shards }
-    requires shaped { IsShaped header.now network.old }
-    requires allowed { MayDoAll C.allows header.now cluster (job_for header.now domain.now workflow.now (job.Reset domain.now workflow.now event) ∷ []) network.old }
-    ensures { IfOk result (λ step. leaving network.new step ≡ reset_step header.now cluster domain.now workflow.now event network.old) }
+    requires shaped { IsShaped header.now replication.old }
+    requires allowed { MayDoAll C.allows header.now cluster (job_for header.now domain.now workflow.now (job.Reset domain.now workflow.now event) ∷ []) replication.old }
+    ensures { IfOk result (λ answer. leaving replication.new answer ≡ reset_step header.now cluster domain.now workflow.now event replication.old) }
 {
     let asked = ShardJob {
         shard: shard_of(domain, workflow, header.shards),
@@ -117,5 +126,14 @@ pub fn reset<R: Threads + Sync, G: Gate, C: Cell + Drop + Send>(
             event,
         },
     };
-    ask(network, rt, alloc, gate, workers, header, cluster, asked)
+    ask(
+        replication,
+        rt,
+        alloc,
+        gate,
+        workers,
+        header,
+        cluster,
+        asked,
+    )
 }

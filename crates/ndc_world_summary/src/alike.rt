@@ -1,5 +1,5 @@
 ghost use Rattle.std.specs.Prelude.{◌≡◌, map, option_copied, IfOk};
-ghost use Rattle.ndc_world_network.specs.Found.{batches_or_none};
+ghost use Rattle.ndc_world_replication.specs.Found.{batches_or_none};
 ghost use Rattle.ndc_world_summary.specs.Same.{same_batches};
 ghost use Rattle.ndc_world_summary.specs.Summaries.{are_alike, learned_with};
 

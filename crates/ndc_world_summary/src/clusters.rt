@@ -2,7 +2,7 @@ ghost use Rattle.std.specs.Prelude.{◌≡◌, ◌<◌, length, map, IfOk};
 ghost use Rattle.std.specs.List.{AllByRecursion};
 ghost use Rattle.ndc_model_cells.specs.Jobs.{cell_for};
 ghost use Rattle.ndc_model.specs.Fair.{IsShaped};
-ghost use Rattle.ndc_world_network.specs.Sites.{SiteValue};
+ghost use Rattle.ndc_world_replication.specs.Publishers.{PublisherValue};
 ghost use Rattle.ndc_world_summary.specs.Summaries.{cells_of, totals_in, totals_of};
 
 use crate::parts::{Totals, added, totals_in};
@@ -10,29 +10,29 @@ use crate::tables::have_one_table;
 use ndc_cluster_reads::Reads;
 use ndc_cluster_rounds::Cell;
 use ndc_script_types::Header;
-use ndc_world_network::{Network, Site};
+use ndc_world_replication::{Publisher, Replication};
 use std::alloc::{AllocError, Global};
 
 /// The cell of a cluster for a shard.
-fn cell_of<C: Cell + Drop>(site: &Site<C>, shard: u32) -> &C
-    requires { shard < length site.now.cluster.cells }
-    ensures { C.cell result.now ≡ cell_for shard site.now.cluster.cells }
+fn cell_of<C: Cell + Drop>(publisher: &Publisher<C>, shard: u32) -> &C
+    requires { shard < length publisher.now.cluster.cells }
+    ensures { C.cell result.now ≡ cell_for shard publisher.now.cluster.cells }
 {
-    &site.cells()[shard as usize]
+    &publisher.cells()[shard as usize]
 }
 
 /// The cells of clusters for a shard.
 fn cells_of<C: Cell + Drop>(
     alloc: Global,
-    sites: &[Site<C>],
+    publishers: &[Publisher<C>],
     shard: u32,
 ) -> Result<Vec<&C>, AllocError>
-    requires { AllByRecursion (λ (site : SiteValue). shard < length site.cluster.cells) sites.now }
-    ensures { IfOk result (λ cells. map (λ cell. C.cell cell.now) cells.items ≡ map (λ (site : SiteValue). cell_for shard site.cluster.cells) sites.now) }
+    requires { AllByRecursion (λ (publisher : PublisherValue). shard < length publisher.cluster.cells) publishers.now }
+    ensures { IfOk result (λ cells. map (λ cell. C.cell cell.now) cells.items ≡ map (λ (publisher : PublisherValue). cell_for shard publisher.cluster.cells) publishers.now) }
 {
     let mut cells = Vec::new(alloc);
-    for site in sites {
-        cells.push(cell_of(site, shard))?;
+    for publisher in publishers {
+        cells.push(cell_of(publisher, shard))?;
     }
     Ok(cells)
 }
@@ -41,14 +41,14 @@ fn cells_of<C: Cell + Drop>(
 fn shard_totals<C: Reads + Drop>(
     alloc: Global,
     header: &Header,
-    network: &Network<C>,
+    replication: &Replication<C>,
     shard: u32,
 ) -> Result<Totals, AllocError>
-    requires shaped { IsShaped header.now network.now }
+    requires shaped { IsShaped header.now replication.now }
     requires shard { shard < header.now.shards }
-    ensures { IfOk result (λ part. part ≡ totals_in (cells_of network.now shard)) }
+    ensures { IfOk result (λ part. part ≡ totals_in (cells_of replication.now shard)) }
 {
-    let cells = cells_of(alloc, network.sites(), shard)?;
+    let cells = cells_of(alloc, replication.publishers(), shard)?;
     totals_in(alloc, cells.as_slice())
 }
 
@@ -57,19 +57,19 @@ fn shard_totals<C: Reads + Drop>(
 pub fn totals<C: Reads + Drop>(
     alloc: Global,
     header: &Header,
-    network: &Network<C>,
+    replication: &Replication<C>,
 ) -> Result<Totals, AllocError>
-    requires { IsShaped header.now network.now }
-    ensures { IfOk result (λ totals. totals ≡ totals_of header.now network.now) }
+    requires { IsShaped header.now replication.now }
+    ensures { IfOk result (λ totals. totals ≡ totals_of header.now replication.now) }
 {
     let mut whole = Totals {
         batches: 0,
         workflows: 0,
         branches: 0,
-        same: have_one_table(network.sites()),
+        same: have_one_table(replication.publishers()),
     };
     for shard in 0..header.shards {
-        let part = shard_totals(alloc, header, network, shard)?;
+        let part = shard_totals(alloc, header, replication, shard)?;
         whole = added(whole, part)?;
     }
     Ok(whole)

@@ -1,10 +1,10 @@
 ghost use Rattle.std.specs.Prelude.{◌≡◌, map};
-ghost use Rattle.ndc_world_network.specs.Sites.{SiteValue};
+ghost use Rattle.ndc_world_replication.specs.Publishers.{PublisherValue};
 ghost use Rattle.ndc_world_summary.specs.Summaries.{are_one_table, same_table};
 
 use ndc_cluster_rounds::Cell;
 use ndc_domain::DomainTable;
-use ndc_world_network::Site;
+use ndc_world_replication::Publisher;
 
 /// Whether two tables hold the same records.
 fn is_same(one: &DomainTable, two: &DomainTable) -> bool
@@ -14,14 +14,14 @@ fn is_same(one: &DomainTable, two: &DomainTable) -> bool
 }
 
 /// Whether all clusters hold one table.
-pub(crate) fn have_one_table<C: Cell + Drop>(sites: &[Site<C>]) -> bool
-    ensures { result ≡ are_one_table (map (λ (site : SiteValue). site.cluster.table) sites.now) }
+pub(crate) fn have_one_table<C: Cell + Drop>(publishers: &[Publisher<C>]) -> bool
+    ensures { result ≡ are_one_table (map (λ (publisher : PublisherValue). publisher.cluster.table) publishers.now) }
 {
-    let Some((first, others)) = sites.split_first() else {
+    let Some((first, others)) = publishers.split_first() else {
         return true;
     };
-    for site in others {
-        if !is_same(first.table(), site.table()) {
+    for publisher in others {
+        if !is_same(first.table(), publisher.table()) {
             return false;
         }
     }

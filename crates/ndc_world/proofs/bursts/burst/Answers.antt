@@ -7,5 +7,5 @@ use Rattle.ndc_world.proofs.bursts.burst.Goals as goal
 
 pub do_jobs-requires-clause-shards : goal.do_jobs-requires-clause-shards
 do_jobs-requires-clause-shards g c κs within =
-    subst (AllByRecursion (λ (asked : ShardJob). asked.shard < length (cluster_at c.args.cluster c.args.network.now).cells)) (sym (c.as_slice.ensures.value ∙ c.in_ok-jobs.ensures))
-    (jobs_there c.args.header.now c.args.cluster c.args.burst.now c.args.network.now c.requires.shaped c.requires.cluster c.requires.shards)
+    subst (AllByRecursion (λ (asked : ShardJob). asked.shard < length (cluster_at c.args.cluster c.args.replication.now).cells)) (sym (c.as_slice.ensures.value ∙ c.in_ok-jobs.ensures))
+    (jobs_there c.args.header.now c.args.cluster c.args.burst.now c.args.replication.now c.requires.shaped c.requires.cluster c.requires.shards)

@@ -1,5 +1,5 @@
 use Rattle.std.proofs.Common.{[]}
-use Rattle.ndc_world_network.proofs.AlikeLemmas.{one_more_alike}
+use Rattle.ndc_world_replication.proofs.AlikeLemmas.{one_more_alike}
 use Rattle.ndc_world.proofs.reporting.no_reports.Goals as goal
 
 pub loop-cluster-preserved : goal.loop-cluster-preserved

@@ -1,7 +1,7 @@
 use Rattle.std.proofs.Common.{◌≡◌, Bool, codes, [], ◌∷◌, option_copied, if◌then◌else◌, subst}
 use Rattle.std.specs.Prelude.{IfOk}
 use Rattle.ndc_model.specs.Texts.{ok}
-use Rattle.ndc_world_network.specs.Found.{batches_or_none}
+use Rattle.ndc_world_replication.specs.Found.{batches_or_none}
 use Rattle.ndc_world_queries.proofs.CompareLemmas.{compared}
 use Rattle.ndc_world_queries.proofs.comparing.compare.Goals as goal
 

@@ -7,5 +7,5 @@ use Rattle.ndc_world_queries.proofs.gaps.all_gaps.Goals as goal
 pub loop-shard-preserved : goal.loop-shard-preserved
 loop-shard-preserved g c =
     c.in_ok-add_shard.ensures
-    ∙ ap (λ (l : List GapOf). l ++ gaps_at c.args.cluster c.args.network.now c.loop-shard.shard) c.loop-shard.invariant
-    ∙ shards_more (gaps_at c.args.cluster c.args.network.now) c.loop-shard.shard
+    ∙ ap (λ (l : List GapOf). l ++ gaps_at c.args.cluster c.args.replication.now c.loop-shard.shard) c.loop-shard.invariant
+    ∙ shards_more (gaps_at c.args.cluster c.args.replication.now) c.loop-shard.shard

@@ -4,14 +4,14 @@ use Rattle.ndc_domain.specs.Outcome.{Answers}
 use Rattle.ndc_domain.specs.Records.{join_of}
 use Rattle.ndc_domain.specs.declared.record.JoinError.{JoinError}
 use Rattle.ndc_model.specs.World.{World, cluster_at}
-use Rattle.ndc_world_network.specs.Tables.{table_left}
+use Rattle.ndc_world_replication.specs.Tables.{table_left}
 use Rattle.ndc_world_steps.proofs.JoinLemmas.{join_refuses}
 use Rattle.ndc_world_steps.specs.Told.{leaving, only_answer}
 use Rattle.ndc_world_steps.proofs.domains.join.Goals as goal
 
 pub returns-in_ok-join_refused-in-Err : goal.returns-in_ok-join_refused-in-Err
 returns-in_ok-join_refused-in-Err g c =
-    let w = c.args.network.now in
+    let w = c.args.replication.now in
     let wanted = join_of c.args.at c.args.domain.now c.args.member (cluster_at c.args.at w).table in
     let refused_by : table_left c.args.at w wanted ≡ Err c.in-Err.error =
     subst (λ r. Answers (λ _. c.join.new.self) r (table_left c.args.at w wanted)) c.in-Err.is c.in_ok-join.ensures.answer in

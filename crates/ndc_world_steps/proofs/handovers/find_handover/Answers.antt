@@ -1,5 +1,5 @@
 use Rattle.ndc_world_steps.specs.Links.{is_handover_to}
-use Rattle.ndc_world_network.proofs.FindLemmas.{found, nowhere}
+use Rattle.ndc_world_replication.proofs.FindLemmas.{found, nowhere}
 use Rattle.ndc_world_steps.proofs.handovers.find_handover.Goals as goal
 
 pub returns-in_default : goal.returns-in_default

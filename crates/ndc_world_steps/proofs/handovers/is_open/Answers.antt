@@ -2,7 +2,7 @@ use Rattle.std.proofs.Common.{ap, ◌∙◌}
 use Rattle.ndc_graceful.specs.declared.handover.Handover.{Handover}
 use Rattle.std.specs.Prelude.{List, find, is_some}
 use Rattle.ndc_model.specs.Handovers.{is_handover_of}
-use Rattle.ndc_world_network.proofs.FindLemmas.{any_found}
+use Rattle.ndc_world_replication.proofs.FindLemmas.{any_found}
 use Rattle.ndc_world_steps.proofs.handovers.is_open.Goals as goal
 
 pub returns : goal.returns

@@ -8,5 +8,5 @@ pub loop-shard-preserved : goal.loop-shard-preserved
 loop-shard-preserved g c =
     c.in_ok-push.ensures.items
     ∙ ap (λ (ends : List ℕ). ends ++ c.len.result ∷ []) c.loop-shard.invariant
-    ∙ ap (λ (n : ℕ). map (λ shard. length (queue_at c.args.cluster shard c.args.network.now)) (range_with_len 0 c.loop-shard.shard) ++ n ∷ []) (c.len.ensures.len ∙ c.queue_of.ensures.len)
-    ∙ sym (map-range_with_len_more (λ (shard : ℕ). length (queue_at c.args.cluster shard c.args.network.now)) 0 c.loop-shard.shard c.loop-shard.shard (omega arith))
+    ∙ ap (λ (n : ℕ). map (λ shard. length (queue_at c.args.cluster shard c.args.replication.now)) (range_with_len 0 c.loop-shard.shard) ++ n ∷ []) (c.len.ensures.len ∙ c.queue_of.ensures.len)
+    ∙ sym (map-range_with_len_more (λ (shard : ℕ). length (queue_at c.args.cluster shard c.args.replication.now)) 0 c.loop-shard.shard c.loop-shard.shard (omega arith))

@@ -8,15 +8,15 @@ use Rattle.ndc_world_steps.proofs.letters.serve.Goals as goal
 
 pub do_jobs-requires-clause-shards : goal.do_jobs-requires-clause-shards
 do_jobs-requires-clause-shards g c κs within =
-    subst (AllByRecursion (λ (asked : ShardJob). asked.shard < length (cluster_at c.args.reader c.args.network.now).cells)) (sym (c.as_slice-asked.ensures.value ∙ c.in_ok-jobs.ensures))
-    (letter_jobs_there c.args.header.now c.args.network.now c.args.reader c.requires.shaped c.requires.reader c.requires.shards)
+    subst (AllByRecursion (λ (asked : ShardJob). asked.shard < length (cluster_at c.args.reader c.args.replication.now).cells)) (sym (c.as_slice-asked.ensures.value ∙ c.in_ok-jobs.ensures))
+    (letter_jobs_there c.args.header.now c.args.replication.now c.args.reader c.requires.shaped c.requires.reader c.requires.shards)
 
 pub returns-clause-world : goal.returns-clause-world
 returns-clause-world g c =
-    served_world c.args.header.now c.args.reader c.args.network.now c.do_jobs.new.self c.replace_letters.new.self c.as_slice-asked.result.now (letter_jobs c.args.header.now c.args.reader c.args.network.now) c.new.result
+    served_world c.args.header.now c.args.reader c.args.replication.now c.do_jobs.new.self c.replace_letters.new.self c.as_slice-asked.result.now (letter_jobs c.args.header.now c.args.reader c.args.replication.now) c.new.result
     (c.as_slice-asked.ensures.value ∙ c.in_ok-jobs.ensures) c.in_ok-replies.ensures.done c.new.ensures c.replace_letters.ensures.replaced
 
 pub returns-clause-notes : goal.returns-clause-notes
 returns-clause-notes g c =
-    served_notes c.args.header.now c.args.reader c.args.network.now c.in_ok-jobs.jobs.items c.as_slice-asked.result.now (letter_jobs c.args.header.now c.args.reader c.args.network.now) c.in_ok-replies.replies.items
+    served_notes c.args.header.now c.args.reader c.args.replication.now c.in_ok-jobs.jobs.items c.as_slice-asked.result.now (letter_jobs c.args.header.now c.args.reader c.args.replication.now) c.in_ok-replies.replies.items
     c.in_ok-jobs.ensures (c.as_slice-asked.ensures.value ∙ c.in_ok-jobs.ensures) c.in_ok-replies.ensures.replies

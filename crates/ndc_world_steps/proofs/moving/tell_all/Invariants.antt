@@ -2,7 +2,7 @@ use Rattle.std.proofs.Common.{◌≡◌, ◌++◌}
 use Rattle.std.specs.List.{flat_map}
 use Rattle.ndc_world_answers.specs.Tallies.{no_tally, with_notes}
 use Rattle.ndc_model.specs.Steps.{seen_of}
-use Rattle.ndc_world_network.specs.Dones.{notes_in}
+use Rattle.ndc_world_replication.specs.Dones.{notes_in}
 use Rattle.ndc_world_steps.proofs.moving.tell_all.Given as goal
 
 -- what is counted and listed, with what is left, is the whole

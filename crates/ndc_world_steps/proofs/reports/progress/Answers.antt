@@ -9,6 +9,6 @@ use Rattle.ndc_world_steps.proofs.reports.progress.Goals as goal
 pub returns : goal.returns
 returns g c =
     λ w stand. c.in_ok-text.ensures
-    ∙ ap (λ (own : List Report). shown_of c.args.domain.now c.args.workflow.now c.args.id.now own (learned_at c.args.header.now c.args.cluster c.args.domain.now c.args.workflow.now c.args.network.now))
+    ∙ ap (λ (own : List Report). shown_of c.args.domain.now c.args.workflow.now c.args.id.now own (learned_at c.args.header.now c.args.cluster c.args.domain.now c.args.workflow.now c.args.replication.now))
     (seat_is c.args.reports.now c.args.cluster.number c.index-reports-cluster.result c.requires.seat c.index-reports-cluster.is)
-    ∙ progress-left c.args.network.now c.args.reports.now w stand c.args.header.now c.args.cluster c.args.domain.now c.args.workflow.now c.args.id.now
+    ∙ progress-left c.args.replication.now c.args.reports.now w stand c.args.header.now c.args.cluster c.args.domain.now c.args.workflow.now c.args.id.now

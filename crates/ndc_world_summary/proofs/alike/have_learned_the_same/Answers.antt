@@ -1,6 +1,6 @@
 use Rattle.std.proofs.Common.{◌≡◌, ◌↔◌, IsTrue, List, option_copied, subst}
 use Rattle.ndc_event.specs.declared.batch.Batch.{Batch}
-use Rattle.ndc_world_network.specs.Found.{batches_or_none}
+use Rattle.ndc_world_replication.specs.Found.{batches_or_none}
 use Rattle.ndc_world_summary.specs.Summaries.{learned_with}
 use Rattle.ndc_world_summary.proofs.BatchLemmas.{batches_told}
 use Rattle.ndc_world_summary.proofs.alike.have_learned_the_same.Goals as goal

@@ -6,10 +6,10 @@ use Rattle.ndc_world_summary.specs.declared.parts.Totals.{Totals}
 use Rattle.ndc_world_summary.proofs.clusters.shard_totals.Goals as goal
 
 pub cells_of-requires : goal.cells_of-requires
-cells_of-requires g c = cells_there c.args.header.now c.args.network.now c.args.shard c.sites.result.now c.requires.shaped c.requires.shard c.sites.ensures.clusters
+cells_of-requires g c = cells_there c.args.header.now c.args.replication.now c.args.shard c.publishers.result.now c.requires.shaped c.requires.shard c.publishers.ensures.clusters
 
 pub returns : goal.returns
 returns g c =
     subst (λ (part : Totals). IfOk c.totals_in.result (λ whole. whole ≡ part))
-    (ap totals_in (ap (map (λ cell. g.C.Cell.cell cell.now)) c.as_slice.ensures.value ∙ c.in_ok-cells.ensures ∙ cells_same c.args.network.now c.args.shard c.sites.result.now c.sites.ensures.clusters))
+    (ap totals_in (ap (map (λ cell. g.C.Cell.cell cell.now)) c.as_slice.ensures.value ∙ c.in_ok-cells.ensures ∙ cells_same c.args.replication.now c.args.shard c.publishers.result.now c.publishers.ensures.clusters))
     c.totals_in.ensures

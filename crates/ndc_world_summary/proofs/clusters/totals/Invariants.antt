@@ -4,4 +4,4 @@ use Rattle.ndc_world_summary.specs.Summaries.{added, cells_of, totals_in, tables
 use Rattle.ndc_world_summary.proofs.clusters.totals.Given as goal
 
 abbrev pub invariant-loop-shard : goal.invariant-loop-shard
-invariant-loop-shard g l = l.whole ≡ fold added (tables_alone l.network) (map (λ shard. totals_in (cells_of l.network shard)) (range_with_len 0 l.shard))
+invariant-loop-shard g l = l.whole ≡ fold added (tables_alone l.replication) (map (λ shard. totals_in (cells_of l.replication shard)) (range_with_len 0 l.shard))

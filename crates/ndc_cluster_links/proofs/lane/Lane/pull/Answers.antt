@@ -7,7 +7,8 @@ pub returns-clause-most : goal.returns-clause-most
 returns-clause-most c =
     omega (
       arith,
-      ap length c.in_ok-sent.ensures,
-      length-filter (is_addressed c.args.reader c.args.table.now) c.entries_of-entries.result.now,
-      count_by-le-length (is_addressed c.args.reader c.args.table.now) c.entries_of-entries.result.now,
+      ap length c.keep_addressed.ensures,
+      length-filter (is_addressed c.args.reader c.args.table.now) c.in_ok-sent.sent.items,
+      count_by-le-length (is_addressed c.args.reader c.args.table.now) c.in_ok-sent.sent.items,
+      c.in_ok-sent.ensures.most,
     )

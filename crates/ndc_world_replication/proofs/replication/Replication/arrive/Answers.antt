@@ -1,0 +1,33 @@
+use Rattle.std.proofs.Common.{◌<◌, List, length, ap, sym, subst, ◌∙◌}
+use Rattle.std.specs.List.{AllByRecursion}
+use Rattle.ndc_model_cells.specs.declared.job.ShardJob.{ShardJob}
+use Rattle.ndc_model.specs.Moves.{by_link, flights_arrived, from_world, in_flight, jobs_done, without_flights_to}
+use Rattle.ndc_model.specs.World.{World, cluster_at}
+use Rattle.ndc_world_replication.proofs.ShardLemmas.{arriving_there}
+use Rattle.ndc_model.specs.Conditions.{MayDoAll}
+use Rattle.ndc_world_replication.proofs.replication.Replication.arrive.Goals as goal
+
+pub do_all-requires-clause-shards : goal.do_all-requires-clause-shards
+do_all-requires-clause-shards g c κs within =
+    subst (λ (w : World). AllByRecursion (λ (asked : ShardJob). asked.shard < length (cluster_at c.args.reader w).cells) c.in_ok-jobs.jobs.items) (sym c.in_ok-jobs.ensures.taken)
+    (subst (AllByRecursion (λ (asked : ShardJob). asked.shard < length (cluster_at c.args.reader c.args.self.now).cells)) (sym c.in_ok-jobs.ensures.jobs)
+    (arriving_there c.args.header.now c.args.self.now c.args.reader c.requires.reader c.requires.shaped (by_link c.args.reader in_flight c.args.self.now.links)))
+
+pub do_all-requires-clause-allowed : goal.do_all-requires-clause-allowed
+do_all-requires-clause-allowed g c κs within =
+    subst (λ (w : World). MayDoAll g.C.Cell.allows c.args.header.now c.args.reader c.in_ok-jobs.jobs.items w) (sym c.in_ok-jobs.ensures.taken)
+    (subst (λ (jobs : List ShardJob). MayDoAll g.C.Cell.allows c.args.header.now c.args.reader jobs c.args.self.now) (sym c.in_ok-jobs.ensures.jobs) c.requires.allowed)
+
+pub returns-clause-arrived : goal.returns-clause-arrived
+unfolding flights_arrived
+returns-clause-arrived g c =
+    c.in_ok-done.ensures.done
+    ∙ ap (λ (w : World). (jobs_done c.args.header.now c.args.reader c.in_ok-jobs.jobs.items (from_world w)).world) c.in_ok-jobs.ensures.taken
+    ∙ ap (λ (jobs : List ShardJob). (jobs_done c.args.header.now c.args.reader jobs (from_world (without_flights_to c.args.reader c.args.self.now))).world) c.in_ok-jobs.ensures.jobs
+
+pub returns-clause-notes : goal.returns-clause-notes
+unfolding flights_arrived
+returns-clause-notes g c =
+    c.in_ok-done.ensures.notes
+    ∙ ap (λ (w : World). (jobs_done c.args.header.now c.args.reader c.in_ok-jobs.jobs.items (from_world w)).notes) c.in_ok-jobs.ensures.taken
+    ∙ ap (λ (jobs : List ShardJob). (jobs_done c.args.header.now c.args.reader jobs (from_world (without_flights_to c.args.reader c.args.self.now))).notes) c.in_ok-jobs.ensures.jobs

@@ -1,0 +1,46 @@
+use Rattle.std.proofs.Common.{◌<◌, length, set, ap, sym, subst, ◌∙◌, arith}
+use Rattle.std.proofs.lemmas.List.{length-map}
+use Rattle.std.specs.List.{AllByRecursion}
+use Rattle.std.proofs.lemmas.Result.{on_ok_weaker}
+use Rattle.ndc_model_cells.specs.declared.job.ShardJob.{ShardJob}
+use Rattle.ndc_cluster_rounds.specs.Homes.{HomeValue, desk_of}
+use Rattle.ndc_model_cells.specs.Jobs.{cells_after}
+use Rattle.ndc_model.specs.World.{Cluster, World, cluster_at, home_at, with_cells}
+use Rattle.ndc_world_replication.proofs.LinkLemmas.{stands}
+use Rattle.ndc_world_replication.proofs.QuietLemmas.{no_item}
+use Rattle.ndc_world_replication.proofs.WorkLemmas.{cells_change, no_job_done, no_job_replied}
+use Rattle.ndc_world_replication.specs.Replications.{StandsAt, world_of}
+use Rattle.ndc_world_replication.specs.Publishers.{PublisherValue, with_publisher_cells}
+use Rattle.ndc_world_replication.proofs.replication.Replication.do_jobs.Goals as goal
+
+pub returns-clause-done : goal.returns-clause-done
+returns-clause-done g c =
+    let w = world_of c.self.inside.publishers.items c.self.inside.links.items c.self.inside.handovers.items in
+    let below : c.args.cluster.number < length c.self.inside.publishers.items =
+    omega (arith, c.requires.cluster, ap (λ (v : World). length v.clusters) c.self.view_is, length-map c.self.inside.publishers.items (λ (s : PublisherValue). s.cluster)) in
+    let own : StandsAt w c.args.cluster c.index_mut-publisher.result.now = stands c.self.inside.publishers.items c.self.inside.links.items c.self.inside.handovers.items c.args.cluster c.index_mut-publisher.result.now below c.index_mut-publisher.ensures.value in
+    on_ok_weaker c.round.result (λ done.
+    ap (λ publisher. world_of (set c.self.inside.publishers.items c.args.cluster.number publisher) c.self.inside.links.items c.self.inside.handovers.items)
+    (done
+    ∙ ap (λ (home : HomeValue). with_publisher_cells (cells_after (desk_of home c.index_mut-publisher.result.now.cluster.table) c.args.jobs.now c.index_mut-publisher.result.now.cluster.cells) c.index_mut-publisher.result.now) c.home_in-home.ensures
+    ∙ ap (λ (cluster : Cluster). with_publisher_cells (cells_after (record { clusters = c.args.header.now.clusters; me = c.args.cluster; limit = c.args.header.now.limit; table = cluster.table }) c.args.jobs.now cluster.cells) c.index_mut-publisher.result.now) (sym own.cluster_is))
+    ∙ cells_change c.self.inside.publishers.items c.self.inside.links.items c.self.inside.handovers.items c.args.cluster c.index_mut-publisher.result.now below c.index_mut-publisher.ensures.value
+    (cells_after (home_at c.args.header.now c.args.cluster w) c.args.jobs.now (cluster_at c.args.cluster w).cells)
+    ∙ ap (λ (v : World). with_cells c.args.cluster (cells_after (home_at c.args.header.now c.args.cluster v) c.args.jobs.now (cluster_at c.args.cluster v).cells) v) c.self.view_is)
+    c.round.ensures.cells
+
+pub returns-then-is_empty-clause-done : goal.returns-then-is_empty-clause-done
+returns-then-is_empty-clause-done g c = no_job_done (home_at c.args.header.now c.args.cluster c.args.self.now) c.args.jobs.now c.args.cluster c.args.self.now (no_item c.args.jobs.now (sym c.if-is_empty.ensures))
+
+pub returns-then-is_empty-clause-replies : goal.returns-then-is_empty-clause-replies
+returns-then-is_empty-clause-replies g c =
+    no_job_replied (home_at c.args.header.now c.args.cluster c.args.self.now) c.args.jobs.now (cluster_at c.args.cluster c.args.self.now).cells c.new.result.items (no_item c.args.jobs.now (sym c.if-is_empty.ensures)) c.new.ensures.items
+
+pub round-requires-clause-shards : goal.round-requires-clause-shards
+round-requires-clause-shards g c κs within =
+    let w = world_of c.self.inside.publishers.items c.self.inside.links.items c.self.inside.handovers.items in
+    let below : c.args.cluster.number < length c.self.inside.publishers.items =
+    omega (arith, c.requires.cluster, ap (λ (v : World). length v.clusters) c.self.view_is, length-map c.self.inside.publishers.items (λ (s : PublisherValue). s.cluster)) in
+    let own : StandsAt w c.args.cluster c.index_mut-publisher.result.now = stands c.self.inside.publishers.items c.self.inside.links.items c.self.inside.handovers.items c.args.cluster c.index_mut-publisher.result.now below c.index_mut-publisher.ensures.value in
+    subst (λ (cluster : Cluster). AllByRecursion (λ (asked : ShardJob). asked.shard < length cluster.cells) c.args.jobs.now)
+    (ap (λ (v : World). cluster_at c.args.cluster v) (sym c.self.view_is) ∙ own.cluster_is) c.requires.shards

@@ -1,0 +1,12 @@
+pub mod Brought
+pub mod Chosen
+pub mod Dones
+pub mod Flights
+pub mod Found
+pub mod Replications
+pub mod OnTime
+pub mod Orderly
+pub mod Places
+pub mod Trims
+pub mod Publishers
+pub mod Tables

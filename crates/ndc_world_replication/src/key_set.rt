@@ -1,0 +1,50 @@
+use ndc_event::BatchKey;
+use std::alloc::{AllocError, Global};
+use std::collections::BTreeSet;
+use std::marker::Model;
+
+/// Keys of batches, each once. Seen as their list, ascending.
+#[derive(Drop)]
+pub(crate) struct KeySet {
+    keys: BTreeSet<BatchKey>,
+}
+
+impl Model for KeySet {
+    ghost use Rattle.std.specs.Prelude.{List};
+    ghost use Rattle.ndc_event.specs.declared.key.BatchKey.{BatchKey};
+
+    ghost Value = { List BatchKey };
+
+    ghost view = { λ gathered. gathered.keys.keys };
+}
+
+impl KeySet {
+    ghost use Rattle.std.specs.Prelude.{◌≡◌, [], OnOk, OnErr};
+    ghost use Rattle.ndc_model_sets.specs.Keys.{is_key_among, with_key};
+
+    /// There is no key. Takes no memory.
+    pub(crate) fn new(alloc: Global) -> KeySet
+        ensures { result ≡ [] }
+    {
+        KeySet {
+            keys: BTreeSet::new(alloc),
+        }
+    }
+
+    /// Whether the key is one of them. In time of the logarithm of their number; takes no memory.
+    pub(crate) fn has(&self, key: BatchKey) -> bool
+        ensures { result ≡ is_key_among key self.now }
+    {
+        self.keys.contains(&key)
+    }
+
+    /// Puts the key to its place, where it is not there. In time of the logarithm of their number. For want of memory
+    /// nothing changes.
+    pub(crate) fn put(&mut self, key: BatchKey) -> Result<(), AllocError>
+        ensures ok { OnOk result (self.new ≡ with_key key self.old) }
+        ensures err { OnErr result (self.new ≡ self.old) }
+    {
+        self.keys.insert(key)?;
+        Ok(())
+    }
+}

@@ -1,0 +1,30 @@
+ghost use Rattle.std.specs.Prelude.{◌≡◌, length, map};
+ghost use Rattle.ndc_script_types.specs.WellFormed.{IsCluster};
+ghost use Rattle.ndc_model.specs.Moves.{renewed, renewed_link};
+ghost use Rattle.ndc_model.specs.World.{World};
+ghost use Rattle.ndc_world_replication.specs.Orderly.{IsOrderly};
+
+use crate::publisher::Publisher;
+use crate::replication::Replication;
+use ndc_cluster_links::Link;
+use ndc_cluster_rounds::Cell;
+use ndc_domain::ClusterNo;
+use ndc_script_types::Header;
+
+impl<C: Cell + Drop> Replication<C> {
+    /// Renews the levels of a reader, of each source and shard. Takes no memory.
+    pub fn renew(&mut self, header: &Header, reader: ClusterNo)
+        requires reader { IsCluster header.now reader }
+        requires orderly { IsOrderly header.now self.old }
+        ensures { self.new ≡ renewed self.old reader }
+    {
+        for place in 0..self.links.len() {
+            let link = &mut self.links[place];
+            if link.reader().number == reader.number {
+                let source = &self.publishers[link.source().number as usize];
+                let own = &self.publishers[reader.number as usize];
+                link.renew(source.table(), own.cells(), source.queues());
+            }
+        }
+    }
+}
