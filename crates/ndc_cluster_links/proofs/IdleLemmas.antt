@@ -1,17 +1,20 @@
--- Renewing where all is done: nothing changes.
-use Rattle.std.proofs.Common.{◌≡◌, ◌≤◌, ◌<◌, ◌+◌, ℕ, zero, suc, List, [], ◌∷◌, max, length, get_or, sum_by, refl, ap, ◌∙◌, arith}
+-- Renewing where all is done, and pulling where all was read: nothing changes.
+use Rattle.std.proofs.Common.{◌≡◌, ◌≤◌, ◌<◌, ◌+◌, ◌++◌, ℕ, zero, suc, List, [], ◌∷◌, Option, Some, None, drop, max, length, get_or, sum_by, take, refl, sym, ap, ◌∙◌, arith}
+use Rattle.std.specs.List.{filter}
+use Rattle.std.proofs.lemmas.List.{append-nil, drop_all}
 use Rattle.std.proofs.lemmas.List.Sums.{prefix_len-drop_all}
 use Rattle.ndc_model_cells.specs.Cells.{Cell}
 use Rattle.ndc_model_cells.specs.declared.message.Message.{Message}
 use Rattle.ndc_domain.specs.declared.clusters.ClusterNo.{ClusterNo}
 use Rattle.ndc_domain.specs.declared.record.DomainRecord.{DomainRecord}
 use Rattle.ndc_model.specs.Moves.{map_from}
-use Rattle.ndc_model.specs.Queues.{Lane, after_renewal, needs_nothing, new_lane}
+use Rattle.ndc_model.specs.Queues.{Lane, after_pull, after_renewal, is_addressed, needs_nothing, new_lane, put_in_flight}
+use Rattle.ndc_queue.specs.Lists.{entries_from}
 use Rattle.ndc_queue.specs.Queues.{QueueValue, queue_len}
 use Rattle.ndc_cluster_links.proofs.DoneLemmas.{done_each}
 use Rattle.ndc_cluster_links.proofs.RestLemmas.{len_kept}
 use Rattle.ndc_cluster_links.specs.Links.{done_of}
-use Rattle.ndc_cluster_links.specs.Rest.{AreRests, AreWithin, lane_at, queue_at}
+use Rattle.ndc_cluster_links.specs.Rest.{AreRests, AreWithin, IsRestOf, lane_at, queue_at}
 
 -- a list whose items a change leaves as they are
 same-from : {X : Type 0} (f : ℕ → X → X) (from : ℕ) (xs : List X) (d : X) → ((k place : ℕ) → k < length xs → place ≡ from + k → f place (get_or xs k d) ≡ get_or xs k d) → map_from f from xs ≡ xs
@@ -41,3 +44,27 @@ idle_lanes reader table cells queues whole lanes alike within rests all =
     ap (λ (n : ℕ). after_renewal reader table (cells n) (whole n) (lane_at lanes k)) same
     ∙ idle-lane reader table (cells k) (whole k) (lane_at lanes k) (within k below).done_most
     (done_each queues lanes alike within all k below ∙ len_kept (queue_at queues k) (whole k) (rests k (omega (arith, alike, below)))))
+
+-- behind the end of a queue there is nothing
+nothing-behind : (kept : QueueValue) (whole : List Message) → IsRestOf kept whole → (count : Option ℕ) (level : ℕ) → level ≡ queue_len kept → entries_from count level whole ≡ []
+nothing-behind kept whole it None level e = let len = len_kept kept whole it in drop_all level whole (omega (arith, e, len))
+nothing-behind kept whole it (Some count) level e =
+    let len = len_kept kept whole it in
+    none-of count (drop level whole) (drop_all level whole (omega (arith, e, len)))
+  where
+    none-of : (n : ℕ) (xs : List Message) → xs ≡ [] → take n xs ≡ []
+    none-of zero xs f = refl
+    none-of (suc n) [] f = refl
+    none-of (suc n) (x ∷ xs) f = absurd (cc)
+
+-- a lane that was read up to the end of the queue
+module _ (reader : ClusterNo) (table : List DomainRecord) (count : Option ℕ) (kept : QueueValue) (lane : Lane) (whole : List Message) (it : IsRestOf kept whole) (read : lane.levels.read ≡ queue_len kept) where
+  pub idle-put : 0 ≡ length (put_in_flight reader table count whole lane)
+  idle-put = sym (ap (λ (l : List Message). length (filter (is_addressed reader table) l)) (nothing-behind kept whole it count lane.levels.read read))
+
+  pub idle-pull : lane ≡ after_pull reader table count whole lane
+  idle-pull =
+      let same : lane.levels.read + 0 ≡ lane.levels.read = omega arith in
+      sym (ap (λ (l : List Message). record { levels = record lane.levels { read = lane.levels.read + length l }; flight = lane.flight ++ filter (is_addressed reader table) l })
+      (nothing-behind kept whole it count lane.levels.read read)
+      ∙ λ i. record { levels = record lane.levels { read = same i }; flight = append-nil lane.flight i })

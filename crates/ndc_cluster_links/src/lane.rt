@@ -78,7 +78,7 @@ fn settled_from<C: Cell>(
 
 impl Lane {
     ghost use Rattle.std.specs.List.{filter};
-    ghost use Rattle.std.specs.Prelude.{◌≡◌, ◌≢◌, ◌≤◌, ◌^◌, List, length, drop, Some, None, Err, MatchResult, OnOk, OnErr, IfOk, IfErr};
+    ghost use Rattle.std.specs.Prelude.{◌≡◌, ◌≢◌, ◌≤◌, ◌^◌, List, length, drop, Some, None, Err, MatchResult, IsTrue, OnOk, OnErr, IfOk, IfErr};
     ghost use Rattle.ndc_model_cells.specs.declared.message.Message.{Message as Sent};
     ghost use Rattle.ndc_cluster_links.specs.Rest.{IsRestOf};
     ghost use Rattle.ndc_model.specs.Queues.{after_pull, after_renewal, after_rewind, is_addressed, new_lane, put_in_flight};
@@ -113,8 +113,38 @@ impl Lane {
 
     /// Takes the entries from `read` on, all or at most so many; those that are addressed to the reader go last in
     /// flight, and are counted. What is kept of the queue reaches from `read` or before it to its end, and `read` does
-    /// not lie behind this. Where memory runs out, the lane stays as it was.
+    /// not lie behind this. Where memory runs out, the lane stays as it was. Where nothing was written behind `read`, this is
+    /// one comparison.
     pub fn pull(
+        &mut self,
+        table: &DomainTable,
+        reader: ClusterNo,
+        count: Option<u64>,
+        queue: &Queue,
+    ) -> Result<u64, AllocError>
+        requires first { queue.now.first ≤ self.old.levels.read }
+        requires last { self.old.levels.read ≤ queue_len queue.now }
+        ensures pulled { OnOk result ((whole : List Sent) → IsRestOf queue.now whole → self.new ≡ after_pull reader table.now count whole self.old) }
+        ensures count { IfOk result (λ sent. (whole : List Sent) → IsRestOf queue.now whole → sent ≡ length (put_in_flight reader table.now count whole self.old)) }
+        ensures most { IfOk result (λ sent. sent ≤ 10 ^ 12) }
+        ensures done { self.new.levels.done ≡ self.old.levels.done }
+        ensures unchanged { OnErr result (self.new ≡ self.old) }
+    {
+        if self.has_read(queue) {
+            return Ok(0);
+        }
+        self.pull_entries(table, reader, count, queue)
+    }
+
+    /// Whether a queue was read up to its end.
+    fn has_read(&self, queue: &Queue) -> bool
+        ensures { IsTrue result → self.now.levels.read ≡ queue_len queue.now }
+    {
+        self.levels.read == queue.len()
+    }
+
+    /// The same, wherever `read` lies.
+    fn pull_entries(
         &mut self,
         table: &DomainTable,
         reader: ClusterNo,

@@ -1,14 +1,8 @@
-use Rattle.std.proofs.Common.{ap, arith, length}
-use Rattle.std.proofs.lemmas.List.Sums.{count_by-le-length, length-filter}
-use Rattle.ndc_model.specs.Queues.{is_addressed}
+use Rattle.ndc_cluster_links.proofs.IdleLemmas.{idle-pull, idle-put}
 use Rattle.ndc_cluster_links.proofs.lane.Lane.pull.Goals as goal
 
-pub returns-clause-most : goal.returns-clause-most
-returns-clause-most c =
-    omega (
-      arith,
-      ap length c.keep_addressed.ensures,
-      length-filter (is_addressed c.args.reader c.args.table.now) c.in_ok-sent.sent.items,
-      count_by-le-length (is_addressed c.args.reader c.args.table.now) c.in_ok-sent.sent.items,
-      c.in_ok-sent.ensures.most,
-    )
+pub returns-then-has_read-clause-pulled : goal.returns-then-has_read-clause-pulled
+returns-then-has_read-clause-pulled c = λ whole it. idle-pull c.args.reader c.args.table.now c.args.count c.args.queue.now c.args.self.now whole it (c.has_read.ensures c.if-has_read.true)
+
+pub returns-then-has_read-clause-count : goal.returns-then-has_read-clause-count
+returns-then-has_read-clause-count c = λ whole it. idle-put c.args.reader c.args.table.now c.args.count c.args.queue.now c.args.self.now whole it (c.has_read.ensures c.if-has_read.true)
