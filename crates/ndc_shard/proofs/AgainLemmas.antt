@@ -20,6 +20,7 @@ use Rattle.ndc_model_cells.specs.Allowed.{HasRoom, MayWriteAll}
 use Rattle.ndc_model_cells.specs.Messages.{carrying}
 use Rattle.ndc_model_cells.specs.Workflow.{workflow_of}
 use Rattle.ndc_shard_workflows.specs.Due.{AreDue}
+use Rattle.ndc_shard_workflows.specs.Reapplied.{AreReapplied}
 use Rattle.ndc_shard_workflows.specs.Writing.{MayBeWritten}
 use Rattle.ndc_shard.specs.Shards.{AreWritable, IsFit, having_written}
 use Rattle.ndc_shard.proofs.MayLemmas.{AreReached, all-may}
@@ -70,3 +71,16 @@ entry-may home domain workflow old new o entry same some e fit room may =
 -- what is due is due whatever the cell has written
 pub due-same : (messages : List Message) (list : List (Name × Name)) (cell : Cell) → AreDue list cell → AreDue list (having_written messages cell)
 due-same messages list cell are = record { ordered = are.ordered; each = are.each }
+
+-- what reapplication writes is told by what has arrived
+written-same : (home : Desk) (messages : List Message) (domain workflow : Name) (cell : Cell)
+    → reapplication_of home domain workflow (having_written messages cell) ≡ reapplication_of home domain workflow cell
+unfolding reapplication_of may_write
+written-same home messages domain workflow cell = refl
+
+-- so those to which it writes are the same, whatever the cell has written
+pub reapplied-same : (home : Desk) (messages : List Message) (list : List (Name × Name)) (cell : Cell) → AreReapplied home list cell → AreReapplied home list (having_written messages cell)
+reapplied-same home messages list cell are = record {
+  ordered = are.ordered;
+  each = λ d w none. written-same home messages d w cell ∙ are.each d w none;
+}

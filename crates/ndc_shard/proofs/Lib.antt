@@ -6,9 +6,12 @@ pub mod ReplyLemmas
 pub mod ExampleLemmas
 pub mod RoomLemmas
 pub mod AgainLemmas
+pub mod DueLemmas
 pub mod ReadingLemmas
 pub mod StayLemmas
 pub mod SentLemmas
 pub mod LoneLemmas
 pub mod KeepingLemmas
 pub mod KeepLaws
+pub mod TwoLemmas
+pub mod SoFarLemmas

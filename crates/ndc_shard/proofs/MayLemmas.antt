@@ -27,7 +27,7 @@ use Rattle.ndc_model_cells.specs.Allowed.{MayWrite, MayWriteAll}
 use Rattle.ndc_model_cells.specs.Workflow.{WorkflowValue, workflow_of}
 use Rattle.ndc_shard_workflows.specs.Workflow.{IsWorkflow}
 use Rattle.ndc_shard_workflows.proofs.CellLemmas.{written_same}
-use Rattle.ndc_shard_workflows.proofs.OneWriteLemmas.{CanBeWritten}
+use Rattle.ndc_shard_workflows.proofs.OneWriteLemmas.{CanBeWritten, message-together}
 use Rattle.ndc_shard_workflows.specs.Workflows.{IsOwn}
 use Rattle.ndc_shard_workflows.specs.Writing.{MayBeWritten}
 use Rattle.ndc_shard_workflows.proofs.OwnLemmas.{own-written}
@@ -84,7 +84,7 @@ module _ (domain workflow : Name) (entry : Entry) (cell : Cell) (fit : IsFit dom
 
   can : CanBeWritten sent (workflow_of domain workflow cell)
   can = record {
-    message = message;
+    together = message-together sent message;
     fresh = fresh;
     reached = reached;
     awaited = may.awaited;
@@ -96,13 +96,16 @@ module _ (domain workflow : Name) (entry : Entry) (cell : Cell) (fit : IsFit dom
   may-be =
       subst (λ (d : Name). MayBeWritten sent (workflow_of d entry.batch.workflow cell)) (sym written.of.domain_is)
       (subst (λ (n : Name). MayBeWritten sent (workflow_of domain n cell)) (sym written.of.workflow_is) (record {
-        message = can.message;
-        own = names entry.second second-own;
-        fresh = can.fresh;
-        reached = can.reached;
-        awaited = can.awaited;
-        sound = can.sound;
-        small = can.small;
+        message = message;
+        may = record {
+          together = can.together;
+          own = names entry.second second-own;
+          fresh = can.fresh;
+          reached = can.reached;
+          awaited = can.awaited;
+          sound = can.sound;
+          small = can.small;
+        };
       }))
     where
       names : (o : Option Batch) → IfSome o (λ b. is_of domain workflow b ≡ true) → IfSome o (λ b. is_of entry.batch.domain entry.batch.workflow b ≡ true)

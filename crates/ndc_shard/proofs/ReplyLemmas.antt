@@ -1,5 +1,5 @@
 -- What a command or a reset replies, and the cell behind it.
-use Rattle.std.proofs.Common.{◌≡◌, ◌≢◌, ◌<◌, List, [], ◌∷◌, length, arith, Result, Ok, Err, IfErr, OnOk, OnErr, refl, sym, ◌∙◌, ap}
+use Rattle.std.proofs.Common.{◌≡◌, ◌≢◌, ◌<◌, List, [], ◌∷◌, length, arith, Result, Ok, Err, OnOk, OnErr, refl, sym, ◌∙◌, ap}
 use Rattle.ndc_model_cells.specs.Cells.{Cell}
 use Rattle.ndc_model_cells.specs.Jobs.{written_at, written_now, written_outcome}
 use Rattle.ndc_model_cells.specs.Writing.{Entry}
@@ -27,18 +27,13 @@ pub reply-same : (asked : Result (List Entry) CommandError) (written : Result (L
 reply-same asked written gives calm = ap reply_of (answered written (batches_written asked) gives calm) ∙ reply-by asked
 
 pub cell-same : (asked : Result (List Entry) CommandError) (written : Result (List Batch) CommandError) (old new : Cell) → Gives Memory (λ (batches : List Batch). batches) written (batches_written asked)
-    → written ≢ Err Memory → OnOk written (new ≡ written_at asked old) → IfErr written (λ error. error ≢ Memory → new ≡ old) → new ≡ written_at asked old
+    → written ≢ Err Memory → OnOk written (new ≡ written_at asked old) → OnErr written (new ≡ old) → new ≡ written_at asked old
 cell-same asked (Ok batches) old new gives calm done kept = done
-cell-same asked (Err error) old new gives calm done kept = kept (λ e. calm (ap Err e)) ∙ by asked (gives (λ e. calm (ap Err e)))
+cell-same asked (Err error) old new gives calm done kept = kept ∙ by asked (gives (λ e. calm (ap Err e)))
   where
     by : (asked : Result (List Entry) CommandError) → batches_written asked ≡ Err error → old ≡ written_at asked old
     by (Ok entries) e = absurd (cc)
     by (Err other) e = refl
-
--- what is kept anyway is kept where it is refused
-pub kept_anyway : {A : Type 0} (P : Type 0) (r : Result A CommandError) → OnErr r P → IfErr r (λ error. error ≢ Memory → P)
-kept_anyway P (Ok x) kept = tt
-kept_anyway P (Err error) kept = λ calm. kept
 
 -- the keys of batches that were written are no error
 pub keys-kept : (P : Type 0) (batches : List Batch) → 0 < length batches → (r : Result Written ShardError) → r ≡ keys_of batches → OnErr r P

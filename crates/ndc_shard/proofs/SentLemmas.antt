@@ -277,12 +277,12 @@ module _ (entry : Entry) (old : Cell) (places : List Place) (is : IsCell old) (l
   sent = carrying entry.batch entry.second
 
   there-now : message_at (with_batches entry old) (place_of entry.batch) ≡ Some (entry_message entry (with_batches entry old))
-  there-now = written-there old (with_batches entry old) sent refl is may.message lone may.own may.fresh may.reached are.carried
+  there-now = written-there old (with_batches entry old) sent refl is may.message lone may.may.own may.may.fresh may.may.reached are.carried
 
   pub written-messages : messages_at (places ++ place_of entry.batch ∷ []) (with_batches entry old) ≡ messages_at places old ++ entry_message entry (with_batches entry old) ∷ []
   written-messages =
       joined places (place_of entry.batch) (entry_message entry (with_batches entry old)) there-now
-      ∙ ap (λ (ms : List Message). ms ++ entry_message entry (with_batches entry old) ∷ []) (messages-stay old (with_batches entry old) sent refl is may.message lone may.own may.fresh places are.sent)
+      ∙ ap (λ (ms : List Message). ms ++ entry_message entry (with_batches entry old) ∷ []) (messages-stay old (with_batches entry old) sent refl is may.message lone may.may.own may.may.fresh places are.sent)
     where
       joined : (ps : List Place) (place : Place) (m : Message) → message_at (with_batches entry old) place ≡ Some m
           → messages_at (ps ++ place ∷ []) (with_batches entry old) ≡ messages_at ps (with_batches entry old) ++ m ∷ []
@@ -296,7 +296,7 @@ module _ (entry : Entry) (old : Cell) (places : List Place) (is : IsCell old) (l
 
   pub written-sent : AreSent (places ++ place_of entry.batch ∷ []) (with_batches entry old)
   written-sent =
-      let stay = are-sent old (with_batches entry old) sent refl is may.message lone may.own may.fresh places are in
+      let stay = are-sent old (with_batches entry old) sent refl is may.message lone may.may.own may.may.fresh places are in
       record { sent = more places stay.sent; carried = stay.carried }
     where
       more : (ps : List Place) → AllByRecursion (IsSent (with_batches entry old)) ps → AllByRecursion (IsSent (with_batches entry old)) (ps ++ place_of entry.batch ∷ [])

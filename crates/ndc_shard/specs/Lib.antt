@@ -1,3 +1,4 @@
+pub mod Again
 pub mod Shards
 pub mod Worked
 pub mod Answers

@@ -1,11 +1,12 @@
 -- Words for a shard.
-use Rattle.std.specs.Prelude.{◌≡◌, ◌≤◌, ℕ, List, [], ◌∷◌, None, Result, Ok, Err}
+use Rattle.std.specs.Prelude.{◌≡◌, ◌≤◌, ℕ, true, List, [], ◌∷◌, None, Result, Ok, Err}
 use Rattle.std.specs.List.{AllByRecursion}
 use Rattle.ndc_model_cells.specs.declared.job.JobReply.{JobReply}
 use Rattle.ndc_model_cells.specs.declared.job.Outcome.TheVariants as outcome
 use Rattle.ndc_model_cells.specs.declared.message.Message.{Message}
 use Rattle.ndc_model_cells.specs.Cells.{Cell, IsCell, learned_of}
 use Rattle.ndc_model_cells.specs.Jobs.{all_batches, keys_written}
+use Rattle.ndc_model_cells.specs.Places.{is_of}
 use Rattle.ndc_model_cells.specs.Writing.{Entry, with_written}
 use Rattle.ndc_command.specs.declared.refusal.CommandError.{CommandError}
 use Rattle.ndc_command.specs.declared.refusal.CommandError.TheVariants.{Memory, Refused}
@@ -17,7 +18,7 @@ use Rattle.ndc_model_cells.specs.Allowed.{HasRoom, MayTake}
 use Rattle.ndc_model_cells.specs.Messages.{carrying}
 use Rattle.ndc_shard_workflows.specs.Workflow.{IsWorkflow}
 use Rattle.ndc_model_cells.specs.Workflow.{workflow_of}
-use Rattle.ndc_shard_workflows.specs.Writing.{MayBeWritten}
+use Rattle.ndc_shard_workflows.specs.Writing.{GoesBehind, MayBeWritten}
 
 -- the cell that has written these messages
 abbrev pub having_written : List Message → Cell → Cell
@@ -40,6 +41,20 @@ abbrev pub AreWritable : List Entry → Cell → Type 0
 AreWritable [] cell = Unit {0}
 AreWritable (entry ∷ entries) cell =
     MayBeWritten (carrying entry.batch entry.second) (workflow_of entry.batch.domain entry.batch.workflow cell) × AreWritable entries (with_written entry cell)
+
+-- the second of two entries goes right behind the first, in the same workflow, and neither carries a batch
+pub record GoAsTwo (first second : Entry) : Type 0 where
+  pub first_alone : first.second ≡ None
+  pub second_alone : second.second ≡ None
+  pub behind : GoesBehind first.batch second.batch
+  pub own : is_of first.batch.domain first.batch.workflow second.batch ≡ true
+
+-- entries are one, or two of which the second goes right behind the first
+abbrev pub AreOneOrTwo : List Entry → Type 0
+AreOneOrTwo [] = ⊥
+AreOneOrTwo (entry ∷ []) = Unit {0}
+AreOneOrTwo (first ∷ second ∷ []) = GoAsTwo first second
+AreOneOrTwo (first ∷ second ∷ third ∷ entries) = ⊥
 
 -- no batch of the entries is carried by another, but for what an entry carries itself
 abbrev pub AreLone : List Entry → Type 0

@@ -1,12 +1,41 @@
-ghost use Rattle.std.specs.Prelude.{◌≡◌, ◌++◌, IfOk, OnOk};
+ghost use Rattle.std.specs.Prelude.{◌≡◌, ◌++◌, [], IfOk, IsTrue, OnOk};
+ghost use Rattle.ndc_domain.specs.Records.{record_of};
+ghost use Rattle.ndc_event.specs.declared.name.Name.{Name as Text};
+ghost use Rattle.ndc_model_cells.specs.Cells.{Cell};
+ghost use Rattle.ndc_model_cells.specs.Jobs.{all_batches};
 ghost use Rattle.ndc_model_cells.specs.Places.{place_of};
-ghost use Rattle.ndc_model_cells.specs.Writing.{as_command_error, batches_in};
+ghost use Rattle.ndc_model_cells.specs.Writing.{as_command_error, batches_in, reapplication_of};
+ghost use Rattle.ndc_shard_entries.specs.Writer.{writes_to};
 
+use ndc_cluster_rounds::Desk;
 use ndc_command::{CommandError, Refusal};
-use ndc_event::Batch;
+use ndc_event::{Batch, Name};
 use ndc_model_cells::Place;
-use ndc_shard_entries::Entry;
-use std::alloc::AllocError;
+use ndc_model_sets::Batches;
+use ndc_shard_entries::{Entry, writes_to};
+use std::alloc::{AllocError, Global};
+
+/// The version with which the cluster writes to a domain: that of its record. Takes no memory. Refused where there is no
+/// record, and where another cluster writes with that version, or none does.
+pub(crate) fn version_of(desk: &Desk, domain: &Name) -> Result<u64, Refusal>
+    ensures { result ≡ writes_to desk.now (record_of desk.now.table domain.now) }
+{
+    let clusters = desk.clusters();
+    let me = desk.me();
+    let table = desk.table();
+    writes_to(clusters, me, table.find(domain))
+}
+
+/// Whether the cluster's record of a domain does not let it write there. Then reapplication writes to no workflow of the
+/// domain, whatever is learned of it. Takes no memory.
+pub(crate) fn refuses(desk: &Desk, domain: &Name) -> bool
+    ensures { IsTrue result → (workflow : Text) (cell : Cell) → reapplication_of desk.now domain.now workflow cell ≡ [] }
+{
+    match version_of(desk, domain) {
+        Ok(_) => false,
+        Err(_) => true,
+    }
+}
 
 /// A refusal to write as that of a command.
 pub(crate) fn as_command_error(version: Result<u64, Refusal>) -> Result<u64, CommandError>
@@ -38,4 +67,15 @@ pub(crate) fn push_batches(batches: &mut Vec<Batch>, entry: &Entry) -> Result<()
         batches.push(second.try_copy()?)?;
     }
     Ok(())
+}
+
+/// Copies of the batches of entries, in order.
+pub(crate) fn batches_of(alloc: Global, entries: &[Entry]) -> Result<Batches, AllocError>
+    ensures { IfOk result (λ batches. batches ≡ all_batches entries.now) }
+{
+    let mut batches = Vec::new(alloc);
+    for entry in entries {
+        push_batches(&mut batches, entry)?;
+    }
+    Ok(Batches::new(batches))
 }

@@ -53,6 +53,7 @@ impl Shard {
     ghost use Rattle.ndc_model_cells.specs.Writing.{command_of, reset_at};
     ghost use Rattle.ndc_shard.specs.Answers.{answer_of, may_go_on, names_of};
     ghost use Rattle.ndc_shard.specs.declared.error.ShardError.TheVariants.{Memory};
+    ghost use Rattle.ndc_shard_workflows.specs.Reapplied.{IsReappliedInFirst};
 
     /// The version with which the shard may write to a workflow that has begun: that of its cluster's record of the domain.
     /// Takes no memory. Refused with the first of these that holds: [`Refusal::UnknownDomain`] where there is no record,
@@ -100,8 +101,8 @@ impl Shard {
     }
 
     /// A new run repeats the current one of a workflow up to an event, counted from 1: the key of the first batch that is
-    /// written, and of the other one, where an open run is closed first; or the refusal, the first that holds, which leaves
-    /// the shard as it was. After want of memory nothing is said of the shard.
+    /// written, and of the other one, where an open run is closed first; or the refusal, the first that holds. Where it is
+    /// refused, and for want of memory, the shard stays as it was: both batches are written, or neither.
     pub fn reset<L>(
         &mut self,
         home: &Home,
@@ -114,7 +115,7 @@ impl Shard {
         requires { CanWrite (desk_of home.now table.now) domain.now workflow.now self.old }
         ensures written { Gives Memory (λ written. written) result (answer_of (reset_at (desk_of home.now table.now) domain.now workflow.now event self.old)) }
         ensures cell { OnOk result (self.new ≡ written_at (reset_at (desk_of home.now table.now) domain.now workflow.now event self.old) self.old) }
-        ensures refused { IfErr result (λ error. error ≢ Memory → self.new ≡ self.old) }
+        ensures unchanged { OnErr result (self.new ≡ self.old) }
     {
         self.is_in_order();
         let desk = Desk::new(home.clusters, home.me, home.limit, table);
@@ -138,7 +139,8 @@ impl Shard {
     }
 
     /// Strays are applied again in each workflow, in order, where the shard may write to it and its current run is open: where
-    /// the batches stand that are written, in order. After want of memory nothing is said of the shard.
+    /// the batches stand that are written, in order. After want of memory some of the workflows, in order, have their batches,
+    /// and the rest of the shard is as it was.
     pub fn reapply<L>(
         &mut self,
         home: &Home,
@@ -148,6 +150,7 @@ impl Shard {
         requires { CanWriteEach (desk_of home.now table.now) self.old }
         ensures cell { OnOk result (self.new ≡ reapplied_in (desk_of home.now table.now) (workflows_of self.old.arrived) self.old) }
         ensures places { IfOk result (λ places. places.items ≡ map names_of (reapplied_now (desk_of home.now table.now) (workflows_of self.old.arrived) self.old)) }
+        ensures err { OnErr result (IsReappliedInFirst (desk_of home.now table.now) (workflows_of self.old.arrived) self.old self.new) }
     {
         self.is_in_order();
         let desk = Desk::new(home.clusters, home.me, home.limit, table);

@@ -1,12 +1,15 @@
-use crate::asking::{as_command_error, place_of, push_batches};
+ghost use Rattle.std.specs.Prelude.{IfOk};
+ghost use Rattle.std.specs.List.Sorted.{IsStrictlySortedBy};
+ghost use Rattle.ndc_domain.specs.Records.{names_cmp};
+ghost use Rattle.ndc_shard.specs.Again.{AreReappliedOf};
+
+use crate::asking::{as_command_error, batches_of, place_of, push_batches, refuses, version_of};
 use ndc_cluster_rounds::{Desk, Home};
 use ndc_command::{Command, CommandError, Refusal};
 use ndc_event::{Batch, Name};
 use ndc_model_cells::{Message, Place};
 use ndc_model_sets::Batches;
-use ndc_shard_entries::{
-    Entry, command_entry, reapplication_entry, reset_entries, unless_behind, writes_to,
-};
+use ndc_shard_entries::{Entry, command_entry, reapplication_entry, reset_entries, unless_behind};
 use ndc_shard_runs::Runs;
 use ndc_shard_workflows::{Arrival, Workflows};
 use ndc_state::Steps;
@@ -55,11 +58,11 @@ impl Shard {
     ghost use Rattle.ndc_model_sets.specs.Branches.{workflow_tip};
     ghost use Rattle.ndc_model_sets.specs.Current.{strays};
     ghost use Rattle.ndc_model_sets.specs.Learned.{has_key};
-    ghost use Rattle.ndc_shard.specs.Shards.{AreLone, AreWritable, IsFit, MayBeTaken, batches_written, having_written};
+    ghost use Rattle.ndc_shard.specs.Shards.{AreLone, AreOneOrTwo, AreWritable, GoAsTwo, IsFit, MayBeTaken, batches_written, having_written};
     ghost use Rattle.ndc_model_cells.specs.Allowed.{HasRoom, MayArrive, MayReapply, MayWriteAll};
     ghost use Rattle.ndc_model_cells.specs.Messages.{carrying};
     ghost use Rattle.ndc_model_cells.specs.Workflow.{workflow_of};
-    ghost use Rattle.ndc_shard_workflows.specs.Reapplied.{MayReapplyAmong, reapplied_among, reapplied_at, written_among};
+    ghost use Rattle.ndc_shard_workflows.specs.Reapplied.{AreReapplied, IsReappliedAmongFirst, IsReappliedInFirst, MayReapplyAmong, reapplied_among, reapplied_at, written_among};
     ghost use Rattle.ndc_shard_workflows.specs.Writing.{MayBeWritten};
     ghost use Rattle.std.specs.List.{AllByRecursion};
     ghost use Rattle.ndc_event.specs.declared.name.Name.{Name as Text};
@@ -141,10 +144,7 @@ impl Shard {
     ) -> Result<u64, Refusal>
         ensures { result ≡ may_write desk.now domain.now workflow.now self.now }
     {
-        let clusters = desk.clusters();
-        let me = desk.me();
-        let table = desk.table();
-        let version = match writes_to(clusters, me, table.find(domain)) {
+        let version = match version_of(desk, domain) {
             Ok(version) => version,
             Err(refusal) => return Err(refusal),
         };
@@ -192,23 +192,44 @@ impl Shard {
         Ok(())
     }
 
-    /// Writes entries in order, and gives the batches of them.
-    fn write_all<L>(
+    /// Writes two entries together, of which the second goes right behind the first: their batches are learned in their
+    /// workflow, and their messages go last among those written. For want of memory nothing changes.
+    fn write_both<L>(
         &mut self,
-        entries: Vec<Entry>,
+        first: &Entry,
+        second: &Entry,
         steps: &mut Steps<L>,
-    ) -> Result<Batches, AllocError>
-        requires may { AreWritable entries.items self.old }
-        requires lone { AreLone entries.items }
-        ensures cell { OnOk result (self.new ≡ with_all_written entries.items self.old) }
-        ensures batches { IfOk result (λ batches. batches ≡ all_batches entries.items) }
+    ) -> Result<(), AllocError>
+        requires may { AreWritable (first.now ∷ second.now ∷ []) self.old }
+        requires lone { AreLone (first.now ∷ second.now ∷ []) }
+        requires two { GoAsTwo first.now second.now }
+        ensures ok { OnOk result (self.new ≡ with_all_written (first.now ∷ second.now ∷ []) self.old) }
+        ensures err { OnErr result (self.new ≡ self.old) }
     {
-        let mut batches = Vec::new(self.alloc);
-        for entry in entries {
-            push_batches(&mut batches, &entry)?;
-            self.write(&entry, steps)?;
+        self.workflows.is_in_order();
+        let place = place_of(first.batch())?;
+        let behind = place_of(second.batch())?;
+        self.places.reserve(2)?;
+        self.workflows
+            .write(self.alloc, first.batch(), Some(second.batch()), steps)?;
+        self.places.push_reserved(place);
+        self.places.push_reserved(behind);
+        Ok(())
+    }
+
+    /// Writes one entry, or two together. For want of memory nothing changes.
+    fn write_all<L>(&mut self, entries: &[Entry], steps: &mut Steps<L>) -> Result<(), AllocError>
+        requires may { AreWritable entries.now self.old }
+        requires lone { AreLone entries.now }
+        requires some { AreOneOrTwo entries.now }
+        ensures ok { OnOk result (self.new ≡ with_all_written entries.now self.old) }
+        ensures err { OnErr result (self.new ≡ self.old) }
+    {
+        match entries {
+            [entry] => self.write(entry, steps),
+            [first, second] => self.write_both(first, second, steps),
+            _ => unreachable!(),
         }
-        Ok(Batches::new(batches))
     }
 
     /// What a command writes.
@@ -285,7 +306,7 @@ impl Shard {
     }
 
     /// A new run repeats the current one of a workflow up to an event, counted from 1: what is written, in order, or the
-    /// refusal, which leaves the cell as it was. After want of memory nothing is said of the cell.
+    /// refusal. Where it is refused, and for want of memory, nothing changes.
     pub(crate) fn write_reset<L>(
         &mut self,
         desk: &Desk,
@@ -296,11 +317,13 @@ impl Shard {
     ) -> Result<Batches, CommandError>
         requires { MayBeTaken desk.now.limit domain.now workflow.now (reset_at desk.now domain.now workflow.now event self.old) self.old }
         ensures batches { Gives Memory (λ batches. batches) result (batches_written (reset_at desk.now domain.now workflow.now event self.old)) }
+        ensures some { IfOk result (λ batches. 0 < length batches) }
         ensures cell { OnOk result (self.new ≡ written_at (reset_at desk.now domain.now workflow.now event self.old) self.old) }
-        ensures refused { IfErr result (λ error. error ≢ Memory → self.new ≡ self.old) }
+        ensures unchanged { OnErr result (self.new ≡ self.old) }
     {
         let entries = self.reset_entries(desk, domain, workflow, event)?;
-        let batches = self.write_all(entries, steps)?;
+        let batches = batches_of(self.alloc, entries.as_slice())?;
+        self.write_all(entries.as_slice(), steps)?;
         Ok(batches)
     }
 
@@ -358,7 +381,8 @@ impl Shard {
         self.entry_again(domain, workflow, version)
     }
 
-    /// Strays are applied again in a workflow, and the batches that are written go last among these.
+    /// Strays are applied again in a workflow, and the batches that are written go last among these. For want of memory the
+    /// cell stays as it was.
     fn reapply_in<L>(
         &mut self,
         desk: &Desk,
@@ -371,6 +395,7 @@ impl Shard {
         requires may { MayWriteAll domain.now workflow.now (reapplication_of desk.now domain.now workflow.now self.old) self.old }
         ensures cell { OnOk result (self.new ≡ reapplied_at desk.now (domain.now, workflow.now) self.old) }
         ensures batches { OnOk result (batches.new.items ≡ batches.old.items ++ all_batches (reapplication_of desk.now domain.now workflow.now self.old)) }
+        ensures err { OnErr result (self.new ≡ self.old) }
     {
         let Some(entry) = self.reapplication(desk, domain, workflow)? else {
             return Ok(());
@@ -379,7 +404,7 @@ impl Shard {
         self.write(&entry, steps)
     }
 
-    /// Strays are applied again in these workflows, in order.
+    /// Strays are applied again in these workflows, in order. For want of memory some of them, in order, have their batches.
     fn reapply_among<L>(
         &mut self,
         desk: &Desk,
@@ -389,6 +414,7 @@ impl Shard {
         requires { MayReapplyAmong desk.now list.items self.old }
         ensures cell { OnOk result (self.new ≡ reapplied_among desk.now list.items self.old) }
         ensures batches { IfOk result (λ batches. batches ≡ written_among desk.now list.items self.old) }
+        ensures err { OnErr result (IsReappliedAmongFirst desk.now list.items self.old self.new) }
     {
         let mut batches = Vec::new(self.alloc);
         for (domain, workflow) in list {
@@ -406,9 +432,19 @@ impl Shard {
         self.workflows.has_none_due()
     }
 
+    /// The workflows, in order, in which reapplication may be due, without those of domains to which the cluster's record does
+    /// not let it write: such a domain costs one look, however many workflows it has.
+    fn due_again(&self, desk: &Desk) -> Result<Vec<(Name, Name)>, AllocError>
+        ensures { IfOk result (λ list. AreReapplied desk.now list.items self.now) }
+    {
+        let domains = self.workflows.due_domains(self.alloc)?;
+        due_of(&self.workflows, self.alloc, desk, domains)
+    }
+
     /// Strays are applied again in each workflow, in order, where the cell may write to it and its current run is open:
-    /// the batches that are written, in order. After want of memory nothing is said of the cell. It looks only at workflows
-    /// in which reapplication may be due.
+    /// the batches that are written, in order. For want of memory some of the workflows, in order, have their batches, and the
+    /// rest of the cell is as it was. It looks only at workflows in which reapplication may be due, of domains to which the
+    /// cluster's record lets it write.
     pub(crate) fn apply_again<L>(
         &mut self,
         desk: &Desk,
@@ -417,9 +453,33 @@ impl Shard {
         requires { MayReapply desk.now (workflows_of self.old.arrived) self.old }
         ensures cell { OnOk result (self.new ≡ reapplied_in desk.now (workflows_of self.old.arrived) self.old) }
         ensures batches { IfOk result (λ batches. batches ≡ reapplied_now desk.now (workflows_of self.old.arrived) self.old) }
+        ensures err { OnErr result (IsReappliedInFirst desk.now (workflows_of self.old.arrived) self.old self.new) }
     {
-        let list = self.workflows.due(self.alloc)?;
+        self.is_in_order();
+        let list = self.due_again(desk)?;
         let batches = self.reapply_among(desk, list, steps)?;
         Ok(batches)
     }
+}
+
+/// Of these domains the workflows, in order, in which reapplication may be due, without those of domains to which the
+/// cluster's record does not let it write.
+fn due_of(
+    workflows: &Workflows,
+    alloc: Global,
+    desk: &Desk,
+    domains: Vec<Name>,
+) -> Result<Vec<(Name, Name)>, AllocError>
+    requires { IsStrictlySortedBy names_cmp domains.items }
+    ensures { IfOk result (λ list. AreReappliedOf desk.now domains.items list.items workflows.now) }
+{
+    let mut list = Vec::new(alloc);
+    for domain in domains {
+        if refuses(desk, &domain) {
+            continue;
+        }
+        let mut more = workflows.due_in(alloc, &domain)?;
+        list.append(&mut more)?;
+    }
+    Ok(list)
 }

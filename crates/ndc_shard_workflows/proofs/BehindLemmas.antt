@@ -23,7 +23,9 @@ use Rattle.ndc_shard_waiting.proofs.KeptLemmas.{both-back}
 use Rattle.ndc_model_cells.specs.Workflow.{WorkflowValue, workflow_of}
 use Rattle.ndc_shard_workflows.specs.Workflow.{after_arrival, with_written}
 use Rattle.ndc_shard_workflows.proofs.CellLemmas.{other_same, workflow-same, written_same, own-names}
+use Rattle.ndc_shard_workflows.proofs.OneWriteLemmas.{together-back}
 use Rattle.ndc_shard_workflows.proofs.PutOffLemmas.{all_wait}
+use Rattle.ndc_shard_workflows.specs.Writing.{GoTogether}
 use Rattle.ndc_shard_workflows.specs.Named.{under, IsPut}
 use Rattle.ndc_shard_workflows.specs.Workflows.{DomainValue, cell_of, workflow_or_empty, workflows_in, found, IsOwn, AreOwn, AreDomains}
 use Rattle.ndc_shard_workflows.proofs.NameLemmas.{put-there, put-holds}
@@ -160,16 +162,16 @@ arrived-behind sent domains after are later message own there others =
     (all_wait (workflow_of d n (cell_of domains)) (workflow-own domains are d n).is))
 
 -- what is written to its workflow
-pub batches-behind : (entry : Entry) (domains after : List (Name × DomainValue)) → AreDomains domains → AreDomains after → IsMessage (carrying entry.batch entry.second)
+pub batches-behind : (entry : Entry) (domains after : List (Name × DomainValue)) → AreDomains domains → AreDomains after → GoTogether (carrying entry.batch entry.second)
     → IfSome entry.second (λ b. is_of entry.batch.domain entry.batch.workflow b ≡ true)
     → found entry.batch.domain entry.batch.workflow after ≡ Some (with_written (carrying entry.batch entry.second) (workflow_of entry.batch.domain entry.batch.workflow (cell_of domains)))
     → ((d n : Name) → is_of d n entry.batch ≡ false → found d n after ≡ found d n domains) → cell_of after ≡ with_batches entry (cell_of domains)
-batches-behind entry domains after are later message own there others =
+batches-behind entry domains after are later together own there others =
     cell-behind entry.batch.domain entry.batch.workflow (with_written (carrying entry.batch entry.second) (workflow_of entry.batch.domain entry.batch.workflow (cell_of domains))) domains after are later there others
     (with_batches entry (cell_of domains)) refl
-    (writing_keeps entry (cell_of domains) (is-cell domains are) message.back (second-back (carrying entry.batch entry.second) message)).ordered
+    (writing_keeps entry (cell_of domains) (is-cell domains are) together.back (together-back (carrying entry.batch entry.second) together)).ordered
     (waiting-ordered domains are)
-    (written_same entry.batch.domain entry.batch.workflow entry (cell_of domains) (is-cell domains are) message.back (own-names entry.batch) own)
+    (written_same entry.batch.domain entry.batch.workflow entry (cell_of domains) (is-cell domains are) together.back (own-names entry.batch) own)
     (λ d n other i. record {
       arrived = others_arrived d n entry (cell_of domains) other (second-other d n entry.batch entry.second other own) i;
       waiting = (workflow_of d n (cell_of domains)).waiting;

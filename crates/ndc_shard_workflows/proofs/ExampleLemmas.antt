@@ -11,16 +11,16 @@ use Rattle.ndc_shard_workflows.specs.Worked.{second_sent}
 use Rattle.ndc_shard_workflows.specs.Workflow.{after_arrival, empty_workflow}
 use Rattle.ndc_model_cells.specs.Workflow.{workflow_of}
 use Rattle.ndc_shard_workflows.proofs.OneExampleLemmas as workflow
-use Rattle.ndc_shard_workflows.specs.Writing.{MayBeWritten}
+use Rattle.ndc_shard_workflows.specs.Writing.{MayBeWrittenTogether}
 
-first-may : MayBeWritten (carrying (begun_again 1 None) None) empty_workflow
+first-may : MayBeWrittenTogether (carrying (begun_again 1 None) None) empty_workflow
 first-may = let may = workflow.first-written (begun_again 1 None) empty_workflow refl refl in
-    record { message = may.message; own = tt; fresh = may.fresh; reached = may.reached; awaited = may.awaited; sound = may.sound; small = may.small }
+    record { together = may.together; own = tt; fresh = may.fresh; reached = may.reached; awaited = may.awaited; sound = may.sound; small = may.small }
 
-pub first-written : (b : Batch) (cell : Cell) → b ≡ begun_again 1 None → cell ≡ empty_cell → MayBeWritten (carrying b None) (workflow_of b.domain b.workflow cell)
+pub first-written : (b : Batch) (cell : Cell) → b ≡ begun_again 1 None → cell ≡ empty_cell → MayBeWrittenTogether (carrying b None) (workflow_of b.domain b.workflow cell)
 first-written b cell e f =
-    subst (λ (c : Cell). MayBeWritten (carrying b None) (workflow_of b.domain b.workflow c)) (sym f)
-    (subst (λ (x : Batch). MayBeWritten (carrying x None) empty_workflow) (sym e) first-may)
+    subst (λ (c : Cell). MayBeWrittenTogether (carrying b None) (workflow_of b.domain b.workflow c)) (sym f)
+    (subst (λ (x : Batch). MayBeWrittenTogether (carrying x None) empty_workflow) (sym e) first-may)
 
 second-may : MayArrive second_sent empty_cell
 unfolding arrived_at after_arrival

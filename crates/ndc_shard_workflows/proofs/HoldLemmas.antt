@@ -24,7 +24,7 @@ use Rattle.ndc_shard_workflows.proofs.PutOffLemmas.{new-to-known}
 use Rattle.ndc_shard_workflows.proofs.OneWriteLemmas.{CanBeWritten, written-is, written-learned}
 use Rattle.ndc_shard_workflows.specs.Due.{HoldDue, is_listed, is_named}
 use Rattle.ndc_shard_workflows.specs.Listed.{IsListedBefore, IsListedWhereDue}
-use Rattle.ndc_shard_workflows.specs.Writing.{MayBeWritten}
+use Rattle.ndc_shard_workflows.specs.Writing.{MayBeWrittenTogether}
 use Rattle.ndc_shard_workflows.proofs.BehindLemmas.{second-other}
 use Rattle.ndc_shard_workflows.proofs.NameLemmas.{name-itself}
 use Rattle.ndc_shard_workflows.proofs.PutLemmas.{can-be}
@@ -72,7 +72,7 @@ hold-arrived sent cell may_be_due before after may hold due listed d w e = by (i
 
 -- a batch is written that leaves no stray, or its workflow is listed
 module _ (entry : Entry) (cell : Cell) (is : IsCell cell) (workflow : IsWorkflow (workflow_of entry.batch.domain entry.batch.workflow cell))
-    (may : MayBeWritten (carrying entry.batch entry.second) (workflow_of entry.batch.domain entry.batch.workflow cell)) where
+    (may : MayBeWrittenTogether (carrying entry.batch entry.second) (workflow_of entry.batch.domain entry.batch.workflow cell)) where
   abbrev own : WorkflowValue
   own = workflow_of entry.batch.domain entry.batch.workflow cell
 
@@ -85,7 +85,7 @@ module _ (entry : Entry) (cell : Cell) (is : IsCell cell) (workflow : IsWorkflow
   -- what is learned of the workflow then
   learned-then : learned_of entry.batch.domain entry.batch.workflow (with_batches entry cell) ≡ with_message sent (learned own.arrived)
   learned-then =
-      ap (λ (v : WorkflowValue). learned v.arrived) (written_same entry.batch.domain entry.batch.workflow entry cell is may.message.back (own-names entry.batch) may.own)
+      ap (λ (v : WorkflowValue). learned v.arrived) (written_same entry.batch.domain entry.batch.workflow entry cell is may.together.back (own-names entry.batch) may.own)
       ∙ ap (λ (v : WorkflowValue). learned (with_message sent v.arrived)) workflow.parts
       ∙ ap (λ (v : WorkflowValue). learned v.arrived) (sym (written-is (learned own.arrived) own.waiting workflow.apart sent can))
       ∙ written-learned (learned own.arrived) own.waiting workflow.apart sent can

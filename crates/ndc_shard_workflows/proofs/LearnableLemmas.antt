@@ -17,7 +17,7 @@ use Rattle.ndc_shard_waiting.proofs.KeptLemmas.{both-all, both-back, carried-ear
 use Rattle.ndc_shard_waiting.proofs.LearnLemmas.{with-set, with-found, all-found, has-found-or}
 use Rattle.ndc_model_sets.proofs.Lists.{all-join}
 use Rattle.ndc_shard_waiting.proofs.OrderLemmas.{all-front, all-back, arrived-at, not-at}
-use Rattle.ndc_shard_workflows.specs.Learnable.{CanBeLearned}
+use Rattle.ndc_shard_workflows.specs.Learnable.{CanBeLearned, CanBothBeLearned}
 
 -- the batches of messages point back
 pub messages-back : (messages : List Message) → AllByRecursion IsMessage messages → AllByRecursion PointsBack (batches_of messages)
@@ -79,14 +79,14 @@ module _ (known : List Batch) (sent : Message) (messages : List Message) (can : 
 -- a batch that carries another can be learned
 module _ (known : List Batch) (b second : Batch) (can : CanBeLearned known (carrying b (Some second) ∷ [])) where
   -- the key of the carried one is new then too
-  pub second-new : batch_at second.key (arrived b known) ≡ None
+  second-new : batch_at second.key (arrived b known) ≡ None
   second-new =
       arrived-at b known second.key can.set.ordered ∙ ap (λ o. option_or o (batch_at second.key (b ∷ []))) can.order.0.0.1.0
       ∙ ap (λ (t : Bool). if t then Some b else None) (not-at second.key b (carried-after b second can.each.0.second))
 
   -- one can be learned after the other
-  one-by-one : CanBeLearned known (carrying b None ∷ carrying second None ∷ [])
-  one-by-one = record {
+  one-after-other : CanBeLearned known (carrying b None ∷ carrying second None ∷ [])
+  one-after-other = record {
     set = can.set;
     closed = can.closed;
     order = (((can.order.0.0.0, tt), can.order.0.1), (((second-new, tt), second-reached), tt));
@@ -100,9 +100,14 @@ module _ (known : List Batch) (b second : Batch) (can : CanBeLearned known (carr
           rw (carried-earlier b second can.each.0.second)
           (ap is_some (arrived-at b known b.key can.set.ordered ∙ ap (λ o. option_or o (batch_at b.key (b ∷ []))) can.order.0.0.0 ∙ at-first b []))
 
-  -- with the first alone the set is sound
-  pub first-sound : IsSound (arrived b known)
-  first-sound = next-sound known (carrying b None) (carrying second None ∷ []) one-by-one
+-- what can be learned as a message can be learned one after the other
+pub both-can : (known : List Batch) (b : Batch) (second : Option Batch) → CanBeLearned known (carrying b second ∷ []) → CanBothBeLearned known b second
+both-can known b None can = record { order = can; begins = tt }
+both-can known b (Some second) can = record { order = one-after-other known b second can; begins = can.each.0.second.parent }
+
+-- with the first alone the set is sound
+pub first-sound : (known : List Batch) (b second : Batch) → CanBothBeLearned known b (Some second) → IsSound (arrived b known)
+first-sound known b second can = next-sound known (carrying b None) (carrying second None ∷ []) can.order
 
 -- one more message is learned, where more are left
 pub one-more : (known later start : List Batch) (sent : Message) (messages left all : List Message) → left ≡ sent ∷ messages → CanBeLearned known left → with_messages left known ≡ with_messages all start
@@ -114,6 +119,6 @@ one-more known later start sent messages left all e can same is = (
 
 -- the first of those left can be learned
 pub one-can : (known : List Batch) (sent : Message) (messages left : List Message) (second : Option Batch) → left ≡ sent ∷ messages → CanBeLearned known left → second ≡ sent.second
-    → CanBeLearned known (carrying sent.batch second ∷ [])
+    → CanBothBeLearned known sent.batch second
 one-can known sent messages left second e can is =
-    subst (λ o. CanBeLearned known (carrying sent.batch o ∷ [])) (sym is) (first-can known sent messages (subst (CanBeLearned known) e can))
+    subst (CanBothBeLearned known sent.batch) (sym is) (both-can known sent.batch sent.second (first-can known sent messages (subst (CanBeLearned known) e can)))

@@ -2,6 +2,7 @@ pub mod AmongLemmas
 pub mod ArriveLemmas
 pub mod BeginLemmas
 pub mod BehindLemmas
+pub mod ByDomainLemmas
 mod CarriedLemmas
 pub mod CellLemmas
 pub mod DomainLemmas
@@ -11,6 +12,7 @@ pub mod FindLemmas
 mod FirstKeyLemmas
 pub mod FirstLemmas
 pub mod FreedLemmas
+pub mod FrontLemmas
 pub mod HoldLemmas
 pub mod KeptLemmas
 pub mod LearnableLemmas
@@ -27,6 +29,8 @@ pub mod OwnLemmas
 pub mod PlaceLemmas
 pub mod PutLemmas
 pub mod PutOffLemmas
+pub mod ResultLemmas
 pub mod SameLemmas
+pub mod TogetherLemmas
 pub mod WaitLemmas
 pub mod WriteLemmas

@@ -1,4 +1,4 @@
--- The workflows of a cell by name, and those in which reapplication is due.
+-- The workflows of a cell by name, and those to which reapplication writes.
 use Rattle.std.proofs.Common.{◌≡◌, Bool, true, false, not, ◌&&◌, ◌||◌, List, [], ◌∷◌, ◌++◌, inl, inr, cond, map, refl, sym, ◌∙◌, subst, ap, true≢false, arith}
 use Rattle.std.specs.List.{AllByRecursion, filter}
 use Rattle.std.specs.List.Sorted.{IsStrictlySortedBy}
@@ -11,7 +11,7 @@ use Rattle.std.proofs.lemmas.Slice.Eq.{bytes_eq-Decides}
 use Rattle.ndc_model_cells.specs.Cells.{Cell, learned_of}
 use Rattle.ndc_model_cells.specs.Jobs.{reapplied_in, reapplied_now, workflows_of, all_batches}
 use Rattle.ndc_model_cells.specs.Places.{AreBehind, AreInOrder, is_of, place_lt, place_of}
-use Rattle.ndc_model_cells.specs.Writing.{Desk, reapplication_of}
+use Rattle.ndc_model_cells.specs.Writing.{Desk, Entry, reapplication_of}
 use Rattle.ndc_model_cells.proofs.PlaceLemmas.{place-parts, PlaceIsBefore}
 use Rattle.ndc_domain.specs.Records.{names_cmp}
 use Rattle.ndc_domain.proofs.Order.{names_same}
@@ -22,8 +22,8 @@ use Rattle.ndc_model_sets.specs.Learned.{learned}
 use Rattle.ndc_model_sets.proofs.Lists.{filter-cases}
 use Rattle.ndc_model_cells.specs.Allowed.{HasRoom, MayReapply}
 use Rattle.ndc_shard_workflows.specs.Due.{AreDue, is_listed, is_named, names_order}
-use Rattle.ndc_shard_workflows.specs.Reapplied.{reapplied_at, reapplied_among, written_among, MayReapplyAmong}
-use Rattle.ndc_shard_workflows.proofs.AmongLemmas.{AreApart, AreSame, due_in, may-kept, may-more, reapplied-kept, room-there, written-kept}
+use Rattle.ndc_shard_workflows.specs.Reapplied.{reapplied_at, reapplied_among, written_among, AreReapplied, MayReapplyAmong}
+use Rattle.ndc_shard_workflows.proofs.AmongLemmas.{AreApart, AreSame, chosen, idle, is_nothing, may-kept, may-more, reapplied-kept, room-there, writes_in, written-kept}
 use Rattle.ndc_shard_workflows.proofs.DueLemmas.{order-same}
 use Rattle.ndc_shard_workflows.proofs.KeptLemmas.{same-kept}
 use Rattle.ndc_shard_workflows.proofs.SameLemmas.{names-of, of-names}
@@ -119,36 +119,42 @@ none-listed d w (b ∷ bs) e = by (is_of d w b) refl e (λ h. none-listed d w bs
     by true f g rest = absurd (true≢false g)
     by false f g rest = rest (sym (others-listed d w b f (workflows_of bs)) ∙ g)
 
-module _ (cell : Cell) (order : AreInOrder cell.arrived) (list : List (Name × Name)) (are : AreDue list cell) where
+-- where reapplication is due in none but these, it writes to none but these
+pub due-are : (home : Desk) (list : List (Name × Name)) (cell : Cell) → AreDue list cell → AreReapplied home list cell
+due-are home list cell are = record { ordered = are.ordered; each = λ d w e. idle home (d, w) cell (are.each d w e) }
+
+module _ (home : Desk) (cell : Cell) (order : AreInOrder cell.arrived) (list : List (Name × Name)) (are : AreReapplied home list cell) where
   abbrev all : List (Name × Name)
   all = all_names (workflows_of cell.arrived)
 
-  -- where reapplication is due, the workflow is one of the cell's, and one of the list
-  due-listed : (d w : Name) → due_in cell (d, w) ≡ true → is_listed d w all ≡ true
-  due-listed d w e = by (is_listed d w all) refl
+  -- where reapplication writes, the workflow is one of the cell's, and one of the list
+  written-listed : (d w : Name) → writes_in home cell (d, w) ≡ true → is_listed d w all ≡ true
+  written-listed d w e = by (is_listed d w all) refl
     where
       by : (t : Bool) → is_listed d w all ≡ t → t ≡ true
       by true f = refl
-      by false f = absurd (true≢false (sym e ∙ ap (λ bs. is_due (learned bs)) (none-listed d w cell.arrived f)))
+      by false f =
+          let none = idle home (d, w) cell (ap (λ (bs : List Batch). is_due (learned bs)) (none-listed d w cell.arrived f)) in
+          absurd (true≢false (sym e ∙ ap (λ (entries : List Entry). not (is_nothing entries)) none))
 
-  due-among : (d w : Name) → due_in cell (d, w) ≡ true → is_listed d w list ≡ true
-  due-among d w e = by (is_listed d w list) refl
+  written-among : (d w : Name) → writes_in home cell (d, w) ≡ true → is_listed d w list ≡ true
+  written-among d w e = by (is_listed d w list) refl
     where
       by : (t : Bool) → is_listed d w list ≡ t → t ≡ true
       by true f = refl
-      by false f = absurd (true≢false (sym e ∙ are.each d w f))
+      by false f = absurd (true≢false (sym e ∙ ap (λ (entries : List Entry). not (is_nothing entries)) (are.each d w f)))
 
-  -- the workflows in which reapplication is due are those of the list
-  same-due : filter (due_in cell) all ≡ filter (due_in cell) list
-  same-due = same-kept (due_in cell) all list (names-sorted cell.arrived order) are.ordered due-listed due-among
+  -- the workflows to which reapplication writes are those of the list
+  pub same-chosen : chosen home cell all ≡ chosen home cell list
+  same-chosen = same-kept (writes_in home cell) all list (names-sorted cell.arrived order) are.ordered written-listed written-among
 
 -- the cell itself is the same
-all-same : (cell : Cell) (list : List (Name × Name)) → AreSame cell cell list
+pub all-same : (cell : Cell) (list : List (Name × Name)) → AreSame cell cell list
 all-same cell [] = tt
 all-same cell (one ∷ list) = (refl, all-same cell list)
 
 module _ (home : Desk) where
-  reapplied-as : (bs : List Batch) (cell : Cell) → reapplied_in home bs cell ≡ reapplied_among home (all_names bs) cell
+  pub reapplied-as : (bs : List Batch) (cell : Cell) → reapplied_in home bs cell ≡ reapplied_among home (all_names bs) cell
   reapplied-as [] cell = refl
   reapplied-as (b ∷ bs) cell = reapplied-as bs (reapplied_at home (names_in b) cell)
 
@@ -160,7 +166,7 @@ module _ (home : Desk) where
   may-as [] cell may = tt
   may-as (b ∷ bs) cell may = (may.0, may.1, may-as bs (reapplied_at home (names_in b) cell) may.2)
 
-  module _ (list : List (Name × Name)) (cell : Cell) (order : AreInOrder cell.arrived) (are : AreDue list cell) where
+  module _ (list : List (Name × Name)) (cell : Cell) (order : AreInOrder cell.arrived) (are : AreReapplied home list cell) where
     abbrev workflows : List (Name × Name)
     workflows = all_names (workflows_of cell.arrived)
 
@@ -168,22 +174,22 @@ module _ (home : Desk) where
     apart-all = apart-from workflows (names-sorted cell.arrived order)
 
     -- reapplication in these workflows is that in all of the cell
-    pub reapplied-due : reapplied_among home list cell ≡ reapplied_in home (workflows_of cell.arrived) cell
-    reapplied-due =
-        reapplied-kept home cell list cell (apart-from list are.ordered) (all-same cell list) ∙ ap (λ l. reapplied_among home l cell) (sym (same-due cell order list are))
+    pub reapplied-all : reapplied_among home list cell ≡ reapplied_in home (workflows_of cell.arrived) cell
+    reapplied-all =
+        reapplied-kept home cell list cell (apart-from list are.ordered) (all-same cell list) ∙ ap (λ l. reapplied_among home l cell) (sym (same-chosen home cell order list are))
         ∙ sym (reapplied-kept home cell workflows cell apart-all (all-same cell workflows)) ∙ sym (reapplied-as (workflows_of cell.arrived) cell)
 
     -- and writes the same
-    pub written-due : written_among home list cell ≡ reapplied_now home (workflows_of cell.arrived) cell
-    written-due =
-        written-kept home cell list cell (apart-from list are.ordered) (all-same cell list) ∙ ap (λ l. written_among home l cell) (sym (same-due cell order list are))
+    pub written-all : written_among home list cell ≡ reapplied_now home (workflows_of cell.arrived) cell
+    written-all =
+        written-kept home cell list cell (apart-from list are.ordered) (all-same cell list) ∙ ap (λ l. written_among home l cell) (sym (same-chosen home cell order list are))
         ∙ sym (written-kept home cell workflows cell apart-all (all-same cell workflows)) ∙ sym (written-as (workflows_of cell.arrived) cell)
 
     -- and where it may be done in all of the cell, it may be done in these
-    pub may-due : MayReapply home (workflows_of cell.arrived) cell → MayReapplyAmong home list cell
-    may-due may =
+    pub may-all : MayReapply home (workflows_of cell.arrived) cell → MayReapplyAmong home list cell
+    may-all may =
         may-more home cell list cell (apart-from list are.ordered) (all-same cell list) (all-rooms list)
-        (subst (λ l. MayReapplyAmong home l cell) (same-due cell order list are) (may-kept home cell workflows cell apart-all (all-same cell workflows) among))
+        (subst (λ l. MayReapplyAmong home l cell) (same-chosen home cell order list are) (may-kept home cell workflows cell apart-all (all-same cell workflows) among))
       where
         among : MayReapplyAmong home workflows cell
         among = may-as (workflows_of cell.arrived) cell may

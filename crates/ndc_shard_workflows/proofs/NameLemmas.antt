@@ -27,11 +27,11 @@ pub name-itself : (a : Name) → bytes_eq a a ≡ true
 name-itself a = (bytes_eq-Decides a a).1 refl
 
 module _ {X : Type 0} where
-  under-first : (name : Name) (entry : Name × X) (entries : List (Name × X)) → bytes_eq entry.0 name ≡ true → under name (entry ∷ entries) ≡ Some entry.1
+  pub under-first : (name : Name) (entry : Name × X) (entries : List (Name × X)) → bytes_eq entry.0 name ≡ true → under name (entry ∷ entries) ≡ Some entry.1
   under-first name entry entries e =
       ap (λ t. cond t (Some entry.1) (under name entries)) (is_eq-slice_cmp name entry.0 ∙ (bytes_eq-Decides name entry.0).1 (sym ((bytes_eq-Decides entry.0 name).0 e)))
 
-  under-rest : (name : Name) (entry : Name × X) (entries : List (Name × X)) → bytes_eq entry.0 name ≡ false → under name (entry ∷ entries) ≡ under name entries
+  pub under-rest : (name : Name) (entry : Name × X) (entries : List (Name × X)) → bytes_eq entry.0 name ≡ false → under name (entry ∷ entries) ≡ under name entries
   under-rest name entry entries n = ap (λ t. cond t (Some entry.1) (under name entries)) (is_eq-slice_cmp name entry.0 ∙ names-turn entry.0 name n)
 
   -- nothing stands under a name before all
@@ -46,7 +46,7 @@ module _ {X : Type 0} where
     pub later-names : AllByRecursion (λ k. names_cmp entry.0 k ≡ Less) (keys_of entries)
     later-names = sorted_head names_cmp entry.0 (keys_of entries) hold.ordered
 
-    none-later : (name : Name) → bytes_eq entry.0 name ≡ true → under name entries ≡ None
+    pub none-later : (name : Name) → bytes_eq entry.0 name ≡ true → under name entries ≡ None
     none-later name e = subst (λ (k : Name). under k entries ≡ None) ((bytes_eq-Decides entry.0 name).0 e) (none-before entry.0 entries later-names)
 
     pub hold-rest : HoldUnder P entries

@@ -89,7 +89,7 @@ unfolding after_arrival
 first-may = record { message = record { back = λ key e. absurd (cc); second = tt }; fresh = λ h. (refl, tt); sound = two-sound; small = (All-from_recursion (λ (event : Event). event.id ≤ 10 ^ 12) (begun_again 1 None).events (omega arith, (omega arith, tt)), tt) }
 
 first-can : CanBeWritten first_sent empty_workflow
-first-can = record { message = record { back = λ key e. absurd (cc); second = tt }; fresh = (refl, tt); reached = refl; awaited = tt; sound = first-sound; small = (All-from_recursion (λ (event : Event). event.id ≤ 10 ^ 12) (begun_again 1 None).events (omega arith, (omega arith, tt)), tt) }
+first-can = record { together = record { back = λ key e. absurd (cc); second = tt }; fresh = (refl, tt); reached = refl; awaited = tt; sound = first-sound; small = (All-from_recursion (λ (event : Event). event.id ≤ 10 ^ 12) (begun_again 1 None).events (omega arith, (omega arith, tt)), tt) }
 
 pub second-arrives : (sent : Message) (w : WorkflowValue) → sent ≡ second_sent → w ≡ empty_workflow → MayArrive sent w
 second-arrives sent w e f = subst (MayArrive sent) (sym f) (subst (λ (m : Message). MayArrive m empty_workflow) (sym e) second-may)

@@ -17,7 +17,7 @@ use Rattle.ndc_shard_workflows.specs.Workflow.{after_arrival, empty_workflow, ha
 use Rattle.ndc_shard_workflows.proofs.OneWriteLemmas.{CanBeWritten}
 use Rattle.ndc_shard_workflows.specs.Named.{under, IsPut}
 use Rattle.ndc_shard_workflows.specs.Workflows.{IsOwn}
-use Rattle.ndc_shard_workflows.specs.Writing.{MayBeWritten}
+use Rattle.ndc_shard_workflows.specs.Writing.{MayBeWrittenTogether}
 use Rattle.ndc_shard_workflows.proofs.OwnLemmas.{empty-own, own-after, own-written}
 
 -- a map in which a value was put
@@ -39,12 +39,12 @@ own-either domain workflow sent w new (Ok x) e f own first second message fresh 
 own-either domain workflow sent w new (Err x) e f own first second message fresh sound = subst (IsOwn domain workflow) (sym f) (empty-own domain workflow)
 
 -- what may be written to a workflow can be
-pub can-be : (sent : Message) (w : WorkflowValue) → MayBeWritten sent w → CanBeWritten sent w
-can-be sent w may = record { message = may.message; fresh = may.fresh; reached = may.reached; awaited = may.awaited; sound = may.sound; small = may.small }
+pub can-be : (sent : Message) (w : WorkflowValue) → MayBeWrittenTogether sent w → CanBeWritten sent w
+can-be sent w may = record { together = may.together; fresh = may.fresh; reached = may.reached; awaited = may.awaited; sound = may.sound; small = may.small }
 
 -- the workflow that is written to, or is not for want of memory
 pub own-written-either : {A E : Type 0} (domain workflow : Name) (sent : Message) (w new : WorkflowValue) (r : Result A E) → OnOk r (new ≡ with_written sent w) → OnErr r (new ≡ w)
-    → IsOwn domain workflow w → is_of domain workflow sent.batch ≡ true → domain ≡ sent.batch.domain → workflow ≡ sent.batch.workflow → MayBeWritten sent w → IsOwn domain workflow new
+    → IsOwn domain workflow w → is_of domain workflow sent.batch ≡ true → domain ≡ sent.batch.domain → workflow ≡ sent.batch.workflow → MayBeWrittenTogether sent w → IsOwn domain workflow new
 own-written-either domain workflow sent w new (Ok x) e f own first d n may =
     subst (IsOwn domain workflow) (sym e) (own-written domain workflow sent w own first second (can-be sent w may))
   where

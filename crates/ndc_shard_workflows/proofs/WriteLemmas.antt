@@ -7,7 +7,7 @@ use Rattle.ndc_model_cells.specs.Workflow.{WorkflowValue, workflow_of}
 use Rattle.ndc_shard_workflows.specs.Workflow.{with_written}
 use Rattle.ndc_shard_workflows.specs.Named.{under, IsPut}
 use Rattle.ndc_shard_workflows.specs.Workflows.{DomainValue, AreDomains, cell_of, workflow_or_empty, workflows_in}
-use Rattle.ndc_shard_workflows.specs.Writing.{MayBeWritten}
+use Rattle.ndc_shard_workflows.specs.Writing.{MayBeWrittenTogether}
 use Rattle.ndc_shard_workflows.proofs.BehindLemmas.{batches-behind, found-others, found-there}
 use Rattle.ndc_shard_workflows.proofs.DomainLemmas.{workflow-there}
 
@@ -17,7 +17,7 @@ pub found-in : (domain workflow : Name) (domains : List (Name × DomainValue)) �
 found-in domain workflow domains are o at = workflow-there domains are domain workflow ∙ ap (λ x. workflow_or_empty (under workflow (workflows_in x))) at
 
 module _ (entry : Entry) (domains : List (Name × DomainValue)) (are : AreDomains domains)
-    (may : MayBeWritten (carrying entry.batch entry.second) (workflow_of entry.batch.domain entry.batch.workflow (cell_of domains))) (o : Option DomainValue)
+    (may : MayBeWrittenTogether (carrying entry.batch entry.second) (workflow_of entry.batch.domain entry.batch.workflow (cell_of domains))) (o : Option DomainValue)
     (at : under entry.batch.domain domains ≡ o) where
   -- its workflow, in what stands under its domain
   abbrev pub there : WorkflowValue
@@ -26,14 +26,14 @@ module _ (entry : Entry) (domains : List (Name × DomainValue)) (are : AreDomain
   own-there : workflow_of entry.batch.domain entry.batch.workflow (cell_of domains) ≡ there
   own-there = found-in entry.batch.domain entry.batch.workflow domains are o at
 
-  pub may-there : MayBeWritten (carrying entry.batch entry.second) there
-  may-there = subst (MayBeWritten (carrying entry.batch entry.second)) own-there may
+  pub may-there : MayBeWrittenTogether (carrying entry.batch entry.second) there
+  may-there = subst (MayBeWrittenTogether (carrying entry.batch entry.second)) own-there may
 
   -- the cell behind it
   pub cell-there : (workflows : DomainValue) (after : List (Name × DomainValue)) → IsPut entry.batch.domain workflows domains after → AreDomains after
       → IsPut entry.batch.workflow (with_written (carrying entry.batch entry.second) there) (workflows_in o) workflows → cell_of after ≡ with_batches entry (cell_of domains)
   cell-there workflows after outer later inner =
-      batches-behind entry domains after are later may.message may.own
+      batches-behind entry domains after are later may.together may.own
       (found-there entry.batch.domain entry.batch.workflow (with_written (carrying entry.batch entry.second) there) workflows domains after outer inner'
       ∙ ap (λ w. Some (with_written (carrying entry.batch entry.second) w)) (sym own-there))
       (found-others entry.batch.domain entry.batch.workflow (with_written (carrying entry.batch entry.second) there) workflows domains after outer inner')

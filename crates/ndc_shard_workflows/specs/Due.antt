@@ -1,6 +1,6 @@
 -- Workflows in which reapplication may be due.
 use Rattle.std.specs.Prelude.{◌≡◌, Bool, false, ◌&&◌, List}
-use Rattle.std.specs.List.{list_any}
+use Rattle.std.specs.List.{AllByRecursion, list_any}
 use Rattle.std.specs.List.Sorted.{IsStrictlySortedBy}
 use Rattle.std.specs.Ordering.{ordering_then}
 use Rattle.std.specs.Str.{bytes_eq}
@@ -30,3 +30,14 @@ HoldDue list cell = (domain workflow : Name) → is_listed domain workflow list 
 pub record AreDue (list : List (Name × Name)) (cell : Cell) : Type 0 where
   pub ordered : IsStrictlySortedBy names_order list
   pub each : HoldDue list cell
+
+-- reapplication is due in no workflow of another domain than these, in order
+pub record AreDueDomains (domains : List Name) (cell : Cell) : Type 0 where
+  pub ordered : IsStrictlySortedBy names_cmp domains
+  pub each : (domain workflow : Name) → list_any (bytes_eq domain) domains ≡ false → is_due (learned_of domain workflow cell) ≡ false
+
+-- it is due in no workflow of a domain but these of it, in order
+pub record AreDueIn (domain : Name) (list : List (Name × Name)) (cell : Cell) : Type 0 where
+  pub ordered : IsStrictlySortedBy names_order list
+  pub own : AllByRecursion (λ names. names.0 ≡ domain) list
+  pub each : (workflow : Name) → is_listed domain workflow list ≡ false → is_due (learned_of domain workflow cell) ≡ false

@@ -1,4 +1,5 @@
 pub mod Behind
+pub mod ByDomain
 pub mod Due
 pub mod Learnable
 pub mod Listed

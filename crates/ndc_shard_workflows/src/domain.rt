@@ -11,10 +11,10 @@ ghost use Rattle.ndc_shard_workflows.specs.Due.{is_listed};
 ghost use Rattle.ndc_shard_workflows.specs.Listed.{IsListedBefore};
 ghost use Rattle.ndc_shard_workflows.specs.Reading.{learned_in_domain, named_where_learned};
 ghost use Rattle.ndc_shard_workflows.specs.Workflow.{after_arrival, answer_to, empty_workflow, has_arrived, made_learned, with_written};
-ghost use Rattle.ndc_shard_workflows.specs.Writing.{MayBeWritten};
+ghost use Rattle.ndc_shard_workflows.specs.Writing.{MayBeWrittenTogether};
 
 use crate::arrival::Received;
-use crate::listing::Listing;
+use crate::due::DueListing;
 use crate::workflow::Workflow;
 use ndc_event::{Batch, Name};
 use ndc_model_cells::Message;
@@ -100,17 +100,17 @@ fn receive<L>(
     })
 }
 
-/// Learns a batch that is written in this cell, and the one that it carries, in their workflow, which is listed before,
+/// Learns a batch that is written in this cell, and the one that goes right behind it, in their workflow, which is listed before,
 /// unless the batch leaves no stray. For want of memory nothing changes but for what is listed.
 fn write_to<L>(
     workflow: &mut Workflow,
     alloc: Global,
     batch: &Batch,
     second: Option<&Batch>,
-    due: &mut Listing,
+    due: &mut DueListing,
     steps: &mut Steps<L>,
 ) -> Result<(), AllocError>
-    requires { MayBeWritten (carrying batch.now (option_copied second)) workflow.old }
+    requires { MayBeWrittenTogether (carrying batch.now (option_copied second)) workflow.old }
     ensures ok { OnOk result (workflow.new ≡ with_written (carrying batch.now (option_copied second.entry)) workflow.old) }
     ensures err { OnErr result (workflow.new ≡ workflow.old) }
     ensures listed { OnOk result (IsListedBefore batch.now (option_copied second.entry) (learned workflow.old.arrived) due.old due.new) }
@@ -123,7 +123,7 @@ fn write_to<L>(
 /// Lists the workflow of a batch that is to be written, unless the batch leaves no stray, by what is known of it.
 fn list_before(
     workflow: &Workflow,
-    due: &mut Listing,
+    due: &mut DueListing,
     batch: &Batch,
     second: Option<&Batch>,
 ) -> Result<(), AllocError>
@@ -166,7 +166,7 @@ impl Domain {
     ghost use Rattle.ndc_shard_workflows.specs.Named.{under, IsPut};
     ghost use Rattle.ndc_shard_workflows.specs.Reading.{learned_in_domain};
     ghost use Rattle.ndc_shard_workflows.specs.Workflows.{workflow_or_empty, AreOwn};
-    ghost use Rattle.ndc_shard_workflows.specs.Writing.{MayBeWritten};
+    ghost use Rattle.ndc_shard_workflows.specs.Writing.{MayBeWrittenTogether};
 
     /// There is no workflow.
     pub(crate) fn new(alloc: Global) -> Domain
@@ -244,18 +244,18 @@ impl Domain {
         Ok(received)
     }
 
-    /// Learns a batch of the domain that is written in this cell, and the one that it carries, in a workflow that is listed
-    /// before, unless the batch leaves no stray. For want of memory nothing changes but for what is listed.
+    /// Learns a batch of the domain that is written in this cell, and the one that goes right behind it, in a workflow that is
+    /// listed before, unless the batch leaves no stray. For want of memory nothing changes but for what is listed.
     pub(crate) fn write<L>(
         &mut self,
         alloc: Global,
         batch: &Batch,
         second: Option<&Batch>,
-        due: &mut Listing,
+        due: &mut DueListing,
         steps: &mut Steps<L>,
     ) -> Result<(), AllocError>
         requires own { AreOwn batch.now.domain self.old }
-        requires may { MayBeWritten (carrying batch.now (option_copied second)) (workflow_or_empty (under batch.now.workflow self.old)) }
+        requires may { MayBeWrittenTogether (carrying batch.now (option_copied second)) (workflow_or_empty (under batch.now.workflow self.old)) }
         ensures ok { OnOk result (IsPut batch.now.workflow (with_written (carrying batch.now (option_copied second.entry)) (workflow_or_empty (under batch.now.workflow self.old))) self.old self.new) }
         ensures own { AreOwn batch.now.domain self.new }
         ensures err { OnErr result (self.new ≡ self.old) }

@@ -5,7 +5,7 @@ ghost use Rattle.ndc_shard_workflows.specs.Reading.{learned_in_all, workflows_na
 
 use crate::arrival::Received;
 use crate::domain::Domain;
-use crate::listing::Listing;
+use crate::due::DueListing;
 use crate::workflow::Workflow;
 use ndc_event::{Batch, Name};
 use ndc_model_cells::Message;
@@ -91,7 +91,7 @@ impl Domains {
     ghost use Rattle.ndc_shard_workflows.specs.Reading.{HoldLearned, learned_workflows};
     ghost use Rattle.ndc_shard_workflows.specs.Due.{is_listed};
     ghost use Rattle.ndc_shard_workflows.specs.Listed.{IsListedBefore};
-    ghost use Rattle.ndc_shard_workflows.specs.Writing.{MayBeWritten};
+    ghost use Rattle.ndc_shard_workflows.specs.Writing.{MayBeWrittenTogether};
 
     /// Nothing has arrived.
     pub(crate) fn new(alloc: Global) -> Domains
@@ -182,17 +182,17 @@ impl Domains {
         Ok(received)
     }
 
-    /// Learns a batch that is written in this cell, and the one that it carries, in their workflow, which is listed before,
-    /// unless the batch leaves no stray. For want of memory nothing changes but for what is listed.
+    /// Learns a batch that is written in this cell, and the one that goes right behind it, in their workflow, which is listed
+    /// before, unless the batch leaves no stray. For want of memory nothing changes but for what is listed.
     pub(crate) fn write<L>(
         &mut self,
         alloc: Global,
         batch: &Batch,
         second: Option<&Batch>,
-        due: &mut Listing,
+        due: &mut DueListing,
         steps: &mut Steps<L>,
     ) -> Result<(), AllocError>
-        requires { MayBeWritten (carrying batch.now (option_copied second)) (workflow_of batch.now.domain batch.now.workflow self.old) }
+        requires { MayBeWrittenTogether (carrying batch.now (option_copied second)) (workflow_of batch.now.domain batch.now.workflow self.old) }
         ensures ok { OnOk result (self.new ≡ with_batches (record { batch = batch.now; second = option_copied second.entry }) self.old) }
         ensures err { OnErr result (self.new ≡ self.old) }
         ensures listed { OnOk result (IsListedBefore batch.now (option_copied second.entry) (learned_of batch.now.domain batch.now.workflow self.old) due.old due.new) }

@@ -8,7 +8,7 @@ ghost use Rattle.ndc_event.specs.declared.name.Name.{Name as Text};
 ghost use Rattle.ndc_shard_runs.specs.Kept.{is_due};
 ghost use Rattle.ndc_model_cells.specs.Allowed.{MayReapply};
 ghost use Rattle.ndc_shard_workflows.specs.Due.{is_named, AreDue};
-ghost use Rattle.ndc_shard_workflows.specs.Reapplied.{reapplied_at, reapplied_among, written_among, MayReapplyAmong};
+ghost use Rattle.ndc_shard_workflows.specs.Reapplied.{reapplied_at, reapplied_among, written_among, AreReapplied, MayReapplyAmong};
 
 /// Where reapplication is not due in a workflow, it writes nothing there; and it leaves what is learned of all others.
 pub fn reapplication_concerns_one_workflow()
@@ -16,10 +16,11 @@ pub fn reapplication_concerns_one_workflow()
     ensures others { (home : Desk) (names : Text × Text) (cell : Cell) (domain workflow : Text) → is_named domain workflow names ≡ false → learned_of domain workflow (reapplied_at home names cell) ≡ learned_of domain workflow cell }
 {}
 
-/// Reapplication in all workflows of a cell is that in a list, in order, of all in which it is due: it comes to the same
-/// cell, writes the same, and may be done where that may be done.
-pub fn reapplication_is_done_where_it_is_due()
-    ensures cell { (home : Desk) (list : List (Text × Text)) (cell : Cell) → AreInOrder cell.arrived → AreDue list cell → reapplied_among home list cell ≡ reapplied_in home (workflows_of cell.arrived) cell }
-    ensures batches { (home : Desk) (list : List (Text × Text)) (cell : Cell) → AreInOrder cell.arrived → AreDue list cell → written_among home list cell ≡ reapplied_now home (workflows_of cell.arrived) cell }
-    ensures may { (home : Desk) (list : List (Text × Text)) (cell : Cell) → AreInOrder cell.arrived → AreDue list cell → MayReapply home (workflows_of cell.arrived) cell → MayReapplyAmong home list cell }
+/// Reapplication in all workflows of a cell is that in a list, in order, of all to which it writes: it comes to the same
+/// cell, writes the same, and may be done where that may be done. All in which it is due are such a list.
+pub fn reapplication_is_done_where_it_writes()
+    ensures due { (home : Desk) (list : List (Text × Text)) (cell : Cell) → AreDue list cell → AreReapplied home list cell }
+    ensures cell { (home : Desk) (list : List (Text × Text)) (cell : Cell) → AreInOrder cell.arrived → AreReapplied home list cell → reapplied_among home list cell ≡ reapplied_in home (workflows_of cell.arrived) cell }
+    ensures batches { (home : Desk) (list : List (Text × Text)) (cell : Cell) → AreInOrder cell.arrived → AreReapplied home list cell → written_among home list cell ≡ reapplied_now home (workflows_of cell.arrived) cell }
+    ensures may { (home : Desk) (list : List (Text × Text)) (cell : Cell) → AreInOrder cell.arrived → AreReapplied home list cell → MayReapply home (workflows_of cell.arrived) cell → MayReapplyAmong home list cell }
 {}

@@ -14,8 +14,8 @@ ghost use Rattle.ndc_model_sets.specs.Reading.{current_key};
 ghost use Rattle.ndc_shard_waiting.specs.Learning.{with_message, with_messages, ArePutOff};
 ghost use Rattle.ndc_model_cells.specs.Messages.{batches_of, IsMessage, IsNewTo};
 ghost use Rattle.ndc_shard_waiting.specs.Waiting.{put_off, freed, still_put_off, missing_from, CanWait};
-ghost use Rattle.ndc_model_cells.specs.Messages.{carrying, HasSmallIds};
-ghost use Rattle.ndc_shard_workflows.specs.Learnable.{CanBeLearned};
+ghost use Rattle.ndc_model_cells.specs.Messages.{HasSmallIds};
+ghost use Rattle.ndc_shard_workflows.specs.Learnable.{CanBeLearned, CanBothBeLearned};
 ghost use Rattle.ndc_shard_workflows.specs.Workflow.{beside, workflow_with, learned_with, counted_for};
 
 use crate::arrival::Arrival;
@@ -42,7 +42,7 @@ fn are_tasks_small(runs: &Runs, batch: &Batch, second: &Batch)
     is_small(second.key.task);
 }
 
-/// Learns a batch, and the one that it carries. For want of memory all is as it was.
+/// Learns a batch, and the one that goes with it and begins a run. For want of memory all is as it was.
 pub(crate) fn learn<L>(
     runs: &mut Runs,
     alloc: Global,
@@ -50,7 +50,7 @@ pub(crate) fn learn<L>(
     second: Option<&Batch>,
     steps: &mut Steps<L>,
 ) -> Result<(), AllocError>
-    requires { CanBeLearned runs.old (carrying batch.now (option_copied second) ∷ []) }
+    requires { CanBothBeLearned runs.old batch.now (option_copied second) }
     ensures ok { OnOk result (runs.new ≡ arrived_second (option_copied second.entry) (arrived batch.now runs.old)) }
     ensures err { OnErr result (runs.new ≡ runs.old) }
     ensures steps { OnOk result (batch.now.parent ≡ current_key batch.now.run runs.old → steps.new ≡ counted (counted_for (option_copied second.entry) steps.old) (length batch.now.events)) }

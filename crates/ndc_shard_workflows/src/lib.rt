@@ -6,6 +6,7 @@ mod carried;
 mod cell;
 mod domain;
 mod domains;
+mod due;
 pub mod laws;
 mod learning;
 mod listing;

@@ -50,6 +50,7 @@ impl Workflow {
     ghost use Rattle.ndc_shard_waiting.specs.Learning.{with_message};
     ghost use Rattle.ndc_model_cells.specs.Messages.{waits_for, IsMessage, IsNewTo};
     ghost use Rattle.ndc_model_cells.specs.Messages.{carrying, HasSmallIds};
+    ghost use Rattle.ndc_shard_workflows.specs.Writing.{GoTogether};
     ghost use Rattle.ndc_shard_workflows.specs.Workflow.{IsWorkflow, empty_workflow, has_arrived, all_missing, answer_to, made_learned, after_arrival, with_written, counted_for};
 
     /// Nothing has arrived.
@@ -147,11 +148,12 @@ impl Workflow {
         }
     }
 
-    /// Learns a batch that is written in this cell, and the one that it carries. For want of memory nothing changes. A
-    /// batch that goes on from the current branch of its run takes a step for each event of both.
+    /// Learns a batch that is written in this cell, and the one that goes right behind it, which it carries or not. For want
+    /// of memory nothing changes. A batch that goes on from the current branch of its run takes a step for each event of
+    /// both.
     ///
-    /// The batch points back to a learned one, or has no earlier key, neither of the two has arrived, no message that is
-    /// put off waits for either, and what is learned with them is sound; event ids are at most 10^12.
+    /// The batch points back to a learned one, or has no earlier key, the other begins a run, neither of the two has arrived,
+    /// no message that is put off waits for either, and what is learned with them is sound; event ids are at most 10^12.
     pub fn write<L>(
         &mut self,
         alloc: Global,
@@ -159,7 +161,7 @@ impl Workflow {
         second: Option<&Batch>,
         steps: &mut Steps<L>,
     ) -> Result<(), AllocError>
-        requires message { IsMessage (carrying batch.now (option_copied second)) }
+        requires together { GoTogether (carrying batch.now (option_copied second)) }
         requires new { IsNewTo self.old.arrived (carrying batch.now (option_copied second)) }
         requires reached { has_key (earlier batch.now) (learned self.old.arrived) ≡ true }
         requires awaited { AllByRecursion (λ sent. waits_for (both (carrying batch.now (option_copied second))) sent ≡ false) self.old.waiting }

@@ -14,6 +14,7 @@ ghost use Rattle.ndc_shard_workflows.specs.Listed.{IsListedWhereBehind, IsListed
 
 use crate::arrival::{Arrival, Received};
 use crate::domains::Domains;
+use crate::due::DueListing;
 use crate::listing::Listing;
 use crate::workflow::Workflow;
 use ndc_event::{Batch, Name};
@@ -27,7 +28,7 @@ use std::marker::Model;
 /// in order of place.
 pub struct Workflows {
     domains: Domains,
-    due: Listing,
+    due: DueListing,
     behind: Listing,
 }
 
@@ -68,9 +69,9 @@ impl Workflows {
     ghost use Rattle.ndc_model_cells.specs.Messages.{carrying};
     ghost use Rattle.ndc_shard_workflows.specs.Workflow.{empty_workflow, IsWorkflow};
     ghost use Rattle.ndc_model_cells.specs.Workflow.{workflow_of};
-    ghost use Rattle.ndc_shard_workflows.specs.Due.{AreDue};
+    ghost use Rattle.ndc_shard_workflows.specs.Due.{AreDue, AreDueDomains, AreDueIn};
     ghost use Rattle.ndc_shard_workflows.specs.Reading.{HoldLearned, learned_workflows};
-    ghost use Rattle.ndc_shard_workflows.specs.Writing.{MayBeWritten};
+    ghost use Rattle.ndc_shard_workflows.specs.Writing.{MayBeWrittenTogether};
 
     /// Nothing has arrived.
     pub fn new(alloc: Global) -> Workflows
@@ -78,7 +79,7 @@ impl Workflows {
     {
         Workflows {
             domains: Domains::new(alloc),
-            due: Listing::new(alloc),
+            due: DueListing::new(alloc),
             behind: Listing::new(alloc),
         }
     }
@@ -127,15 +128,15 @@ impl Workflows {
             Ok(arrival) => Ok(arrival),
             Err(error) => {
                 self.domains = Domains::new(alloc);
-                self.due = Listing::new(alloc);
+                self.due = DueListing::new(alloc);
                 self.behind = Listing::new(alloc);
                 Err(error)
             }
         }
     }
 
-    /// Learns a batch that is written in this cell, and the one that it carries, in their workflow. For want of memory
-    /// nothing changes.
+    /// Learns a batch that is written in this cell, and the one that goes right behind it, which it carries or not, in their
+    /// workflow. For want of memory nothing changes.
     pub fn write<L>(
         &mut self,
         alloc: Global,
@@ -143,7 +144,7 @@ impl Workflows {
         second: Option<&Batch>,
         steps: &mut Steps<L>,
     ) -> Result<(), AllocError>
-        requires { MayBeWritten (carrying batch.now (option_copied second)) (workflow_of batch.now.domain batch.now.workflow self.old) }
+        requires { MayBeWrittenTogether (carrying batch.now (option_copied second)) (workflow_of batch.now.domain batch.now.workflow self.old) }
         ensures ok { OnOk result (self.new ≡ with_batches (record { batch = batch.now; second = option_copied second.entry }) self.old) }
         ensures err { OnErr result (self.new ≡ self.old) }
     {
@@ -181,17 +182,24 @@ impl Workflows {
         Ok(places)
     }
 
-    /// The workflows in which reapplication may be due, each as its domain and its name, in order. A workflow is among them
-    /// from when something is learned of it that may leave strays until [`Workflows::is_due`] finds that nothing is due.
-    pub fn due(&self, alloc: Global) -> Result<Vec<(Name, Name)>, AllocError>
-        ensures list { IfOk result (λ list. AreDue list.items self.now) }
-        ensures cell { IsCell self.now }
+    /// The domains that have workflows in which reapplication may be due, in order. In time of these domains, however many
+    /// workflows they have.
+    pub fn due_domains(&self, alloc: Global) -> Result<Vec<Name>, AllocError>
+        ensures { IfOk result (λ domains. AreDueDomains domains.items self.now) }
     {
-        self.domains.is_in_order();
-        self.due.list(alloc)
+        self.due.domains(alloc)
     }
 
-    /// Whether [`Workflows::due`] has no workflow. Takes no memory.
+    /// The workflows of a domain in which reapplication may be due, each as its domain and its name, in order. A workflow is
+    /// among them from when something is learned of it that may leave strays until [`Workflows::is_due`] finds that nothing
+    /// is due.
+    pub fn due_in(&self, alloc: Global, domain: &Name) -> Result<Vec<(Name, Name)>, AllocError>
+        ensures { IfOk result (λ list. AreDueIn domain.now list.items self.now) }
+    {
+        self.due.of_domain(alloc, domain)
+    }
+
+    /// Whether [`Workflows::due_domains`] has no domain. Takes no memory.
     pub fn has_none_due(&self) -> bool
         ensures none { IsTrue result → AreDue [] self.now }
         ensures cell { IsCell self.now }
@@ -201,7 +209,7 @@ impl Workflows {
     }
 
     /// Whether reapplication is due in a workflow: there are strays, and the current run is open. Then the strays are known
-    /// to its [`Runs`]. Where it is not due, [`Workflows::due`] has the workflow no more. In time of all learned events of
+    /// to its [`Runs`]. Where it is not due, [`Workflows::due_in`] has the workflow no more. In time of all learned events of
     /// the workflow where the strays are not known, else of some look-ups.
     pub fn is_due(
         &mut self,
@@ -224,7 +232,7 @@ impl Workflows {
 /// off of it.
 fn arrive_in<L>(
     domains: &mut Domains,
-    due: &mut Listing,
+    due: &mut DueListing,
     behind: &mut Listing,
     alloc: Global,
     message: Message,
@@ -251,7 +259,7 @@ fn arrive_in<L>(
 /// Lists a workflow where reapplication may be due in it.
 fn list_where_due(
     may_be_due: bool,
-    due: &mut Listing,
+    due: &mut DueListing,
     domain: &Name,
     workflow: &Name,
 ) -> Result<(), AllocError>

@@ -27,7 +27,7 @@ fn found(alloc: Global, workflows: &Workflows) -> Result<(usize, usize), AllocEr
     let domains = [name(alloc, "alpha")?];
     let found = workflows.of_domains(alloc, &domains)?.len();
     let behind = workflows.behind(alloc)?.len();
-    if workflows.due(alloc)?.is_empty() {
+    if workflows.due_domains(alloc)?.is_empty() && workflows.due_in(alloc, &domains[0])?.is_empty() {
         Ok((found, behind))
     } else {
         Ok((0, 0))

@@ -8,7 +8,7 @@ pub returns-clause-cell : goal.returns-clause-cell
 unfolding after_job
 returns-clause-cell c =
     cell-same (reset_at c.args.desk.now c.args.domain.now c.args.workflow.now c.args.event c.args.shard.now) c.write_reset-written.result c.args.shard.now c.write_reset-written.new.self
-    c.write_reset-written.ensures.batches c.in_ok-reply.ensures.calm c.write_reset-written.ensures.cell c.write_reset-written.ensures.refused
+    c.write_reset-written.ensures.batches c.in_ok-reply.ensures.calm c.write_reset-written.ensures.cell c.write_reset-written.ensures.unchanged
 
 pub returns-clause-reply : goal.returns-clause-reply
 unfolding outcome_of learned_in

@@ -1,5 +1,4 @@
 use Rattle.std.proofs.Common.{ℕ, Result, ap, sym, ◌∙◌}
-use Rattle.std.specs.Option.{option_copied}
 use Rattle.ndc_command.specs.declared.refusal.Refusal.{Refusal}
 use Rattle.ndc_event.specs.Outcome.{◌>>=◌}
 use Rattle.ndc_model_cells.specs.Cells.{learned_of}
@@ -11,19 +10,16 @@ use Rattle.ndc_shard.proofs.shard.Shard.version_for.Goals as goal
 pub returns-in-Err : goal.returns-in-Err
 returns-in-Err c =
     sym (ap (λ (r : Result ℕ Refusal). r >>= λ version. unless_behind version (learned_of c.args.domain.now c.args.workflow.now c.args.self.now)) c.in-Err.is)
-    ∙ may-parts c.args.desk.now c.args.domain.now c.args.workflow.now c.args.self.now c.clusters-clusters.result.now c.me-me.result c.table-table.result.now (option_copied c.find.result) c.writes_to.result
-    c.clusters-clusters.ensures c.me-me.ensures c.table-table.ensures (c.writes_to.ensures c.args.desk.now.limit c.table-table.result.now) c.find.ensures.found
+    ∙ may-parts c.args.desk.now c.args.domain.now c.args.workflow.now c.args.self.now c.version_of.result c.version_of.ensures
 
 pub returns-in-Some : goal.returns-in-Some
 returns-in-Some c =
     c.unless_behind.ensures ∙ ap (unless_behind c.in-Ok.version) c.in-Some.ensures.found
     ∙ sym (ap (λ (r : Result ℕ Refusal). r >>= λ version. unless_behind version (learned_of c.args.domain.now c.args.workflow.now c.args.self.now)) c.in-Ok.is)
-    ∙ may-parts c.args.desk.now c.args.domain.now c.args.workflow.now c.args.self.now c.clusters-clusters.result.now c.me-me.result c.table-table.result.now (option_copied c.find.result) c.writes_to.result
-    c.clusters-clusters.ensures c.me-me.ensures c.table-table.ensures (c.writes_to.ensures c.args.desk.now.limit c.table-table.result.now) c.find.ensures.found
+    ∙ may-parts c.args.desk.now c.args.domain.now c.args.workflow.now c.args.self.now c.version_of.result c.version_of.ensures
 
 pub returns-in-None : goal.returns-in-None
 returns-in-None c =
     sym (none_greater c.in-Ok.version) ∙ ap (unless_behind c.in-Ok.version) (sym c.in-None.ensures.none)
     ∙ sym (ap (λ (r : Result ℕ Refusal). r >>= λ version. unless_behind version (learned_of c.args.domain.now c.args.workflow.now c.args.self.now)) c.in-Ok.is)
-    ∙ may-parts c.args.desk.now c.args.domain.now c.args.workflow.now c.args.self.now c.clusters-clusters.result.now c.me-me.result c.table-table.result.now (option_copied c.find.result) c.writes_to.result
-    c.clusters-clusters.ensures c.me-me.ensures c.table-table.ensures (c.writes_to.ensures c.args.desk.now.limit c.table-table.result.now) c.find.ensures.found
+    ∙ may-parts c.args.desk.now c.args.domain.now c.args.workflow.now c.args.self.now c.version_of.result c.version_of.ensures

@@ -1,12 +1,23 @@
-use Rattle.std.proofs.Common.{◌≡◌, ◌++◌, [], ◌∷◌, List, Option, ap, ◌∙◌}
+use Rattle.std.proofs.Common.{◌≡◌, ◌++◌, [], ◌∷◌, List, Option, ap, ◌∙◌, subst, sym}
 use Rattle.std.specs.Option.{option_copied}
 use Rattle.ndc_event.specs.declared.batch.Batch.{Batch}
+use Rattle.ndc_model_cells.specs.Cells.{Cell}
+use Rattle.ndc_model_cells.specs.Messages.{carrying}
 use Rattle.ndc_model_cells.specs.Places.{place_of}
+use Rattle.ndc_model_cells.specs.Workflow.{workflow_of}
 use Rattle.ndc_model_cells.specs.Writing.{with_batches}
 use Rattle.ndc_model_cells.specs.declared.place.Place.{Place}
+use Rattle.ndc_shard_workflows.specs.Writing.{MayBeWrittenTogether}
 use Rattle.ndc_shard.proofs.SentLemmas.{behind-write, write-messages}
 use Rattle.ndc_shard.specs.Sent.{messages_at}
 use Rattle.ndc_shard.proofs.shard.Shard.write.Goals as goal
+
+pub write-requires : goal.write-requires
+write-requires g c =
+    let entry = c.args.entry.now in
+    let own = subst (λ (cell : Cell). MayBeWrittenTogether (carrying entry.batch entry.second) (workflow_of entry.batch.domain entry.batch.workflow cell)) (sym c.self.view_is) c.requires.may.may in
+    subst (λ (b : Batch). MayBeWrittenTogether (carrying b (option_copied c.second.result)) (workflow_of b.domain b.workflow c.self.inside.workflows)) (sym c.batch-2.ensures)
+    (subst (λ (o : Option Batch). MayBeWrittenTogether (carrying entry.batch o) (workflow_of entry.batch.domain entry.batch.workflow c.self.inside.workflows)) (sym c.second.ensures) own)
 
 pub invariant_of-self-2 : goal.invariant_of-self-2
 invariant_of-self-2 g c =

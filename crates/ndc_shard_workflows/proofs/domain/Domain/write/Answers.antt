@@ -11,7 +11,7 @@ use Rattle.ndc_shard_workflows.specs.Workflow.{with_written}
 use Rattle.ndc_shard_workflows.proofs.OkLemmas.{on-ok}
 use Rattle.ndc_shard_workflows.specs.Named.{under}
 use Rattle.ndc_shard_workflows.specs.Workflows.{workflow_or_empty, IsOwn}
-use Rattle.ndc_shard_workflows.specs.Writing.{MayBeWritten}
+use Rattle.ndc_shard_workflows.specs.Writing.{MayBeWrittenTogether}
 use Rattle.ndc_shard_workflows.proofs.NameLemmas.{put-holds}
 use Rattle.ndc_shard_workflows.proofs.OwnLemmas.{empty-own}
 use Rattle.ndc_shard_workflows.proofs.PutLemmas.{map-put, same-put, own-written-either, on-err}
@@ -22,14 +22,14 @@ write_to-requires g c =
     let b = c.args.batch.now in
     let sent = carrying b (option_copied c.args.second) in
     let at : Some c.in-Some.workflow.now ≡ under b.workflow c.args.self.now = c.in-Some.ensures.value ∙ ap (under b.workflow) c.self.view_is in
-    subst (MayBeWritten sent) (sym (ap workflow_or_empty at)) c.requires.may
+    subst (MayBeWrittenTogether sent) (sym (ap workflow_or_empty at)) c.requires.may
 
 pub write_to-requires-2 : goal.write_to-requires-2
 write_to-requires-2 g c =
     let b = c.args.batch.now in
     let sent = carrying b (option_copied c.args.second) in
     let at : None ≡ under b.workflow c.args.self.now = c.in_default.ensures.value ∙ ap (under b.workflow) c.self.view_is in
-    subst (MayBeWritten sent) (sym (c.new-workflow.ensures ∙ ap workflow_or_empty at)) c.requires.may
+    subst (MayBeWrittenTogether sent) (sym (c.new-workflow.ensures ∙ ap workflow_or_empty at)) c.requires.may
 
 pub returns-in-Some-clause-listed : goal.returns-in-Some-clause-listed
 returns-in-Some-clause-listed g c =
@@ -48,7 +48,7 @@ returns-in-Some-clause-ok g c =
     let b = c.args.batch.now in
     let sent = carrying b (option_copied c.args.second) in
     let at : Some c.in-Some.workflow.now ≡ under b.workflow c.args.self.now = c.in-Some.ensures.value ∙ ap (under b.workflow) c.self.view_is in
-    let can = subst (MayBeWritten sent) (sym (ap workflow_or_empty at)) c.requires.may in
+    let can = subst (MayBeWrittenTogether sent) (sym (ap workflow_or_empty at)) c.requires.may in
     let w = c.get_mut.follows.holds c.write_to.new.workflow in
     on-ok c.write_to.result
     (λ e. same-put b.workflow b.workflow c.write_to.new.workflow (with_written sent (workflow_or_empty (under b.workflow c.args.self.now))) c.args.self.now c.self.inside.workflows.entries
@@ -60,7 +60,7 @@ returns-in-Some-clause-own g c =
     let b = c.args.batch.now in
     let sent = carrying b (option_copied c.args.second) in
     let at : Some c.in-Some.workflow.now ≡ under b.workflow c.args.self.now = c.in-Some.ensures.value ∙ ap (under b.workflow) c.self.view_is in
-    let can = subst (MayBeWritten sent) (sym (ap workflow_or_empty at)) c.requires.may in
+    let can = subst (MayBeWrittenTogether sent) (sym (ap workflow_or_empty at)) c.requires.may in
     let w = c.get_mut.follows.holds c.write_to.new.workflow in
     put-holds (IsOwn b.domain) b.workflow c.write_to.new.workflow c.args.self.now (c.get_mut.follows.lender c.write_to.new.workflow).entries
     (same-put b.workflow b.workflow c.write_to.new.workflow c.write_to.new.workflow c.args.self.now c.self.inside.workflows.entries
@@ -81,7 +81,7 @@ returns-clause-ok g c =
     let b = c.args.batch.now in
     let sent = carrying b (option_copied c.args.second) in
     let at : None ≡ under b.workflow c.args.self.now = c.in_default.ensures.value ∙ ap (under b.workflow) c.self.view_is in
-    let can = subst (MayBeWritten sent) (sym (c.new-workflow.ensures ∙ ap workflow_or_empty at)) c.requires.may in
+    let can = subst (MayBeWrittenTogether sent) (sym (c.new-workflow.ensures ∙ ap workflow_or_empty at)) c.requires.may in
     same-put b.workflow c.in_ok-name.name c.write_to-2.new.workflow (with_written sent (workflow_or_empty (under b.workflow c.args.self.now))) c.args.self.now
     c.get_mut.follows.lender-at-none.entries c.insert.new.self.entries c.in_ok-name.ensures
     (c.in_ok-write_to.ensures.ok ∙ ap (with_written sent) (c.new-workflow.ensures ∙ ap workflow_or_empty at)) (ap (λ n. n.entries) c.get_mut.follows.holds-at-none ∙ c.self.view_is)
@@ -92,7 +92,7 @@ returns-clause-own g c =
     let b = c.args.batch.now in
     let sent = carrying b (option_copied c.args.second) in
     let at : None ≡ under b.workflow c.args.self.now = c.in_default.ensures.value ∙ ap (under b.workflow) c.self.view_is in
-    let can = subst (MayBeWritten sent) (sym (c.new-workflow.ensures ∙ ap workflow_or_empty at)) c.requires.may in
+    let can = subst (MayBeWrittenTogether sent) (sym (c.new-workflow.ensures ∙ ap workflow_or_empty at)) c.requires.may in
     put-holds (IsOwn b.domain) b.workflow c.write_to-2.new.workflow c.args.self.now c.insert.new.self.entries
     (same-put b.workflow c.in_ok-name.name c.write_to-2.new.workflow c.write_to-2.new.workflow c.args.self.now
     c.get_mut.follows.lender-at-none.entries c.insert.new.self.entries c.in_ok-name.ensures refl (ap (λ n. n.entries) c.get_mut.follows.holds-at-none ∙ c.self.view_is)

@@ -12,7 +12,7 @@ use Rattle.ndc_shard_workflows.specs.Listed.{IsListedBefore}
 use Rattle.ndc_shard_workflows.proofs.OkLemmas.{on-ok}
 use Rattle.ndc_shard_workflows.specs.Named.{under, IsPut}
 use Rattle.ndc_shard_workflows.specs.Workflows.{AreOwn, DomainValue, cell_of, workflow_or_empty}
-use Rattle.ndc_shard_workflows.specs.Writing.{MayBeWritten}
+use Rattle.ndc_shard_workflows.specs.Writing.{MayBeWrittenTogether}
 use Rattle.ndc_shard_workflows.proofs.DomainLemmas.{none-own}
 use Rattle.ndc_shard_workflows.proofs.NameLemmas.{put-holds}
 use Rattle.ndc_shard_workflows.proofs.PutLemmas.{map-put, same-put, on-err}
@@ -27,7 +27,7 @@ write-requires-clause-may g c =
     let b = c.args.batch.now in
     let entry : Entry = record { batch = b; second = option_copied c.args.second } in
     let es = c.self.inside.domains.entries in
-    let may = subst (λ (cell : Cell). MayBeWritten (carrying b entry.second) (workflow_of b.domain b.workflow cell)) (sym c.self.view_is) c.requires in
+    let may = subst (λ (cell : Cell). MayBeWrittenTogether (carrying b entry.second) (workflow_of b.domain b.workflow cell)) (sym c.self.view_is) c.requires in
     let at : under b.domain es ≡ Some c.in-Some.domain.now = sym c.in-Some.ensures.value in
     may-there entry es c.self.invariant may (Some c.in-Some.domain.now) at
 
@@ -36,7 +36,7 @@ invariant_of-self g c =
     let b = c.args.batch.now in
     let entry : Entry = record { batch = b; second = option_copied c.args.second } in
     let es = c.self.inside.domains.entries in
-    let may = subst (λ (cell : Cell). MayBeWritten (carrying b entry.second) (workflow_of b.domain b.workflow cell)) (sym c.self.view_is) c.requires in
+    let may = subst (λ (cell : Cell). MayBeWrittenTogether (carrying b entry.second) (workflow_of b.domain b.workflow cell)) (sym c.self.view_is) c.requires in
     let at : under b.domain es ≡ Some c.in-Some.domain.now = sym c.in-Some.ensures.value in
     let after = (c.get_mut.follows.lender c.write.new.self).entries in
     let w = c.get_mut.follows.holds c.write.new.self in
@@ -48,7 +48,7 @@ returns-in-Some-clause-ok g c =
     let b = c.args.batch.now in
     let entry : Entry = record { batch = b; second = option_copied c.args.second } in
     let es = c.self.inside.domains.entries in
-    let may = subst (λ (cell : Cell). MayBeWritten (carrying b entry.second) (workflow_of b.domain b.workflow cell)) (sym c.self.view_is) c.requires in
+    let may = subst (λ (cell : Cell). MayBeWrittenTogether (carrying b entry.second) (workflow_of b.domain b.workflow cell)) (sym c.self.view_is) c.requires in
     let at : under b.domain es ≡ Some c.in-Some.domain.now = sym c.in-Some.ensures.value in
     let after = (c.get_mut.follows.lender c.write.new.self).entries in
     let w = c.get_mut.follows.holds c.write.new.self in
@@ -72,16 +72,16 @@ write-requires-2-clause-may g c =
     let b = c.args.batch.now in
     let entry : Entry = record { batch = b; second = option_copied c.args.second } in
     let es = c.self.inside.domains.entries in
-    let may = subst (λ (cell : Cell). MayBeWritten (carrying b entry.second) (workflow_of b.domain b.workflow cell)) (sym c.self.view_is) c.requires in
+    let may = subst (λ (cell : Cell). MayBeWrittenTogether (carrying b entry.second) (workflow_of b.domain b.workflow cell)) (sym c.self.view_is) c.requires in
     let at : under b.domain es ≡ None = sym c.in_default.ensures.value in
-    subst (λ (ws : DomainValue). MayBeWritten (carrying b entry.second) (workflow_or_empty (under b.workflow ws))) (sym c.new-domain.ensures) (may-there entry es c.self.invariant may None at)
+    subst (λ (ws : DomainValue). MayBeWrittenTogether (carrying b entry.second) (workflow_or_empty (under b.workflow ws))) (sym c.new-domain.ensures) (may-there entry es c.self.invariant may None at)
 
 pub invariant_of-self-2 : goal.invariant_of-self-2
 invariant_of-self-2 g c =
     let b = c.args.batch.now in
     let entry : Entry = record { batch = b; second = option_copied c.args.second } in
     let es = c.self.inside.domains.entries in
-    let may = subst (λ (cell : Cell). MayBeWritten (carrying b entry.second) (workflow_of b.domain b.workflow cell)) (sym c.self.view_is) c.requires in
+    let may = subst (λ (cell : Cell). MayBeWrittenTogether (carrying b entry.second) (workflow_of b.domain b.workflow cell)) (sym c.self.view_is) c.requires in
     let at : under b.domain es ≡ None = sym c.in_default.ensures.value in
     let after = c.insert.new.self.entries in
     let start = c.get_mut.follows.lender-at-none.entries in
@@ -94,7 +94,7 @@ returns-clause-ok g c =
     let b = c.args.batch.now in
     let entry : Entry = record { batch = b; second = option_copied c.args.second } in
     let es = c.self.inside.domains.entries in
-    let may = subst (λ (cell : Cell). MayBeWritten (carrying b entry.second) (workflow_of b.domain b.workflow cell)) (sym c.self.view_is) c.requires in
+    let may = subst (λ (cell : Cell). MayBeWrittenTogether (carrying b entry.second) (workflow_of b.domain b.workflow cell)) (sym c.self.view_is) c.requires in
     let at : under b.domain es ≡ None = sym c.in_default.ensures.value in
     let after = c.insert.new.self.entries in
     let start = c.get_mut.follows.lender-at-none.entries in

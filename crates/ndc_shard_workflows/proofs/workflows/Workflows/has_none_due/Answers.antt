@@ -1,15 +1,9 @@
 use Rattle.std.proofs.Common.{◌≡◌, ◌==◌, List, [], ◌∷◌, length, IsTrue, refl, subst, arith}
 use Rattle.std.proofs.lemmas.Bool.{eqb-true}
 use Rattle.ndc_event.specs.declared.name.Name.{Name}
-use Rattle.ndc_model_cells.specs.Cells.{Cell}
-use Rattle.std.specs.List.Sorted.{IsStrictlySortedBy}
-use Rattle.ndc_shard_workflows.specs.Due.{AreDue, HoldDue, names_order}
+use Rattle.ndc_shard_workflows.specs.Due.{HoldDue}
+use Rattle.ndc_shard_workflows.proofs.ByDomainLemmas.{sorted-none}
 use Rattle.ndc_shard_workflows.proofs.workflows.Workflows.has_none_due.Goals as goal
-
--- no workflow is in order
-sorted-none : IsStrictlySortedBy names_order []
-unfolding IsStrictlySortedBy
-sorted-none = tt
 
 -- a list of no length is empty
 none-in : (list : List (Name × Name)) → IsTrue (length list == 0) → list ≡ []
