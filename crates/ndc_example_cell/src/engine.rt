@@ -17,6 +17,9 @@ pub(crate) const LIMIT: u64 = 100;
 /// How many events, and tasks, a command adds at most.
 pub(crate) const GROWTH: u64 = LIMIT + 4;
 
+/// Marks the counters of steps of this program.
+struct Replay;
+
 /// The workflow of which two cells hold batches, the clusters that they are of, and how many events, and tasks, they hold
 /// at most: an engine counts them.
 #[derive(Clone, Copy, Drop)]
@@ -52,14 +55,13 @@ impl<'a> Shared<'a> {
 }
 
 /// A cell writes what a command asks for, or refuses it.
-pub(crate) fn write<L>(
+pub(crate) fn write(
     mine: &mut Shard,
     theirs: &Shard,
     shared: &Shared,
     home: &Home,
     table: &DomainTable,
     command: &Command,
-    steps: &mut Steps<L>,
 ) -> Result<Result<Written, Refusal>, AllocError>
     requires shared { AreShared home.now.clusters shared.now.me shared.now.them shared.now.most shared.now.domain.now shared.now.workflow.now mine.old theirs.now }
     requires home { home.now.me ≡ shared.now.me }
@@ -68,8 +70,16 @@ pub(crate) fn write<L>(
     ensures mine { OnOk result (AreShared home.now.clusters shared.now.me shared.now.them (shared.now.most + 104) shared.now.domain.now shared.now.workflow.now mine.new theirs.now) }
     ensures theirs { OnOk result (AreShared home.now.clusters shared.now.them shared.now.me (shared.now.most + 104) shared.now.domain.now shared.now.workflow.now theirs.now mine.new) }
 {
+    let mut steps: Steps<Replay> = Steps::new();
     mine.is_in_order();
-    let written = mine.command(home, table, shared.domain, shared.workflow, command, steps);
+    let written = mine.command(
+        home,
+        table,
+        shared.domain,
+        shared.workflow,
+        command,
+        &mut steps,
+    );
     match written {
         Ok(written) => Ok(Ok(written)),
         Err(ShardError::Refused(refusal)) => Ok(Err(refusal)),
@@ -78,13 +88,12 @@ pub(crate) fn write<L>(
 }
 
 /// A message of what one cell has learned comes to the other.
-fn hear<L>(
+fn hear(
     mine: &Shard,
     theirs: &mut Shard,
     shared: &Shared,
     clusters: &Clusters,
     message: &Message,
-    steps: &mut Steps<L>,
 ) -> Result<Arrived, AllocError>
     requires shared { AreShared clusters.now shared.now.me shared.now.them shared.now.most shared.now.domain.now shared.now.workflow.now mine.now theirs.old }
     requires few { shared.now.most ≤ 10 ^ 10 }
@@ -92,20 +101,20 @@ fn hear<L>(
     ensures mine { OnOk result (AreShared clusters.now shared.now.me shared.now.them shared.now.most shared.now.domain.now shared.now.workflow.now mine.now theirs.new) }
     ensures theirs { OnOk result (AreShared clusters.now shared.now.them shared.now.me shared.now.most shared.now.domain.now shared.now.workflow.now theirs.new mine.now) }
 {
+    let mut steps: Steps<Replay> = Steps::new();
     mine.is_in_order();
     theirs.is_in_order();
-    let arrived = theirs.arrive(message, steps)?;
+    let arrived = theirs.arrive(message, &mut steps)?;
     Ok(arrived)
 }
 
 /// Messages of what one cell has learned come to the other, in order.
-fn hear_all<L>(
+fn hear_all(
     mine: &Shard,
     theirs: &mut Shard,
     shared: &Shared,
     clusters: &Clusters,
     messages: &[Message],
-    steps: &mut Steps<L>,
 ) -> Result<(), AllocError>
     requires shared { AreShared clusters.now shared.now.me shared.now.them shared.now.most shared.now.domain.now shared.now.workflow.now mine.now theirs.old }
     requires few { shared.now.most ≤ 10 ^ 10 }
@@ -113,19 +122,18 @@ fn hear_all<L>(
     ensures { OnOk result (AreShared clusters.now shared.now.me shared.now.them shared.now.most shared.now.domain.now shared.now.workflow.now mine.now theirs.new) }
 {
     for message in messages {
-        hear(mine, theirs, shared, clusters, message, steps)?;
+        hear(mine, theirs, shared, clusters, message)?;
     }
     Ok(())
 }
 
 /// One cell tells the other the batch of a key, where it has learned it: what comes of it.
-pub(crate) fn tell<L>(
+pub(crate) fn tell(
     mine: &Shard,
     theirs: &mut Shard,
     shared: &Shared,
     clusters: &Clusters,
     key: BatchKey,
-    steps: &mut Steps<L>,
 ) -> Result<Option<Arrived>, AllocError>
     requires shared { AreShared clusters.now shared.now.me shared.now.them shared.now.most shared.now.domain.now shared.now.workflow.now mine.now theirs.old }
     requires few { shared.now.most ≤ 10 ^ 10 }
@@ -136,17 +144,16 @@ pub(crate) fn tell<L>(
     let Some(message) = mine.message(shared.domain, shared.workflow, key)? else {
         return Ok(None);
     };
-    let arrived = hear(mine, theirs, shared, clusters, &message, steps)?;
+    let arrived = hear(mine, theirs, shared, clusters, &message)?;
     Ok(Some(arrived))
 }
 
 /// A cell is served for what it has put off by the other one: for how many gaps.
-pub(crate) fn repair<L>(
+pub(crate) fn repair(
     mine: &Shard,
     theirs: &mut Shard,
     shared: &Shared,
     clusters: &Clusters,
-    steps: &mut Steps<L>,
 ) -> Result<usize, AllocError>
     requires shared { AreShared clusters.now shared.now.me shared.now.them shared.now.most shared.now.domain.now shared.now.workflow.now mine.now theirs.old }
     requires few { shared.now.most ≤ 10 ^ 10 }
@@ -157,56 +164,54 @@ pub(crate) fn repair<L>(
     for gap in gaps.as_slice() {
         mine.is_in_order();
         let served = mine.serve(gap)?;
-        hear_all(mine, theirs, shared, clusters, served.as_slice(), steps)?;
+        hear_all(mine, theirs, shared, clusters, served.as_slice())?;
     }
     Ok(gaps.len())
 }
 
 /// A message of what one cell has learned comes to another, which only reads.
-fn learn<L>(
+fn learn(
     mine: &Shard,
     copy: &mut Shard,
     shared: &Shared,
     message: &Message,
-    steps: &mut Steps<L>,
 ) -> Result<Arrived, AllocError>
     requires told { CanTell shared.now.most shared.now.domain.now shared.now.workflow.now mine.now copy.old }
     requires few { shared.now.most ≤ 10 ^ 10 }
     requires sent { IsSentBy mine.now message.now }
     ensures { OnOk result (CanTell shared.now.most shared.now.domain.now shared.now.workflow.now mine.now copy.new) }
 {
+    let mut steps: Steps<Replay> = Steps::new();
     mine.is_in_order();
     copy.is_in_order();
-    let arrived = copy.arrive(message, steps)?;
+    let arrived = copy.arrive(message, &mut steps)?;
     Ok(arrived)
 }
 
 /// All these come to it, in order.
-fn learn_all<L>(
+fn learn_all(
     mine: &Shard,
     copy: &mut Shard,
     shared: &Shared,
     messages: &[Message],
-    steps: &mut Steps<L>,
 ) -> Result<(), AllocError>
     requires told { CanTell shared.now.most shared.now.domain.now shared.now.workflow.now mine.now copy.old }
     requires few { shared.now.most ≤ 10 ^ 10 }
     requires sent { AllByRecursion (IsSentBy mine.now) messages.now }
 {
     for message in messages {
-        learn(mine, copy, shared, message, steps)?;
+        learn(mine, copy, shared, message)?;
     }
     Ok(())
 }
 
 /// A new cell is made of all that a cell has learned of the domain, as an engine does that loads its state again.
-pub(crate) fn remake<L>(
+pub(crate) fn remake(
     alloc: Global,
     mine: &Shard,
     theirs: &Shard,
     shared: &Shared,
     home: &Home,
-    steps: &mut Steps<L>,
 ) -> Result<Shard, AllocError>
     requires shared { AreShared home.now.clusters shared.now.me shared.now.them shared.now.most shared.now.domain.now shared.now.workflow.now mine.now theirs.now }
     requires few { shared.now.most ≤ 10 ^ 10 }
@@ -214,25 +219,25 @@ pub(crate) fn remake<L>(
     let mut copy = Shard::new(alloc, home)?;
     mine.is_in_order();
     let messages = mine.all_of(shared.domain)?;
-    learn_all(mine, &mut copy, shared, messages.as_slice(), steps)?;
+    learn_all(mine, &mut copy, shared, messages.as_slice())?;
     Ok(copy)
 }
 
 /// Signals that a cell's current run has not seen are applied again: how many batches are written.
-pub(crate) fn reapply<L>(
+pub(crate) fn reapply(
     mine: &mut Shard,
     theirs: &Shard,
     shared: &Shared,
     home: &Home,
     table: &DomainTable,
-    steps: &mut Steps<L>,
 ) -> Result<usize, AllocError>
     requires shared { AreShared home.now.clusters shared.now.me shared.now.them shared.now.most shared.now.domain.now shared.now.workflow.now mine.old theirs.now }
     requires home { home.now.me ≡ shared.now.me }
     requires limit { home.now.limit ≡ 100 }
     requires few { shared.now.most ≤ 10 ^ 10 }
 {
-    let places = mine.reapply(home, table, steps)?;
+    let mut steps: Steps<Replay> = Steps::new();
+    let places = mine.reapply(home, table, &mut steps)?;
     Ok(places.len())
 }
 

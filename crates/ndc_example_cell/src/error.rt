@@ -1,19 +1,33 @@
-use ndc_domain::{DomainError, FailoverError};
+use ndc_domain::{ClustersError, DomainError, FailoverError};
 use ndc_event::NameError;
 use std::alloc::{AllocError, AllocFailed};
-use thiserror::Error;
 
 /// Why the story ends early.
-#[derive(Clone, Copy, Debug, PartialEq, Eq, Error)]
+#[derive(Clone, Copy)]
 pub(crate) enum StoryError {
-    #[error("{0}")]
-    Name(NameError),
-    #[error("{0}")]
-    Domain(DomainError),
-    #[error("{0}")]
-    Failover(FailoverError),
-    #[error("out of memory")]
+    /// A name is none.
+    Name,
+    /// The clusters are none, or too few.
+    Clusters,
+    /// The domain is not registered.
+    Domain,
+    /// The domain is not failed over.
+    Failover,
+    /// Memory is wanting.
     Memory,
+}
+
+impl StoryError {
+    /// What is told of it.
+    pub(crate) fn text(self) -> &'static str {
+        match self {
+            StoryError::Name => "a name is none",
+            StoryError::Clusters => "the clusters are none, or too few",
+            StoryError::Domain => "the domain is not registered",
+            StoryError::Failover => "the domain is not failed over",
+            StoryError::Memory => "out of memory",
+        }
+    }
 }
 
 impl From<AllocError> for StoryError {
@@ -29,19 +43,25 @@ impl<T: Drop> From<AllocFailed<T>> for StoryError {
 }
 
 impl From<NameError> for StoryError {
-    fn from(error: NameError) -> StoryError {
-        StoryError::Name(error)
+    fn from(_error: NameError) -> StoryError {
+        StoryError::Name
+    }
+}
+
+impl From<ClustersError> for StoryError {
+    fn from(_error: ClustersError) -> StoryError {
+        StoryError::Clusters
     }
 }
 
 impl From<DomainError> for StoryError {
-    fn from(error: DomainError) -> StoryError {
-        StoryError::Domain(error)
+    fn from(_error: DomainError) -> StoryError {
+        StoryError::Domain
     }
 }
 
 impl From<FailoverError> for StoryError {
-    fn from(error: FailoverError) -> StoryError {
-        StoryError::Failover(error)
+    fn from(_error: FailoverError) -> StoryError {
+        StoryError::Failover
     }
 }

@@ -5,22 +5,23 @@
 mod engine;
 mod error;
 mod story;
+mod telling;
 
 use crate::story::play;
+use ndc_port::{StdSink, write_all};
 use std::process::ExitCode;
 
 fn main(rt: HostRuntime) -> ExitCode {
-    let lines = match play(rt.alloc()) {
-        Ok(lines) => lines,
+    let text = match play(rt.alloc()) {
+        Ok(text) => text,
         Err(error) => {
-            let _told = eprintln!(&rt; "{error}");
+            let _told = eprintln!(&rt; "{}", error.text());
             return ExitCode::from(8);
         }
     };
-    for line in lines {
-        if println!(&rt; "{line}").is_err() {
-            return ExitCode::from(4);
-        }
+    let mut out = StdSink::out(rt.stdout());
+    match write_all(&mut out, text.as_slice()) {
+        Ok(()) => ExitCode::from(0),
+        Err(_) => ExitCode::from(4),
     }
-    ExitCode::from(0)
 }

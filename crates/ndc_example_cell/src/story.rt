@@ -1,4 +1,4 @@
-//! What two cells are made to do, and what is told of it.
+//! What two cells are made to do.
 
 ghost use Rattle.std.specs.Prelude.{◌≡◌, ◌+◌, ◌≤◌, ◌^◌, IfOk, OnOk};
 ghost use Rattle.ndc_domain.specs.Clusters.{count_of};
@@ -6,25 +6,20 @@ ghost use Rattle.ndc_example_cell.specs.Shared.{AreShared};
 
 use crate::engine::{GROWTH, LIMIT, Shared, begin, reapply, remake, repair, tell, write};
 use crate::error::StoryError;
-use ndc_command::{Command, Refusal};
+use crate::telling::{tell_alike, tell_arrived, tell_count, tell_written};
+use ndc_command::Command;
 use ndc_domain::{ClusterNo, Clusters, DomainTable, Members};
-use ndc_event::{Batch, BatchKey, Name};
-use ndc_shard::{Arrived, Home, Shard, Written};
-use ndc_state::Steps;
-use std::alloc::{AllocError, Global};
+use ndc_event::{BatchKey, Name};
+use ndc_shard::{Home, Shard};
+use std::alloc::Global;
 
 const A: ClusterNo = ClusterNo { number: 0 };
 
 const B: ClusterNo = ClusterNo { number: 1 };
 
-/// Marks the counters of steps of this program.
-struct Story;
-
 /// A name.
-fn name(alloc: Global, text: &str) -> Result<Name, StoryError>
-    ensures { IfOk result (λ name. name ≡ text.now) }
-{
-    Ok(Name::new(alloc, text.as_bytes())?)
+fn name(alloc: Global, bytes: &[u8]) -> Result<Name, StoryError> {
+    Ok(Name::new(alloc, bytes)?)
 }
 
 /// The clusters, A and B.
@@ -32,12 +27,13 @@ fn clusters(alloc: Global) -> Result<Clusters, StoryError>
     ensures { IfOk result (λ clusters. 2 ≤ count_of clusters) }
 {
     let mut members = Vec::new(alloc);
-    members.push((name(alloc, "A")?, 1))?;
-    members.push((name(alloc, "B")?, 2))?;
-    match Clusters::build(10, members) {
-        Ok(clusters) => Ok(clusters),
-        Err(_) => unreachable!(),
+    members.push((name(alloc, b"A")?, 1))?;
+    members.push((name(alloc, b"B")?, 2))?;
+    let clusters = Clusters::build(10, members)?;
+    if clusters.count() < 2 {
+        return Err(StoryError::Clusters);
     }
+    Ok(clusters)
 }
 
 /// Records of a domain that A writes to and both are members of.
@@ -61,82 +57,17 @@ fn moved(
     Ok(table)
 }
 
-/// A signal.
-fn signal(alloc: Global, text: &str) -> Result<Command, StoryError> {
-    Ok(Command::Signal {
-        name: name(alloc, text)?,
-        input: name(alloc, "now")?,
-    })
-}
-
-/// What a cell wrote, or why it did not.
-fn written_line(
-    alloc: Global,
-    who: &str,
-    written: &Result<Written, Refusal>,
-) -> Result<String, AllocError> {
-    match written {
-        Ok(written) => {
-            format!(in alloc; "{who} writes {}.{}", written.key.version, written.key.task)
-        }
-        Err(refusal) => format!(in alloc; "{who} refuses: {refusal:?}"),
-    }
-}
-
-/// What came of a message.
-fn arrived_line(alloc: Global, who: &str, arrived: &Option<Arrived>) -> Result<String, AllocError> {
-    match arrived {
-        Some(Arrived::Learned { .. }) => format!(in alloc; "{who} learns it"),
-        Some(Arrived::PutOff { missing }) => {
-            format!(in alloc;
-                "{who} puts it off: {}.{} is missing",
-                missing.version, missing.task
-            )
-        }
-        Some(Arrived::Known) => format!(in alloc; "{who} knows it"),
-        None => format!(in alloc; "{who} is told nothing"),
-    }
-}
-
-/// Whether batches have the same keys. Of one set they are then the same.
-fn are_same(one: &[Batch], two: &[Batch]) -> bool {
-    if one.len() != two.len() {
-        return false;
-    }
-    for place in 0..one.len() {
-        if one[place].key != two[place].key {
-            return false;
-        }
-    }
-    true
-}
-
-/// Whether two cells have learned the same of the workflow.
-fn are_alike(one: &Shard, two: &Shard, domain: &Name, workflow: &Name) -> Result<bool, AllocError> {
-    let mut steps: Steps<Story> = Steps::new();
-    let first = one.view(domain, workflow, &mut steps)?;
-    let second = two.view(domain, workflow, &mut steps)?;
-    match (first, second) {
-        (Some(first), Some(second)) => {
-            Ok(are_same(first.batches.as_slice(), second.batches.as_slice()))
-        }
-        (None, None) => Ok(true),
-        _ => Ok(false),
-    }
-}
-
 /// A cell is asked to write, and what comes of it is told.
 fn write_told(
-    alloc: Global,
+    who: &[u8],
     mine: &mut Shard,
     theirs: &Shard,
     shared: &Shared,
     home: &Home,
     table: &DomainTable,
     command: &Command,
-    who: &str,
-    lines: &mut Vec<String>,
-) -> Result<(), AllocError>
+    text: &mut Vec<u8>,
+) -> Result<(), StoryError>
     requires shared { AreShared home.now.clusters shared.now.me shared.now.them shared.now.most shared.now.domain.now shared.now.workflow.now mine.old theirs.now }
     requires home { home.now.me ≡ shared.now.me }
     requires limit { home.now.limit ≡ 100 }
@@ -144,10 +75,57 @@ fn write_told(
     ensures mine { OnOk result (AreShared home.now.clusters shared.now.me shared.now.them (shared.now.most + 104) shared.now.domain.now shared.now.workflow.now mine.new theirs.now) }
     ensures theirs { OnOk result (AreShared home.now.clusters shared.now.them shared.now.me (shared.now.most + 104) shared.now.domain.now shared.now.workflow.now theirs.now mine.new) }
 {
-    let mut steps: Steps<Story> = Steps::new();
-    let written = write(mine, theirs, shared, home, table, command, &mut steps)?;
-    lines.push(written_line(alloc, who, &written)?)?;
+    let written = write(mine, theirs, shared, home, table, command)?;
+    tell_written(text, who, &written)?;
     Ok(())
+}
+
+/// A cell starts the workflow.
+fn start(
+    alloc: Global,
+    who: &[u8],
+    mine: &mut Shard,
+    theirs: &Shard,
+    shared: &Shared,
+    home: &Home,
+    table: &DomainTable,
+    text: &mut Vec<u8>,
+) -> Result<(), StoryError>
+    requires shared { AreShared home.now.clusters shared.now.me shared.now.them shared.now.most shared.now.domain.now shared.now.workflow.now mine.old theirs.now }
+    requires home { home.now.me ≡ shared.now.me }
+    requires limit { home.now.limit ≡ 100 }
+    requires few { shared.now.most ≤ 10 ^ 10 }
+    ensures { OnOk result (AreShared home.now.clusters shared.now.me shared.now.them (shared.now.most + 104) shared.now.domain.now shared.now.workflow.now mine.new theirs.now) }
+{
+    let workflow_type = name(alloc, b"order")?;
+    let command = Command::Start { workflow_type };
+    write_told(who, mine, theirs, shared, home, table, &command, text)
+}
+
+/// A cell takes a signal.
+fn signal(
+    alloc: Global,
+    who: &[u8],
+    mine: &mut Shard,
+    theirs: &Shard,
+    shared: &Shared,
+    home: &Home,
+    table: &DomainTable,
+    text: &mut Vec<u8>,
+) -> Result<(), StoryError>
+    requires shared { AreShared home.now.clusters shared.now.me shared.now.them shared.now.most shared.now.domain.now shared.now.workflow.now mine.old theirs.now }
+    requires home { home.now.me ≡ shared.now.me }
+    requires limit { home.now.limit ≡ 100 }
+    requires few { shared.now.most ≤ 10 ^ 10 }
+    ensures mine { OnOk result (AreShared home.now.clusters shared.now.me shared.now.them (shared.now.most + 104) shared.now.domain.now shared.now.workflow.now mine.new theirs.now) }
+    ensures theirs { OnOk result (AreShared home.now.clusters shared.now.them shared.now.me (shared.now.most + 104) shared.now.domain.now shared.now.workflow.now theirs.now mine.new) }
+{
+    let (paid, now) = (name(alloc, b"paid")?, name(alloc, b"now")?);
+    let command = Command::Signal {
+        name: paid,
+        input: now,
+    };
+    write_told(who, mine, theirs, shared, home, table, &command, text)
 }
 
 /// Both cells begin; A starts a workflow and signals it. Gives A's cell and B's.
@@ -158,7 +136,7 @@ fn start_and_signal(
     domain: &Name,
     workflow: &Name,
     table: &DomainTable,
-    lines: &mut Vec<String>,
+    text: &mut Vec<u8>,
 ) -> Result<(Shard, Shard), StoryError>
     requires home { here.now.me ≡ record { number = 0 } }
     requires limit { here.now.limit ≡ 100 }
@@ -166,17 +144,9 @@ fn start_and_signal(
 {
     let both = Shared::new(domain, workflow, A, B, 0);
     let (mut one, two) = begin(alloc, here, there, &both)?;
-    let start = Command::Start {
-        workflow_type: name(alloc, "order")?,
-    };
-    write_told(
-        alloc, &mut one, &two, &both, here, table, &start, "A", lines,
-    )?;
+    start(alloc, b"A", &mut one, &two, &both, here, table, text)?;
     let both = Shared::new(domain, workflow, A, B, GROWTH);
-    let first = signal(alloc, "first")?;
-    write_told(
-        alloc, &mut one, &two, &both, here, table, &first, "A", lines,
-    )?;
+    signal(alloc, b"A", &mut one, &two, &both, here, table, text)?;
     Ok((one, two))
 }
 
@@ -188,27 +158,25 @@ fn lose_and_serve(
     clusters: &Clusters,
     domain: &Name,
     workflow: &Name,
-    lines: &mut Vec<String>,
-) -> Result<(), AllocError>
+    text: &mut Vec<u8>,
+) -> Result<(), StoryError>
     requires { AreShared clusters.now (record { number = 0 }) (record { number = 1 }) 208 domain.now workflow.now one.now two.old }
     ensures { OnOk result (AreShared clusters.now (record { number = 1 }) (record { number = 0 }) 208 domain.now workflow.now two.new one.now) }
 {
-    let mut steps: Steps<Story> = Steps::new();
     let both = Shared::new(domain, workflow, A, B, 2 * GROWTH);
     let key = BatchKey {
         version: 1,
         task: 2,
     };
-    let arrived = tell(one, two, &both, clusters, key, &mut steps)?;
-    lines.push(arrived_line(alloc, "B", &arrived)?)?;
-    let gaps = repair(one, two, &both, clusters, &mut steps)?;
-    lines.push(format!(in alloc; "B is served for {gaps} gap")?)?;
-    let alike = are_alike(one, two, domain, workflow)?;
-    lines.push(format!(in alloc; "alike: {alike}")?)?;
+    let arrived = tell(one, two, &both, clusters, key)?;
+    tell_arrived(text, b"B", &arrived)?;
+    let gaps = repair(one, two, &both, clusters)?;
+    tell_count(text, b"gaps for which B is served: ", gaps)?;
+    tell_alike(alloc, text, one, two, domain, workflow)?;
     Ok(())
 }
 
-/// B signals the workflow, which is refused, and signals it again with records that make it the writer.
+/// B takes a signal, which is refused, and takes it again with records that make it the writer.
 fn fail_over(
     alloc: Global,
     one: &Shard,
@@ -218,7 +186,7 @@ fn fail_over(
     workflow: &Name,
     table: &DomainTable,
     moved: &DomainTable,
-    lines: &mut Vec<String>,
+    text: &mut Vec<u8>,
 ) -> Result<(), StoryError>
     requires shared { AreShared home.now.clusters (record { number = 1 }) (record { number = 0 }) 208 domain.now workflow.now two.old one.now }
     requires home { home.now.me ≡ record { number = 1 } }
@@ -226,15 +194,13 @@ fn fail_over(
     ensures { OnOk result (AreShared home.now.clusters (record { number = 0 }) (record { number = 1 }) 416 domain.now workflow.now one.now two.new) }
 {
     let before = Shared::new(domain, workflow, B, A, 2 * GROWTH);
-    let second = signal(alloc, "second")?;
-    write_told(alloc, two, one, &before, home, table, &second, "B", lines)?;
+    signal(alloc, b"B", two, one, &before, home, table, text)?;
     let before = Shared::new(domain, workflow, B, A, 3 * GROWTH);
-    let third = signal(alloc, "third")?;
-    write_told(alloc, two, one, &before, home, moved, &third, "B", lines)?;
+    signal(alloc, b"B", two, one, &before, home, moved, text)?;
     Ok(())
 }
 
-/// A signals it too, by its older record.
+/// A takes a signal too, by its older record.
 fn signal_too(
     alloc: Global,
     one: &mut Shard,
@@ -243,7 +209,7 @@ fn signal_too(
     domain: &Name,
     workflow: &Name,
     table: &DomainTable,
-    lines: &mut Vec<String>,
+    text: &mut Vec<u8>,
 ) -> Result<(), StoryError>
     requires shared { AreShared home.now.clusters (record { number = 0 }) (record { number = 1 }) 416 domain.now workflow.now one.old two.now }
     requires home { home.now.me ≡ record { number = 0 } }
@@ -251,8 +217,7 @@ fn signal_too(
     ensures { OnOk result (AreShared home.now.clusters (record { number = 0 }) (record { number = 1 }) 520 domain.now workflow.now one.new two.now) }
 {
     let both = Shared::new(domain, workflow, A, B, 4 * GROWTH);
-    let fourth = signal(alloc, "fourth")?;
-    write_told(alloc, one, two, &both, home, table, &fourth, "A", lines)?;
+    signal(alloc, b"A", one, two, &both, home, table, text)?;
     Ok(())
 }
 
@@ -264,28 +229,26 @@ fn tell_each_other(
     clusters: &Clusters,
     domain: &Name,
     workflow: &Name,
-    lines: &mut Vec<String>,
-) -> Result<(), AllocError>
+    text: &mut Vec<u8>,
+) -> Result<(), StoryError>
     requires { AreShared clusters.now (record { number = 0 }) (record { number = 1 }) 520 domain.now workflow.now one.old two.old }
     ensures { OnOk result (AreShared clusters.now (record { number = 1 }) (record { number = 0 }) 520 domain.now workflow.now two.new one.new) }
 {
-    let mut steps: Steps<Story> = Steps::new();
     let there = Shared::new(domain, workflow, A, B, 5 * GROWTH);
     let back = Shared::new(domain, workflow, B, A, 5 * GROWTH);
     let key = BatchKey {
         version: 1,
         task: 3,
     };
-    let arrived = tell(one, two, &there, clusters, key, &mut steps)?;
-    lines.push(arrived_line(alloc, "B", &arrived)?)?;
+    let arrived = tell(one, two, &there, clusters, key)?;
+    tell_arrived(text, b"B", &arrived)?;
     let key = BatchKey {
         version: 2,
         task: 3,
     };
-    let arrived = tell(two, one, &back, clusters, key, &mut steps)?;
-    lines.push(arrived_line(alloc, "A", &arrived)?)?;
-    let alike = are_alike(one, two, domain, workflow)?;
-    lines.push(format!(in alloc; "alike: {alike}")?)?;
+    let arrived = tell(two, one, &back, clusters, key)?;
+    tell_arrived(text, b"A", &arrived)?;
+    tell_alike(alloc, text, one, two, domain, workflow)?;
     Ok(())
 }
 
@@ -298,58 +261,62 @@ fn make_anew(
     domain: &Name,
     workflow: &Name,
     table: &DomainTable,
-    lines: &mut Vec<String>,
-) -> Result<(), AllocError>
+    text: &mut Vec<u8>,
+) -> Result<(), StoryError>
     requires shared { AreShared home.now.clusters (record { number = 1 }) (record { number = 0 }) 520 domain.now workflow.now two.old one.now }
     requires home { home.now.me ≡ record { number = 1 } }
     requires limit { home.now.limit ≡ 100 }
 {
-    let mut steps: Steps<Story> = Steps::new();
     let both = Shared::new(domain, workflow, B, A, 5 * GROWTH);
-    let copy = remake(alloc, two, one, &both, home, &mut steps)?;
-    let alike = are_alike(one, &copy, domain, workflow)?;
-    lines.push(format!(in alloc; "made anew: {alike}")?)?;
-    let count = reapply(two, one, &both, home, table, &mut steps)?;
-    lines.push(format!(in alloc; "B applies again: {count} batch")?)?;
+    let copy = remake(alloc, two, one, &both, home)?;
+    text.extend_from_slice(b"A is made anew\n")?;
+    tell_alike(alloc, text, one, &copy, domain, workflow)?;
+    let count = reapply(two, one, &both, home, table)?;
+    tell_count(text, b"batches that B applies again: ", count)?;
     Ok(())
 }
 
 /// Two cells write, tell each other in another order than they wrote, lose a message and are served for it; one is made
-/// anew, and signals of a branch that lost are applied again. Gives the lines that tell of it.
-pub(crate) fn play(alloc: Global) -> Result<Vec<String>, StoryError> {
-    let mut lines = Vec::new(alloc);
-    let clusters = clusters(alloc)?;
-    let domain = &name(alloc, "alpha")?;
-    let workflow = &name(alloc, "w1")?;
-    let table = records(alloc, &clusters, domain)?;
-    let moved = &moved(&clusters, domain, &table)?;
+/// anew, and signals of a branch that lost are applied again.
+fn play_over(
+    alloc: Global,
+    clusters: &Clusters,
+    domain: &Name,
+    workflow: &Name,
+    table: &DomainTable,
+    moved: &DomainTable,
+    text: &mut Vec<u8>,
+) -> Result<(), StoryError> {
     let here = Home {
-        clusters: &clusters,
+        clusters,
         me: A,
         limit: LIMIT,
     };
     let there = Home {
-        clusters: &clusters,
+        clusters,
         me: B,
         limit: LIMIT,
     };
-    let (mut one, mut two) = start_and_signal(
-        alloc, &here, &there, domain, workflow, &table, &mut lines,
-    )?;
-    lose_and_serve(
-        alloc, &one, &mut two, &clusters, domain, workflow, &mut lines,
-    )?;
+    let (mut one, mut two) = start_and_signal(alloc, &here, &there, domain, workflow, table, text)?;
+    lose_and_serve(alloc, &one, &mut two, clusters, domain, workflow, text)?;
     fail_over(
-        alloc, &one, &mut two, &there, domain, workflow, &table, moved, &mut lines,
+        alloc, &one, &mut two, &there, domain, workflow, table, moved, text,
     )?;
-    signal_too(
-        alloc, &mut one, &two, &here, domain, workflow, &table, &mut lines,
+    signal_too(alloc, &mut one, &two, &here, domain, workflow, table, text)?;
+    tell_each_other(alloc, &mut one, &mut two, clusters, domain, workflow, text)?;
+    make_anew(alloc, &one, &mut two, &there, domain, workflow, moved, text)
+}
+
+/// Makes the clusters and the records, lets all of it happen, and gives the lines that tell of it.
+pub(crate) fn play(alloc: Global) -> Result<Vec<u8>, StoryError> {
+    let clusters = clusters(alloc)?;
+    let domain = name(alloc, b"alpha")?;
+    let workflow = name(alloc, b"w1")?;
+    let table = records(alloc, &clusters, &domain)?;
+    let moved = moved(&clusters, &domain, &table)?;
+    let mut text = Vec::new(alloc);
+    play_over(
+        alloc, &clusters, &domain, &workflow, &table, &moved, &mut text,
     )?;
-    tell_each_other(
-        alloc, &mut one, &mut two, &clusters, domain, workflow, &mut lines,
-    )?;
-    make_anew(
-        alloc, &one, &mut two, &there, domain, workflow, moved, &mut lines,
-    )?;
-    Ok(lines)
+    Ok(text)
 }

@@ -1,0 +1,111 @@
+//! What is told, piece by piece.
+use ndc_command::Refusal;
+use ndc_dump_show::dump_text;
+use ndc_event::{BatchKey, Name};
+use ndc_shard::{Arrived, Shard, Written};
+use ndc_state::Steps;
+use std::alloc::{AllocError, Global};
+
+/// Marks the counters of steps of what is shown.
+struct Looking;
+
+/// Appends a number.
+fn push_number(text: &mut Vec<u8>, number: u64) -> Result<(), AllocError> {
+    let mut buffer = itoa::Buffer::new();
+    text.extend_from_slice(buffer.format(number).as_bytes())
+}
+
+/// Appends a key, and ends the line.
+fn end_with_key(text: &mut Vec<u8>, key: BatchKey) -> Result<(), AllocError> {
+    push_number(text, key.version)?;
+    text.extend_from_slice(b".")?;
+    push_number(text, key.task)?;
+    text.extend_from_slice(b"\n")
+}
+
+/// Why a command was refused, where that is for what the cell knows of the workflow's writer.
+fn reason_of(refusal: Refusal) -> &'static [u8] {
+    match refusal {
+        Refusal::UnknownDomain => b"no record of the domain",
+        Refusal::NotActive { .. } => b"another cluster writes",
+        Refusal::Behind { .. } => b"another cluster wrote later",
+        _ => b"not as the workflow stands",
+    }
+}
+
+/// Tells what a cell wrote, or why it did not.
+pub(crate) fn tell_written(
+    text: &mut Vec<u8>,
+    who: &[u8],
+    written: &Result<Written, Refusal>,
+) -> Result<(), AllocError> {
+    text.extend_from_slice(who)?;
+    match written {
+        Ok(written) => {
+            text.extend_from_slice(b" writes ")?;
+            end_with_key(text, written.key)
+        }
+        Err(refusal) => {
+            text.extend_from_slice(b" refuses: ")?;
+            text.extend_from_slice(reason_of(*refusal))?;
+            text.extend_from_slice(b"\n")
+        }
+    }
+}
+
+/// Tells what came of a message.
+pub(crate) fn tell_arrived(
+    text: &mut Vec<u8>,
+    who: &[u8],
+    arrived: &Option<Arrived>,
+) -> Result<(), AllocError> {
+    text.extend_from_slice(who)?;
+    match arrived {
+        Some(Arrived::Learned { .. }) => text.extend_from_slice(b" learns it\n"),
+        Some(Arrived::PutOff { missing }) => {
+            text.extend_from_slice(b" puts it off, lacks ")?;
+            end_with_key(text, *missing)
+        }
+        Some(Arrived::Known) => text.extend_from_slice(b" knows it\n"),
+        None => text.extend_from_slice(b" is told nothing\n"),
+    }
+}
+
+/// Tells a count.
+pub(crate) fn tell_count(text: &mut Vec<u8>, what: &[u8], count: usize) -> Result<(), AllocError> {
+    text.extend_from_slice(what)?;
+    push_number(text, count as u64)?;
+    text.extend_from_slice(b"\n")
+}
+
+/// The dump of what a cell shows of a workflow; nothing where it has learned nothing of it.
+fn shown(
+    alloc: Global,
+    cell: &Shard,
+    domain: &Name,
+    workflow: &Name,
+) -> Result<Vec<u8>, AllocError> {
+    let mut steps: Steps<Looking> = Steps::new();
+    match cell.view(domain, workflow, &mut steps)? {
+        Some(view) => dump_text(alloc, domain, workflow, &view),
+        None => Ok(Vec::new(alloc)),
+    }
+}
+
+/// Tells whether two cells show the same of a workflow.
+pub(crate) fn tell_alike(
+    alloc: Global,
+    text: &mut Vec<u8>,
+    one: &Shard,
+    two: &Shard,
+    domain: &Name,
+    workflow: &Name,
+) -> Result<(), AllocError> {
+    let first = shown(alloc, one, domain, workflow)?;
+    let second = shown(alloc, two, domain, workflow)?;
+    if first.as_slice() == second.as_slice() {
+        text.extend_from_slice(b"both show the same\n")
+    } else {
+        text.extend_from_slice(b"they show different things\n")
+    }
+}

@@ -1,0 +1,65 @@
+use ndc_dump::DumpError;
+use ndc_event::NameError;
+use ndc_script_types::ScriptError;
+use std::alloc::{AllocError, AllocFailed};
+
+/// Why the story ends early.
+#[derive(Clone, Copy)]
+pub(crate) enum StoryError {
+    /// A text is no script.
+    Script,
+    /// A name is none.
+    Name,
+    /// What was printed is no dump.
+    Dump,
+    /// The header has no cluster of a name.
+    NoCluster,
+    /// The world has run as many lines as it may.
+    Full,
+    /// Memory is wanting.
+    Memory,
+}
+
+impl StoryError {
+    /// What is told of it.
+    pub(crate) fn text(self) -> &'static str {
+        match self {
+            StoryError::Script => "the text is no script",
+            StoryError::Name => "a name is none",
+            StoryError::Dump => "what was printed is no dump",
+            StoryError::NoCluster => "the header has no such cluster",
+            StoryError::Full => "the world has run as many lines as it may",
+            StoryError::Memory => "out of memory",
+        }
+    }
+}
+
+impl From<AllocError> for StoryError {
+    fn from(_error: AllocError) -> StoryError {
+        StoryError::Memory
+    }
+}
+
+impl<T: Drop> From<AllocFailed<T>> for StoryError {
+    fn from(_failed: AllocFailed<T>) -> StoryError {
+        StoryError::Memory
+    }
+}
+
+impl From<ScriptError> for StoryError {
+    fn from(_error: ScriptError) -> StoryError {
+        StoryError::Script
+    }
+}
+
+impl From<NameError> for StoryError {
+    fn from(_error: NameError) -> StoryError {
+        StoryError::Name
+    }
+}
+
+impl From<DumpError> for StoryError {
+    fn from(_error: DumpError) -> StoryError {
+        StoryError::Dump
+    }
+}

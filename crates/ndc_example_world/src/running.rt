@@ -1,0 +1,97 @@
+//! Lines that the world runs.
+ghost use Rattle.std.specs.Prelude.{◌≡◌, ◌+◌, ◌≤◌, ℕ, false, length, IsTrue, OnOk};
+ghost use Rattle.ndc_model.specs.Lines.{lines_of_act};
+ghost use Rattle.ndc_script_types.specs.WellFormed.{AreWellFormedLines, IsWellFormedAct, IsWellFormedHeader};
+
+use crate::error::StoryError;
+use crate::telling::settled_line;
+use ndc_port::OpenGate;
+use ndc_script_read::read_lines;
+use ndc_script_types::{Act, Header, Line};
+use ndc_shard::Shard;
+use ndc_world::World;
+use std::alloc::Global;
+use std::thread::Threads;
+
+/// How many lines a world may run.
+const MOST: u64 = 100_000;
+
+/// How many lines a line counts as: each line in a burst counts as one.
+fn line_count(asked: &Act) -> u64
+    ensures { (number : ℕ) → result ≡ length (lines_of_act number asked.now) }
+{
+    match asked {
+        Act::Burst { jobs, .. } => jobs.as_slice().len() as u64,
+        _ => 1,
+    }
+}
+
+/// Whether a world that has run so many lines may run so many more.
+fn has_room(lines: u64, count: u64) -> bool
+    ensures { IsTrue result → lines + count ≤ 100000 }
+{
+    count <= MOST && lines <= MOST - count
+}
+
+/// Runs a line, and puts its answer behind what was told.
+pub(crate) fn run_line<R: Threads + Sync>(
+    rt: &R,
+    alloc: Global,
+    world: &mut World<Shard>,
+    line: &Line,
+    text: &mut Vec<u8>,
+) -> Result<(), StoryError>
+    requires unspent { world.old.spent ≡ false }
+    requires act { IsWellFormedAct world.old.header line.now.act }
+    ensures unspent { OnOk result (world.new.spent ≡ false) }
+    ensures header { OnOk result (world.new.header ≡ world.old.header) }
+{
+    if !has_room(world.lines(), line_count(&line.act)) {
+        return Err(StoryError::Full);
+    }
+    let answer = world.step(rt, alloc, &OpenGate {}, 1, line)?;
+    text.extend_from_slice(answer.text.as_slice())?;
+    Ok(())
+}
+
+/// Reads lines as they come, the first of which has this number, and runs each of them.
+pub(crate) fn run_text<R: Threads + Sync>(
+    rt: &R,
+    alloc: Global,
+    header: &Header,
+    world: &mut World<Shard>,
+    number: u64,
+    bytes: &[u8],
+    text: &mut Vec<u8>,
+) -> Result<(), StoryError>
+    requires fit { IsWellFormedHeader header.now }
+    requires unspent { world.old.spent ≡ false }
+    requires header { world.old.header ≡ header.now }
+    ensures unspent { OnOk result (world.new.spent ≡ false) }
+    ensures header { OnOk result (world.new.header ≡ header.now) }
+{
+    let lines = read_lines(alloc, header, number, bytes)?;
+    for line in lines.as_slice() {
+        run_line(rt, alloc, world, line, text)?;
+    }
+    Ok(())
+}
+
+/// Lets all clusters come to the same state, and tells what that came to.
+pub(crate) fn settle<R: Threads + Sync>(
+    rt: &R,
+    alloc: Global,
+    world: &mut World<Shard>,
+    text: &mut Vec<u8>,
+) -> Result<(), StoryError>
+    requires { world.old.spent ≡ false }
+    ensures unspent { OnOk result (world.new.spent ≡ false) }
+    ensures header { OnOk result (world.new.header ≡ world.old.header) }
+{
+    if world.lines() >= MOST {
+        return Err(StoryError::Full);
+    }
+    let settled = world.settle(rt, alloc, &OpenGate {}, 1)?;
+    settled_line(text, settled.learned, settled.reapplied)?;
+    Ok(())
+}
