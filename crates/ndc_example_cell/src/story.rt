@@ -17,18 +17,13 @@ const A: ClusterNo = ClusterNo { number: 0 };
 
 const B: ClusterNo = ClusterNo { number: 1 };
 
-/// A name.
-fn name(alloc: Global, bytes: &[u8]) -> Result<Name, StoryError> {
-    Ok(Name::new(alloc, bytes)?)
-}
-
 /// The clusters, A and B.
 fn clusters(alloc: Global) -> Result<Clusters, StoryError>
     ensures { IfOk result (λ clusters. 2 ≤ count_of clusters) }
 {
     let mut members = Vec::new(alloc);
-    members.push((name(alloc, b"A")?, 1))?;
-    members.push((name(alloc, b"B")?, 2))?;
+    members.push((Name::new(alloc, b"A")?, 1))?;
+    members.push((Name::new(alloc, b"B")?, 2))?;
     let clusters = Clusters::build(10, members)?;
     if clusters.count() < 2 {
         return Err(StoryError::Clusters);
@@ -97,7 +92,7 @@ fn start(
     requires few { shared.now.most ≤ 10 ^ 10 }
     ensures { OnOk result (AreShared home.now.clusters shared.now.me shared.now.them (shared.now.most + 104) shared.now.domain.now shared.now.workflow.now mine.new theirs.now) }
 {
-    let workflow_type = name(alloc, b"order")?;
+    let workflow_type = Name::new(alloc, b"order")?;
     let command = Command::Start { workflow_type };
     write_told(who, mine, theirs, shared, home, table, &command, text)
 }
@@ -120,34 +115,52 @@ fn signal(
     ensures mine { OnOk result (AreShared home.now.clusters shared.now.me shared.now.them (shared.now.most + 104) shared.now.domain.now shared.now.workflow.now mine.new theirs.now) }
     ensures theirs { OnOk result (AreShared home.now.clusters shared.now.them shared.now.me (shared.now.most + 104) shared.now.domain.now shared.now.workflow.now theirs.now mine.new) }
 {
-    let (paid, now) = (name(alloc, b"paid")?, name(alloc, b"now")?);
-    let command = Command::Signal {
-        name: paid,
-        input: now,
-    };
+    let name = Name::new(alloc, b"paid")?;
+    let input = Name::new(alloc, b"now")?;
+    let command = Command::Signal { name, input };
     write_told(who, mine, theirs, shared, home, table, &command, text)
 }
 
-/// Both cells begin; A starts a workflow and signals it. Gives A's cell and B's.
-fn start_and_signal(
+/// A starts the workflow.
+fn start_first(
     alloc: Global,
-    here: &Home,
-    there: &Home,
+    one: &mut Shard,
+    two: &Shard,
+    home: &Home,
     domain: &Name,
     workflow: &Name,
     table: &DomainTable,
     text: &mut Vec<u8>,
-) -> Result<(Shard, Shard), StoryError>
-    requires home { here.now.me ≡ record { number = 0 } }
-    requires limit { here.now.limit ≡ 100 }
-    ensures { IfOk result (λ pair. AreShared here.now.clusters (record { number = 0 }) (record { number = 1 }) 208 domain.now workflow.now pair.0 pair.1) }
+) -> Result<(), StoryError>
+    requires shared { AreShared home.now.clusters (record { number = 0 }) (record { number = 1 }) 0 domain.now workflow.now one.old two.now }
+    requires home { home.now.me ≡ record { number = 0 } }
+    requires limit { home.now.limit ≡ 100 }
+    ensures { OnOk result (AreShared home.now.clusters (record { number = 0 }) (record { number = 1 }) 104 domain.now workflow.now one.new two.now) }
 {
     let both = Shared::new(domain, workflow, A, B, 0);
-    let (mut one, two) = begin(alloc, here, there, &both)?;
-    start(alloc, b"A", &mut one, &two, &both, here, table, text)?;
+    start(alloc, b"A", one, two, &both, home, table, text)?;
+    Ok(())
+}
+
+/// A takes a signal.
+fn signal_first(
+    alloc: Global,
+    one: &mut Shard,
+    two: &Shard,
+    home: &Home,
+    domain: &Name,
+    workflow: &Name,
+    table: &DomainTable,
+    text: &mut Vec<u8>,
+) -> Result<(), StoryError>
+    requires shared { AreShared home.now.clusters (record { number = 0 }) (record { number = 1 }) 104 domain.now workflow.now one.old two.now }
+    requires home { home.now.me ≡ record { number = 0 } }
+    requires limit { home.now.limit ≡ 100 }
+    ensures { OnOk result (AreShared home.now.clusters (record { number = 0 }) (record { number = 1 }) 208 domain.now workflow.now one.new two.now) }
+{
     let both = Shared::new(domain, workflow, A, B, GROWTH);
-    signal(alloc, b"A", &mut one, &two, &both, here, table, text)?;
-    Ok((one, two))
+    signal(alloc, b"A", one, two, &both, home, table, text)?;
+    Ok(())
 }
 
 /// The signal comes to B before the start, which is lost; B asks for what it lacks and is served.
@@ -297,7 +310,10 @@ fn play_over(
         me: B,
         limit: LIMIT,
     };
-    let (mut one, mut two) = start_and_signal(alloc, &here, &there, domain, workflow, table, text)?;
+    let both = Shared::new(domain, workflow, A, B, 0);
+    let (mut one, mut two) = begin(alloc, &here, &there, &both)?;
+    start_first(alloc, &mut one, &two, &here, domain, workflow, table, text)?;
+    signal_first(alloc, &mut one, &two, &here, domain, workflow, table, text)?;
     lose_and_serve(alloc, &one, &mut two, clusters, domain, workflow, text)?;
     fail_over(
         alloc, &one, &mut two, &there, domain, workflow, table, moved, text,
@@ -310,8 +326,8 @@ fn play_over(
 /// Makes the clusters and the records, lets all of it happen, and gives the lines that tell of it.
 pub(crate) fn play(alloc: Global) -> Result<Vec<u8>, StoryError> {
     let clusters = clusters(alloc)?;
-    let domain = name(alloc, b"alpha")?;
-    let workflow = name(alloc, b"w1")?;
+    let domain = Name::new(alloc, b"alpha")?;
+    let workflow = Name::new(alloc, b"w1")?;
     let table = records(alloc, &clusters, &domain)?;
     let moved = moved(&clusters, &domain, &table)?;
     let mut text = Vec::new(alloc);

@@ -1,4 +1,6 @@
 //! What is told, piece by piece.
+ghost use Rattle.std.specs.Prelude.{◌≡◌, ◌++◌, decimal, OnOk};
+
 use ndc_command::Refusal;
 use ndc_dump_show::dump_text;
 use ndc_event::{BatchKey, Name};
@@ -9,17 +11,19 @@ use std::alloc::{AllocError, Global};
 /// Marks the counters of steps of what is shown.
 struct Looking;
 
-/// Appends a number.
-fn push_number(text: &mut Vec<u8>, number: u64) -> Result<(), AllocError> {
+/// Appends a word and a number behind it.
+fn push_count(text: &mut Vec<u8>, word: &[u8], number: u64) -> Result<(), AllocError>
+    ensures { OnOk result (text.new.items ≡ text.old.items ++ word.now ++ decimal number) }
+{
     let mut buffer = itoa::Buffer::new();
+    text.extend_from_slice(word)?;
     text.extend_from_slice(buffer.format(number).as_bytes())
 }
 
-/// Appends a key, and ends the line.
-fn end_with_key(text: &mut Vec<u8>, key: BatchKey) -> Result<(), AllocError> {
-    push_number(text, key.version)?;
-    text.extend_from_slice(b".")?;
-    push_number(text, key.task)?;
+/// Appends a word and a key, and ends the line.
+fn end_with_key(text: &mut Vec<u8>, word: &[u8], key: BatchKey) -> Result<(), AllocError> {
+    push_count(text, word, key.version)?;
+    push_count(text, b".", key.task)?;
     text.extend_from_slice(b"\n")
 }
 
@@ -41,10 +45,7 @@ pub(crate) fn tell_written(
 ) -> Result<(), AllocError> {
     text.extend_from_slice(who)?;
     match written {
-        Ok(written) => {
-            text.extend_from_slice(b" writes ")?;
-            end_with_key(text, written.key)
-        }
+        Ok(written) => end_with_key(text, b" writes ", written.key),
         Err(refusal) => {
             text.extend_from_slice(b" refuses: ")?;
             text.extend_from_slice(reason_of(*refusal))?;
@@ -63,8 +64,7 @@ pub(crate) fn tell_arrived(
     match arrived {
         Some(Arrived::Learned { .. }) => text.extend_from_slice(b" learns it\n"),
         Some(Arrived::PutOff { missing }) => {
-            text.extend_from_slice(b" puts it off, lacks ")?;
-            end_with_key(text, *missing)
+            end_with_key(text, b" puts it off, lacks ", *missing)
         }
         Some(Arrived::Known) => text.extend_from_slice(b" knows it\n"),
         None => text.extend_from_slice(b" is told nothing\n"),
@@ -73,8 +73,7 @@ pub(crate) fn tell_arrived(
 
 /// Tells a count.
 pub(crate) fn tell_count(text: &mut Vec<u8>, what: &[u8], count: usize) -> Result<(), AllocError> {
-    text.extend_from_slice(what)?;
-    push_number(text, count as u64)?;
+    push_count(text, what, count as u64)?;
     text.extend_from_slice(b"\n")
 }
 
