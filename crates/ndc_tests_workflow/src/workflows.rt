@@ -22,12 +22,19 @@ fn second_arrives(alloc: Global, steps: &mut Steps<Test>) -> Result<Workflows, A
     Ok(workflows)
 }
 
+// Whether reapplication may be due in no workflow, and in none of a domain.
+fn has_none_due(alloc: Global, workflows: &Workflows, domain: &Name) -> Result<bool, AllocError> {
+    let domains = workflows.due_domains(alloc)?;
+    let list = workflows.due_in(alloc, domain)?;
+    Ok(domains.is_empty() && list.is_empty())
+}
+
 // How many workflows of a domain are found, and of how many something is put off; none where any may be due.
 fn found(alloc: Global, workflows: &Workflows) -> Result<(usize, usize), AllocError> {
     let domains = [name(alloc, "alpha")?];
     let found = workflows.of_domains(alloc, &domains)?.len();
     let behind = workflows.behind(alloc)?.len();
-    if workflows.due_domains(alloc)?.is_empty() && workflows.due_in(alloc, &domains[0])?.is_empty() {
+    if has_none_due(alloc, workflows, &domains[0])? {
         Ok((found, behind))
     } else {
         Ok((0, 0))
