@@ -1,8 +1,8 @@
 use Rattle.ndc_shard_workflows.proofs.OneExampleLemmas.{first-written}
 use Rattle.ndc_tests_workflow.proofs.worked.first_written.Goals as goal
 
-pub write-requires-clause-message : goal.write-requires-clause-message
-write-requires-clause-message c = (first-written c.in_ok-batch.batch c.new-workflow.result c.in_ok-batch.ensures c.new-workflow.ensures).message
+pub write-requires-clause-together : goal.write-requires-clause-together
+write-requires-clause-together c = (first-written c.in_ok-batch.batch c.new-workflow.result c.in_ok-batch.ensures c.new-workflow.ensures).together
 
 pub write-requires-clause-new : goal.write-requires-clause-new
 write-requires-clause-new c = (first-written c.in_ok-batch.batch c.new-workflow.result c.in_ok-batch.ensures c.new-workflow.ensures).fresh
