@@ -1,11 +1,13 @@
 -- Queues that grow with what a cell has written.
-use Rattle.std.proofs.Common.{◌≡◌, ◌≢◌, ◌≤◌, ◌<◌, ◌+◌, ◌-◌, ℕ, zero, suc, List, [], ◌∷◌, ◌++◌, Some, take, drop, length, get_or, replicate, set, slice_get, sum, sum_by, below_more, refl, ap, sym, subst, ◌∙◌, arith, length-drop, length-append}
+use Rattle.std.proofs.Common.{◌≡◌, ◌≢◌, ◌≤◌, ◌<◌, ◌+◌, ◌-◌, ◌*◌, ◌^◌, ℕ, zero, suc, List, [], ◌∷◌, ◌++◌, Some, take, drop, length, get_or, replicate, set, slice_get, sum, sum_by, refl, ap, sym, subst, ◌∙◌, arith, length-drop, length-append}
 use Rattle.std.proofs.Math.Seq.{map-set_same}
-use Rattle.std.proofs.lemmas.List.{drop-append-le, get_or-set_other, get_or-set_same, take_all, take_more, take_more_set}
-use Rattle.std.proofs.lemmas.List.Sums.{sum-map, sum_by-cons, sum_by_push}
+use Rattle.std.proofs.lemmas.List.{drop-append-le, get_or-set_other, take_all, take_more}
+use Rattle.std.proofs.lemmas.List.Sums.{sum-map, sum_by-cons, sum_by-set}
 use Rattle.std.proofs.lemmas.Option.{get_or_from_slice_get}
+use Rattle.std.specs.List.{AllByRecursion}
 use Rattle.ndc_model_cells.specs.declared.message.Message.{Message}
 use Rattle.ndc_queue.specs.Queues.{QueueValue, new_queue, pushed, queue_len, trimmed}
+use Rattle.ndc_cluster_links.proofs.QuietLemmas.{all_set}
 use Rattle.ndc_cluster_links.proofs.RestLemmas.{len_kept}
 use Rattle.ndc_cluster_links.specs.Rest.{IsFrontOf, IsRestOf, queue_at}
 
@@ -21,6 +23,10 @@ front_more kept whole sent below it got =
       rest = ap (λ xs. xs ++ sent ∷ []) it.rest ∙ sym (drop-append-le kept.first (take n whole) (sent ∷ []) it.first_most) ∙ ap (drop kept.first) (sym grown);
       first_most = let e = ap length grown in omega (arith, e, length-append (take n whole) (sent ∷ []), it.first_most);
     }
+
+-- a queue with one more entry
+pub len_pushed : (sent : Message) (kept : QueueValue) → queue_len (pushed sent kept) ≡ queue_len kept + 1
+len_pushed sent kept = omega (arith, length-append kept.kept (sent ∷ []))
 
 -- what is kept of a queue that is as long as the whole is the rest of it
 pub front_all : (kept : QueueValue) (whole : List Message) → length whole ≤ queue_len kept → IsFrontOf kept whole → IsRestOf kept whole
@@ -46,26 +52,33 @@ pub len_same : (queues : List QueueValue) (shard : ℕ) (x new : QueueValue) →
 len_same queues shard x new is same =
     sym (sum-map queue_len (set queues shard new)) ∙ ap sum (map-set_same queue_len queues shard new x (same ∙ ap queue_len is)) ∙ sum-map queue_len queues
 
--- the lengths of the first queues and of one more that was changed
-pub len_more : (queues : List QueueValue) (shard count more : ℕ) (new : QueueValue) → shard < length queues → count ≡ sum_by queue_len (take shard queues) → more ≡ queue_len new
-    → count + more ≡ sum_by queue_len (take (shard + 1) (set queues shard new))
-len_more queues shard count more new below so step =
-    sym (ap (sum_by queue_len) (take_more_set queues shard new below) ∙ sum_by_push queue_len (take shard queues) new ∙ ap (λ n. n + queue_len new) (sym so) ∙ ap (λ n. count + n) (sym step))
+-- what holds of each holds of the one at a place
+pub all_at : {X : Type 0} (P : X → Type 0) (xs : List X) (i : ℕ) (x : X) → i < length xs → x ≡ get_or xs i x → AllByRecursion P xs → P x
+all_at P [] i x below is all = absurd (omega (arith, below))
+all_at P (y ∷ ys) zero x below is all = subst P (sym is) all.0
+all_at P (y ∷ ys) (suc i) x below is all = all_at P ys i x (omega (arith, below)) is all.1
+
+-- queues without an entry are short
+pub most_new : (count : ℕ) → AllByRecursion (λ (queue : QueueValue). queue_len queue ≤ 10 ^ 12) (replicate count new_queue)
+most_new zero = tt
+most_new (suc count) = (omega arith, most_new count)
+
+-- short queues have no more entries in all than so many each
+pub most_written : (queues : List QueueValue) → AllByRecursion (λ (queue : QueueValue). queue_len queue ≤ 10 ^ 12) queues → sum_by queue_len queues ≤ length queues * 10 ^ 12
+most_written [] most = omega arith
+most_written (queue ∷ queues) most = omega (arith, sum_by-cons queue_len queue queues, most.0, most_written queues most.1)
+
+-- a queue that grew takes the place of what it was
+pub len_grown : (queues : List QueueValue) (shard written : ℕ) (x new : QueueValue) → shard < length queues → x ≡ get_or queues shard x → queue_len x ≤ queue_len new → written ≡ sum_by queue_len queues
+    → written + (queue_len new - queue_len x) ≡ sum_by queue_len (set queues shard new)
+len_grown queues shard written x new below is grown so =
+    omega (arith, sum_by-set queue_len queues shard new x below, ap queue_len is, grown, so)
+
+-- and is short still
+pub most_still : (queues : List QueueValue) (shard : ℕ) (new : QueueValue) → queue_len new ≤ 10 ^ 12 → AllByRecursion (λ (queue : QueueValue). queue_len queue ≤ 10 ^ 12) queues
+    → AllByRecursion (λ (queue : QueueValue). queue_len queue ≤ 10 ^ 12) (set queues shard new)
+most_still queues shard new short most = all_set (λ (queue : QueueValue). queue_len queue ≤ 10 ^ 12) queues shard new short most
 
 -- what holds of the queue of each other shard holds where one is changed
-other-queue : (P : QueueValue → Type 0) (queues : List QueueValue) (shard k : ℕ) (new : QueueValue) → k ≢ shard → P (queue_at queues k) → P (queue_at (set queues shard new) k)
-other-queue P queues shard k new other holds = subst P (sym (get_or-set_other queues shard k new new_queue other)) holds
-
--- what is to hold of the queues from a shard on, where that of the shard is changed
-pub fronts_more : (queues : List QueueValue) (shard count : ℕ) (new : QueueValue) (whole : ℕ → List Message) → ((k : ℕ) → shard ≤ k → k < count → IsFrontOf (queue_at queues k) (whole k))
-    → (k : ℕ) → shard + 1 ≤ k → k < count → IsFrontOf (queue_at (set queues shard new) k) (whole k)
-fronts_more queues shard count new whole fronts k least below =
-    other-queue (λ queue. IsFrontOf queue (whole k)) queues shard k new (omega (arith, least)) (fronts k (omega (arith, least)) below)
-
--- what is to hold of the queues before a shard, and of that of the shard
-pub rests_more : (queues : List QueueValue) (shard : ℕ) (new : QueueValue) (whole : ℕ → List Message) → shard < length queues → ((k : ℕ) → k < shard → IsRestOf (queue_at queues k) (whole k))
-    → IsRestOf new (whole shard) → (k : ℕ) → k < shard + 1 → IsRestOf (queue_at (set queues shard new) k) (whole k)
-rests_more queues shard new whole inside rests own =
-    below_more (λ k. IsRestOf (queue_at (set queues shard new) k) (whole k)) shard
-    (λ k below. other-queue (λ queue. IsRestOf queue (whole k)) queues shard k new (omega (arith, below)) (rests k below))
-    (subst (λ (queue : QueueValue). IsRestOf queue (whole shard)) (sym (get_or-set_same queues shard new new_queue inside)) own)
+pub other_queue : (P : QueueValue → Type 0) (queues : List QueueValue) (shard k : ℕ) (new : QueueValue) → k ≢ shard → P (queue_at queues k) → P (queue_at (set queues shard new) k)
+other_queue P queues shard k new other holds = subst P (sym (get_or-set_other queues shard k new new_queue other)) holds

@@ -29,16 +29,16 @@ quiet_is [] quiet = refl
 quiet_is (lane ∷ lanes) quiet =
     ap (λ (l : Lane). l ∷ map without_flight lanes) (sym (ap (λ (flight : List Message). record lane { flight = flight }) quiet.0)) ∙ ap (λ (ls : List Lane). lane ∷ ls) (quiet_is lanes quiet.1)
 
--- a list of which each is empty, with another empty one
-quiet-set : (flights : List (List Message)) (i : ℕ) (new : List Message) → new ≡ [] → AllByRecursion (λ (flight : List Message). flight ≡ []) flights → AllByRecursion (λ (flight : List Message). flight ≡ []) (set flights i new)
-quiet-set [] i new none quiet = quiet
-quiet-set (flight ∷ flights) zero new none quiet = (none, quiet.1)
-quiet-set (flight ∷ flights) (suc i) new none quiet = (quiet.0, quiet-set flights i new none quiet.1)
+-- what holds of each, and of another one, holds of each where that one takes a place
+pub all_set : {X : Type 0} (P : X → Type 0) (xs : List X) (i : ℕ) (new : X) → P new → AllByRecursion P xs → AllByRecursion P (set xs i new)
+all_set P [] i new it all = all
+all_set P (x ∷ xs) zero new it all = (it, all.1)
+all_set P (x ∷ xs) (suc i) new it all = (all.0, all_set P xs i new it all.1)
 
 -- a lane in which nothing is in flight takes the place of one
 pub quiet_still : (lanes : List Lane) (i : ℕ) (new : Lane) → new.flight ≡ [] → AreQuiet lanes → AreQuiet (set lanes i new)
 quiet_still lanes i new none quiet =
-    subst (AllByRecursion (λ (flight : List Message). flight ≡ [])) (sym (map-set (λ (lane : Lane). lane.flight) lanes i new)) (quiet-set (flights_of lanes) i new.flight none quiet)
+    subst (AllByRecursion (λ (flight : List Message). flight ≡ [])) (sym (map-set (λ (lane : Lane). lane.flight) lanes i new)) (all_set (λ (flight : List Message). flight ≡ []) (flights_of lanes) i new.flight none quiet)
 
 -- a lane in which as much is in flight takes the place of one
 pub flights_still : (lanes : List Lane) (i : ℕ) (x new : Lane) → x ≡ get_or lanes i x → new.flight ≡ x.flight → flights_of (set lanes i new) ≡ flights_of lanes

@@ -1,14 +1,11 @@
-ghost use Rattle.std.specs.Prelude.{◌≡◌, ◌≤◌, ◌^◌, length, map, IfOk, OnOk};
-ghost use Rattle.std.specs.List.{sum_by};
-ghost use Rattle.ndc_model_cells.specs.Jobs.{cell_for};
-ghost use Rattle.ndc_cluster_links.specs.Rest.{AreFronts, AreRests, IsFrontOf, IsRestOf};
+ghost use Rattle.std.specs.Prelude.{◌≡◌, ◌≤◌, OnOk};
+ghost use Rattle.ndc_cluster_links.specs.Rest.{IsFrontOf, IsRestOf};
 ghost use Rattle.ndc_queue.specs.Queues.{queue_len};
 
 use ndc_cluster_rounds::Cell;
 use ndc_queue::Queue;
 use std::alloc::{AllocError, Global};
 use std::marker::Model;
-use std::mem;
 
 /// The queues of a source, by shard.
 #[derive(Drop)]
@@ -31,11 +28,12 @@ impl Model for Queues {
     ghost invariant = { IsQueuesInside };
 }
 
-/// Puts the messages last that a cell has written behind those of its queue.
+/// Puts the messages last that a cell has written behind those of its queue. Where memory runs out, some of them are there.
 fn push_written<C: Cell>(queue: &mut Queue, cell: &C) -> Result<(), AllocError>
     requires { IsFrontOf queue.old (C.cell cell.now).written }
     ensures rest { OnOk result (IsRestOf queue.new (C.cell cell.now).written) }
     ensures first { queue.new.first ≡ queue.old.first }
+    ensures grown { queue_len queue.old ≤ queue_len queue.new }
 {
     while queue.len() < cell.written_len() {
         let message = cell.written_at(queue.len())?;
@@ -44,44 +42,10 @@ fn push_written<C: Cell>(queue: &mut Queue, cell: &C) -> Result<(), AllocError>
     Ok(())
 }
 
-/// The same, and answers how long the queue is then. Where the cell has written nothing since, this is one comparison.
-fn extend<C: Cell>(queue: &mut Queue, cell: &C) -> Result<u64, AllocError>
-    requires { IsFrontOf queue.old (C.cell cell.now).written }
-    ensures rest { OnOk result (IsRestOf queue.new (C.cell cell.now).written) }
-    ensures first { queue.new.first ≡ queue.old.first }
-    ensures len { IfOk result (λ len. len ≡ queue_len queue.new) }
-    ensures most { IfOk result (λ len. len ≤ 10 ^ 12) }
-{
-    if cell.written_len() <= queue.len() {
-        return Ok(queue.len());
-    }
-    push_written(queue, cell)?;
-    Ok(queue.len())
-}
-
-/// The same for each shard. Answers how long the queues are then, all together.
-fn extend_all<C: Cell>(queues: &mut Vec<Queue>, cells: &[C]) -> Result<u64, AllocError>
-    requires few { length queues.old.items ≤ 64 }
-    requires alike { length cells.now ≡ length queues.old.items }
-    requires fronts { AreFronts queues.old.items (λ shard. (cell_for shard (map C.cell cells.now)).written) }
-    ensures rests { OnOk result (AreRests queues.new.items (λ shard. (cell_for shard (map C.cell cells.now)).written)) }
-    ensures first { map (λ queue. queue.first) queues.new.items ≡ map (λ queue. queue.first) queues.old.items }
-    ensures len { length queues.new.items ≡ length queues.old.items }
-    ensures written { IfOk result (λ written. written ≡ sum_by queue_len queues.new.items) }
-{
-    let mut written = 0;
-    for shard in 0..queues.len() {
-        let queue = &mut queues[shard];
-        written += extend(queue, &cells[shard])?;
-    }
-    Ok(written)
-}
-
 impl Queues {
-    ghost use Rattle.std.specs.Prelude.{◌≡◌, ◌<◌, ◌≤◌, ◌-◌, [], length, map, max, replicate, slice_set, IfOk, OnOk, OnErr};
+    ghost use Rattle.std.specs.Prelude.{◌≡◌, ◌<◌, ◌≤◌, ◌-◌, length, max, replicate, slice_set, IfOk, OnOk};
     ghost use Rattle.std.specs.List.{sum_by};
-    ghost use Rattle.ndc_model_cells.specs.Jobs.{cell_for};
-    ghost use Rattle.ndc_cluster_links.specs.Rest.{AreFronts, AreRests, queue_at};
+    ghost use Rattle.ndc_cluster_links.specs.Rest.{IsFrontOf, IsRestOf, queue_at};
     ghost use Rattle.ndc_queue.specs.Queues.{new_queue, queue_len, trimmed};
 
     /// Queues without an entry, for so many shards, at most 64.
@@ -132,21 +96,20 @@ impl Queues {
         queue.first() - first
     }
 
-    /// Puts the messages last in each queue that the cell of its shard has written behind those that are there. Where
-    /// memory runs out, there are no queues afterwards.
-    pub fn extend<C: Cell>(&mut self, cells: &[C]) -> Result<(), AllocError>
-        requires alike { length cells.now ≡ length self.old }
-        requires fronts { AreFronts self.old (λ shard. (cell_for shard (map C.cell cells.now)).written) }
-        ensures rests { OnOk result (AreRests self.new (λ shard. (cell_for shard (map C.cell cells.now)).written)) }
-        ensures first { OnOk result (map (λ queue. queue.first) self.new ≡ map (λ queue. queue.first) self.old) }
-        ensures none { OnErr result (self.new ≡ []) }
+    /// Puts the messages last in the queue of a shard that its cell has written behind those that are there. Where memory
+    /// runs out, some of them are there.
+    pub fn extend<C: Cell>(&mut self, shard: usize, cell: &C) -> Result<(), AllocError>
+        requires shard { shard < length self.old }
+        requires front { IsFrontOf (queue_at self.old shard) (C.cell cell.now).written }
+        ensures rest { OnOk result (IsRestOf (queue_at self.new shard) (C.cell cell.now).written) }
+        ensures others { self.new ≡ slice_set self.old shard (queue_at self.new shard) }
+        ensures first { (queue_at self.new shard).first ≡ (queue_at self.old shard).first }
     {
-        let alloc = *self.items.allocator();
-        let mut items = mem::replace(&mut self.items, Vec::new(alloc));
-        self.written = 0;
-        let written = extend_all(&mut items, cells)?;
-        self.items = items;
-        self.written = written;
-        Ok(())
+        let queue = &mut self.items[shard];
+        let before = queue.len();
+        let pushed = push_written(queue, cell);
+        let grown = queue.len() - before;
+        self.written += grown;
+        pushed
     }
 }

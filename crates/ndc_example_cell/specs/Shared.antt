@@ -1,5 +1,5 @@
 -- Two cells of two clusters that hold batches of one workflow.
-use Rattle.std.specs.Prelude.{◌≡◌, ◌≢◌, ◌≤◌, ℕ, false, length, List, [], Some}
+use Rattle.std.specs.Prelude.{◌≡◌, ◌≢◌, ◌≤◌, ◌^◌, ℕ, false, length, List, [], Some}
 use Rattle.std.specs.List.{flat_map}
 use Rattle.ndc_domain.specs.Clusters.{ClusterList}
 use Rattle.ndc_domain.specs.declared.clusters.ClusterNo.{ClusterNo}
@@ -36,6 +36,11 @@ pub record AreShared (clusters : ClusterList) (me them : ClusterNo) (most : ℕ)
   pub theirs_is : IsAuthored (standing clusters them []) all domain workflow theirs
   pub mine_only : HoldsOnly domain workflow mine
   pub theirs_only : HoldsOnly domain workflow theirs
+
+-- the cells of the first two clusters share a workflow that has not grown too great
+abbrev pub ArePaired : ClusterList → Name → Name → Cell → Cell → ℕ → Type 0
+ArePaired clusters domain workflow one two most =
+    (most ≤ 10 ^ 10) × AreShared clusters (record { number = 0 }) (record { number = 1 }) most domain workflow one two
 
 -- one cell can tell another what it has learned of a workflow: both keep one set, which is small
 pub record CanTell (most : ℕ) (domain workflow : Name) (teller hearer : Cell) : Type 0 where

@@ -13,6 +13,8 @@ pub(crate) enum StoryError {
     Domain,
     /// The domain is not failed over.
     Failover,
+    /// The cells are spent, or hold too much.
+    Spent,
     /// Memory is wanting.
     Memory,
 }
@@ -25,6 +27,7 @@ impl StoryError {
             StoryError::Clusters => "the clusters are none, or too few",
             StoryError::Domain => "the domain is not registered",
             StoryError::Failover => "the domain is not failed over",
+            StoryError::Spent => "the cells are spent",
             StoryError::Memory => "out of memory",
         }
     }

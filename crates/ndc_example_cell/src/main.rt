@@ -4,6 +4,7 @@
 
 mod engine;
 mod error;
+mod pair;
 mod story;
 mod telling;
 

@@ -1,37 +1,16 @@
 //! Lines that the world runs.
-ghost use Rattle.std.specs.Prelude.{◌≡◌, ◌+◌, ◌≤◌, ℕ, false, length, IsTrue, OnOk};
-ghost use Rattle.ndc_model.specs.Lines.{lines_of_act};
-ghost use Rattle.ndc_script_types.specs.WellFormed.{AreWellFormedLines, IsWellFormedAct, IsWellFormedHeader};
+ghost use Rattle.std.specs.Prelude.{◌≡◌, false, OnOk};
+ghost use Rattle.ndc_script_types.specs.WellFormed.{IsWellFormedAct, IsWellFormedHeader};
 
 use crate::error::StoryError;
 use crate::telling::settled_line;
 use ndc_port::OpenGate;
 use ndc_script_read::read_lines;
-use ndc_script_types::{Act, Header, Line};
+use ndc_script_types::{Header, Line};
 use ndc_shard::Shard;
 use ndc_world::World;
 use std::alloc::Global;
 use std::thread::Threads;
-
-/// How many lines a world may run.
-const MOST: u64 = 100_000;
-
-/// How many lines a line counts as: each line in a burst counts as one.
-fn line_count(asked: &Act) -> u64
-    ensures { (number : ℕ) → result ≡ length (lines_of_act number asked.now) }
-{
-    match asked {
-        Act::Burst { jobs, .. } => jobs.as_slice().len() as u64,
-        _ => 1,
-    }
-}
-
-/// Whether a world that has run so many lines may run so many more.
-fn has_room(lines: u64, count: u64) -> bool
-    ensures { IsTrue result → lines + count ≤ 100000 }
-{
-    count <= MOST && lines <= MOST - count
-}
 
 /// Runs a line, and puts its answer behind what was told.
 pub(crate) fn run_line<R: Threads + Sync>(
@@ -46,7 +25,7 @@ pub(crate) fn run_line<R: Threads + Sync>(
     ensures unspent { OnOk result (world.new.spent ≡ false) }
     ensures header { OnOk result (world.new.header ≡ world.old.header) }
 {
-    if !has_room(world.lines(), line_count(&line.act)) {
+    if !world.has_room(line) {
         return Err(StoryError::Full);
     }
     let answer = world.step(rt, alloc, &OpenGate {}, 1, line)?;
@@ -88,7 +67,7 @@ pub(crate) fn settle<R: Threads + Sync>(
     ensures unspent { OnOk result (world.new.spent ≡ false) }
     ensures header { OnOk result (world.new.header ≡ world.old.header) }
 {
-    if world.lines() >= MOST {
+    if world.lines() >= 100_000 {
         return Err(StoryError::Full);
     }
     let settled = world.settle(rt, alloc, &OpenGate {}, 1)?;

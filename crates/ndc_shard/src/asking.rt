@@ -38,11 +38,11 @@ pub(crate) fn refuses(desk: &Desk, domain: &Name) -> bool
 }
 
 /// A refusal to write as that of a command.
-pub(crate) fn as_command_error(version: Result<u64, Refusal>) -> Result<u64, CommandError>
-    ensures { result ≡ as_command_error version }
+pub(crate) fn as_command_error<T>(asked: Result<T, Refusal>) -> Result<T, CommandError>
+    ensures { result ≡ as_command_error asked }
 {
-    match version {
-        Ok(version) => Ok(version),
+    match asked {
+        Ok(answer) => Ok(answer),
         Err(refusal) => Err(CommandError::Refused(refusal)),
     }
 }
@@ -73,7 +73,7 @@ pub(crate) fn push_batches(batches: &mut Vec<Batch>, entry: &Entry) -> Result<()
 pub(crate) fn batches_of(alloc: Global, entries: &[Entry]) -> Result<Batches, AllocError>
     ensures { IfOk result (λ batches. batches ≡ all_batches entries.now) }
 {
-    let mut batches = Vec::new(alloc);
+    let mut batches = Vec::with_capacity(alloc, entries.len())?;
     for entry in entries {
         push_batches(&mut batches, entry)?;
     }

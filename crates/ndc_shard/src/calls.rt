@@ -70,9 +70,8 @@ impl Shard {
         ensures { result ≡ may_go_on (desk_of home.now table.now) domain.now workflow.now self.now }
     {
         let desk = Desk::new(home.clusters, home.me, home.limit, table);
-        let version = self.version_for(&desk, domain, workflow)?;
-        let begun = self.runs(domain, workflow).and_then(|runs| runs.tip());
-        match begun {
+        let (version, runs) = self.writable(&desk, domain, workflow)?;
+        match runs.and_then(|runs| runs.tip()) {
             Some(_) => Ok(version),
             None => Err(Refusal::NoWorkflow),
         }

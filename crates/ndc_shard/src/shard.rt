@@ -47,13 +47,13 @@ impl Drop for Shard {
 }
 
 impl Shard {
-    ghost use Rattle.std.specs.Prelude.{◌≡◌, ◌≢◌, ◌<◌, ◌++◌, [], ◌∷◌, length, option_to_list, slice_get, None, Some, IfSome, IfNone, IfOk, IfErr, IsTrue, OnOk, OnErr};
+    ghost use Rattle.std.specs.Prelude.{◌≡◌, ◌≢◌, ◌<◌, ◌++◌, [], ◌∷◌, length, option_to_list, slice_get, None, Some, Ok, IfSome, IfNone, IfOk, IfErr, IsTrue, OnOk, OnErr};
     ghost use Rattle.ndc_model_cells.specs.Arrival.{arrival_of, arrived_at, learned_by};
     ghost use Rattle.ndc_model_cells.specs.Cells.{empty_cell, learned_of};
     ghost use Rattle.ndc_model_cells.specs.Jobs.{all_batches, reapplied_in, reapplied_now, workflows_of, written_at};
     ghost use Rattle.ndc_model_cells.specs.Writing.{Desk as DeskValue, command_of, may_write, reapplication_below, reapplication_of, reset_at, with_all_written, with_written};
     ghost use Rattle.ndc_command.specs.declared.refusal.CommandError.TheVariants.{Memory};
-    ghost use Rattle.ndc_event.specs.Outcome.{Gives};
+    ghost use Rattle.ndc_event.specs.Outcome.{Gives, ◌>>=◌};
     ghost use Rattle.ndc_shard_runs.specs.Kept.{is_due};
     ghost use Rattle.ndc_model_sets.specs.Branches.{workflow_tip};
     ghost use Rattle.ndc_model_sets.specs.Current.{strays};
@@ -132,25 +132,34 @@ impl Shard {
         Some(self.workflows.find(domain, workflow)?.runs())
     }
 
-    /// The version with which the cell may write to a workflow: that of its record of the domain. Takes no memory. Refused
-    /// with the first of these that holds: [`Refusal::UnknownDomain`] where there is no record, [`Refusal::NotActive`] with
-    /// the version where another cluster writes with it, or none does, and [`Refusal::Behind`] with the greatest learned
-    /// version where that is above it. The workflow is looked up only where the record lets it write.
-    pub(crate) fn version_for(
+    /// The version with which the cell may write to a workflow, that of its record of the domain, and what is learned of the
+    /// workflow; none only where nothing is. Takes no memory. Refused with the first of these that holds:
+    /// [`Refusal::UnknownDomain`] where there is no record, [`Refusal::NotActive`] with the version where another cluster
+    /// writes with it, or none does, and [`Refusal::Behind`] with the greatest learned version where that is above it. The
+    /// workflow is looked up once, and only where the record lets it write.
+    pub(crate) fn writable(
         &self,
         desk: &Desk,
         domain: &Name,
         workflow: &Name,
-    ) -> Result<u64, Refusal>
-        ensures { result ≡ may_write desk.now domain.now workflow.now self.now }
+    ) -> Result<(u64, Option<&Runs>), Refusal>
+        ensures version { (result >>= λ it. Ok it.0) ≡ may_write desk.now domain.now workflow.now self.now }
+        ensures found { IfOk result (λ it. IfSome it.1 (λ runs. runs.now ≡ learned_of domain.now workflow.now self.now)) }
+        ensures none { IfOk result (λ it. IfNone it.1 (learned_of domain.now workflow.now self.now ≡ [])) }
+        ensures fit { IfOk result (λ _. IsFit domain.now workflow.now self.now) }
     {
         let version = match version_of(desk, domain) {
             Ok(version) => version,
             Err(refusal) => return Err(refusal),
         };
-        match self.runs(domain, workflow) {
+        let runs = self.runs(domain, workflow);
+        let version = match runs {
             Some(runs) => unless_behind(version, runs),
             None => Ok(version),
+        };
+        match version {
+            Ok(version) => Ok((version, runs)),
+            Err(refusal) => Err(refusal),
         }
     }
 
@@ -245,10 +254,10 @@ impl Shard {
         ensures entries { Gives Memory (λ entry. entry ∷ []) result (command_of desk.now domain.now workflow.now command.now self.now) }
         ensures fit { IfOk result (λ _. IsFit domain.now workflow.now self.now) }
     {
-        let version = as_command_error(self.version_for(desk, domain, workflow))?;
+        let (version, runs) = as_command_error(self.writable(desk, domain, workflow))?;
         let alloc = self.alloc;
         let limit = desk.limit();
-        match self.runs(domain, workflow) {
+        match runs {
             Some(runs) => command_entry(alloc, domain, workflow, command, limit, version, runs),
             None => {
                 let none = Runs::new(alloc);
@@ -270,10 +279,10 @@ impl Shard {
         ensures entries { Gives Memory (λ entries. entries.items) result (reset_at desk.now domain.now workflow.now event self.now) }
         ensures fit { IfOk result (λ _. IsFit domain.now workflow.now self.now) }
     {
-        let version = as_command_error(self.version_for(desk, domain, workflow))?;
+        let (version, runs) = as_command_error(self.writable(desk, domain, workflow))?;
         let alloc = self.alloc;
         let limit = desk.limit();
-        match self.runs(domain, workflow) {
+        match runs {
             Some(runs) => reset_entries(alloc, domain, workflow, event, limit, version, runs),
             None => {
                 let none = Runs::new(alloc);
@@ -299,7 +308,7 @@ impl Shard {
         ensures unchanged { OnErr result (self.new ≡ self.old) }
     {
         let entry = self.command_entry(desk, domain, workflow, command)?;
-        let mut batches = Vec::new(self.alloc);
+        let mut batches = Vec::with_capacity(self.alloc, 1)?;
         push_batches(&mut batches, &entry)?;
         self.write(&entry, steps)?;
         Ok(Batches::new(batches))
@@ -372,7 +381,7 @@ impl Shard {
         ensures same { self.new ≡ self.old }
         ensures fit { IfOk result (λ entry. IfSome entry (λ _. IsFit domain.now workflow.now self.new)) }
     {
-        let Ok(version) = self.version_for(desk, domain, workflow) else {
+        let Ok((version, _)) = self.writable(desk, domain, workflow) else {
             return Ok(None);
         };
         if !self.is_due(domain, workflow)? {

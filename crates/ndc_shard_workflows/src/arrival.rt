@@ -29,7 +29,7 @@ pub(crate) struct Received {
 fn batches_in(alloc: Global, messages: Vec<Message>) -> Result<Vec<Batch>, AllocError>
     ensures { IfOk result (λ batches. batches.items ≡ batches_of messages.items) }
 {
-    let mut batches = Vec::new(alloc);
+    let mut batches = Vec::with_capacity(alloc, messages.len())?;
     for sent in messages {
         let Message { batch, second, .. } = sent;
         batches.push(batch)?;
@@ -44,7 +44,7 @@ fn batches_in(alloc: Global, messages: Vec<Message>) -> Result<Vec<Batch>, Alloc
 fn keys_of(alloc: Global, batches: &[Batch]) -> Result<Keys, AllocError>
     ensures { IfOk result (λ keys. keys ≡ map (λ b. b.key) batches.now) }
 {
-    let mut keys = Vec::new(alloc);
+    let mut keys = Vec::with_capacity(alloc, batches.len())?;
     for batch in batches {
         keys.push(batch.key)?;
     }

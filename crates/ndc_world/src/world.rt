@@ -17,6 +17,9 @@ use std::alloc::{AllocError, Global};
 use std::marker::Model;
 use std::thread::Threads;
 
+/// How many lines a world runs at most.
+const MOST_LINES: u64 = 100_000;
+
 /// The world of a script that runs: all clusters with the links between them, and the greatest progress report of each
 /// activity that each cluster was told or took over. They stand for the world that the lines lead to. It counts the lines
 /// that were run, their answers and how many of these are refusals. After want of memory in a line or a settlement it is
@@ -58,7 +61,7 @@ impl<'a, C: Reads + Drop> Drop for World<'a, C> {
 }
 
 impl<'a, C: Reads + Drop> World<'a, C> {
-    ghost use Rattle.std.specs.Prelude.{◌≡◌, ◌<◌, ◌+◌, ◌≤◌, false, length, true, IfOk, OnErr};
+    ghost use Rattle.std.specs.Prelude.{◌≡◌, ◌<◌, ◌+◌, ◌≤◌, false, length, true, IfOk, IsTrue, OnErr};
     ghost use Rattle.ndc_script_types.specs.WellFormed.{IsWellFormedAct, IsWellFormedHeader};
     ghost use Rattle.ndc_domain.specs.Clusters.{cluster_no, count_of};
     ghost use Rattle.ndc_laws_jobs.specs.Standing.{StandFor};
@@ -96,6 +99,14 @@ impl<'a, C: Reads + Drop> World<'a, C> {
         ensures { result ≡ self.now.lines }
     {
         self.lines
+    }
+
+    /// Whether it may still run a line: it runs at most 100,000, and each line in a burst counts as one. Takes no memory.
+    pub fn has_room(&self, line: &Line) -> bool
+        ensures { IsTrue result → self.now.lines + length (lines_of_act line.now.number line.now.act) ≤ 100000 }
+    {
+        let count = line_count(&line.act);
+        count <= MOST_LINES && self.lines <= MOST_LINES - count
     }
 
     /// The cluster at a place of the header, counted from 0: its domain records, and a cell for each shard. Takes no memory.

@@ -1,6 +1,8 @@
 -- What cells have written only grows.
-use Rattle.std.proofs.Common.{◌≡◌, ◌<◌, ◌≤◌, ◌+◌, ℕ, zero, suc, Bool, true, false, List, [], ◌∷◌, ◌++◌, Result, Ok, Err, map, replicate, take, length, refl, ap, sym, subst, ◌∙◌, append_assoc, arith, length-append}
-use Rattle.std.proofs.lemmas.List.{append-nil, take_all, take-append-le}
+use Rattle.std.proofs.Common.{◌≡◌, ◌≢◌, ◌==◌, ◌<◌, ◌≤◌, ◌+◌, ℕ, zero, suc, Bool, true, false, List, [], ◌∷◌, ◌++◌, Result, Ok, Err, map, replicate, set, take, length, refl, ap, sym, subst, ◌∙◌, append_assoc, arith, length-append}
+use Rattle.std.proofs.Math.Seq.{map-set_same}
+use Rattle.std.proofs.lemmas.Bool.{eqb-false, eqb-true}
+use Rattle.std.proofs.lemmas.List.{append-nil, get_or-set_other, take_all, take-append-le}
 use Rattle.ndc_model_cells.specs.declared.job.Job.{Job}
 use Rattle.ndc_model_cells.specs.declared.job.Job.TheVariants as job
 use Rattle.ndc_model_cells.specs.declared.job.ShardJob.{ShardJob}
@@ -12,11 +14,12 @@ use Rattle.ndc_model_cells.specs.Writing.{Entry, Desk, command_of, entry_message
 use Rattle.ndc_command.specs.declared.refusal.CommandError.{CommandError}
 use Rattle.ndc_event.specs.declared.batch.Batch.{Batch}
 use Rattle.ndc_cluster_links.proofs.RestLemmas.{len_kept}
+use Rattle.ndc_cluster_links.proofs.QueueLemmas.{front_rest}
 use Rattle.ndc_cluster_links.specs.Rest.{AreFronts, IsFrontOf, IsRestOf, queue_at}
 use Rattle.ndc_queue.specs.Queues.{QueueValue, new_queue, queue_len}
 use Rattle.ndc_cluster_rounds.proofs.ShardLemmas.{cell_by_itself, cells-many}
 use Rattle.ndc_cluster_rounds.specs.Rounds.{cell_after, jobs_of}
-use Rattle.ndc_world_replication.specs.Publishers.{AreTied}
+use Rattle.ndc_world_replication.specs.Publishers.{AreRestsBut, AreTied}
 
 -- one list goes on from another
 
@@ -98,6 +101,44 @@ fronts_after home jobs cells queues tied shard below =
     let grown = written-jobs home (jobs_of shard jobs) (cell_for shard cells) in
     front-grown (queue_at queues shard) (cell_for shard cells).written (cell_for shard (cells_after home jobs cells)).written (tied.rests shard below)
     (subst (λ (cell : Cell). GoesOn (cell_for shard cells).written cell.written) (sym (cell_by_itself home jobs cells shard inside)) grown)
+
+-- and where a shard has no job, its rest
+pub rests_but : (home : Desk) (jobs : List ShardJob) (cells : List Cell) (queues : List QueueValue) → AreTied cells queues
+    → AreRestsBut jobs queues (λ shard. (cell_for shard (cells_after home jobs cells)).written)
+rests_but home jobs cells queues tied shard below none =
+    let inside : shard < length cells = omega (arith, below, tied.alike) in
+    let still : cell_for shard (cells_after home jobs cells) ≡ cell_for shard cells = cell_by_itself home jobs cells shard inside ∙ ap (λ (js : List Job). cell_after home js (cell_for shard cells)) none in
+    subst (λ (cell : Cell). IsRestOf (queue_at queues shard) cell.written) (sym still) (tied.rests shard below)
+
+module _ (queues new : List QueueValue) (at : ℕ) (whole : ℕ → List Message) (other : new ≡ set queues at (queue_at new at)) (rest : IsRestOf (queue_at new at) (whole at)) where
+  -- the queues of other shards are as they were
+  elsewhere : (k : ℕ) → k ≢ at → queue_at new k ≡ queue_at queues k
+  elsewhere k apart = ap (λ (qs : List QueueValue). queue_at qs k) other ∙ get_or-set_other queues at k (queue_at new at) new_queue apart
+
+  rest-here : (k : ℕ) → k ≡ at → IsRestOf (queue_at new k) (whole k)
+  rest-here k same = subst (λ (n : ℕ). IsRestOf (queue_at new n) (whole n)) (sym same) rest
+
+  -- and each is trimmed as far as it was
+  pub firsts_then : (queue_at new at).first ≡ (queue_at queues at).first → map (λ (queue : QueueValue). queue.first) new ≡ map (λ (queue : QueueValue). queue.first) queues
+  firsts_then same = ap (map (λ (queue : QueueValue). queue.first)) other ∙ map-set_same (λ (queue : QueueValue). queue.first) queues at (queue_at new at) new_queue same
+
+  -- what is kept of each queue is still a front
+  pub fronts_then : length new ≡ length queues → AreFronts queues whole → AreFronts new whole
+  fronts_then many fronts k below = by (k == at) refl
+    where
+      by : (b : Bool) → (k == at) ≡ b → IsFrontOf (queue_at new k) (whole k)
+      by true same = front_rest (queue_at new k) (whole k) (rest-here k (eqb-true k at same))
+      by false apart = subst (λ (queue : QueueValue). IsFrontOf queue (whole k)) (sym (elsewhere k (eqb-false k at apart))) (fronts k (omega (arith, below, many)))
+
+  -- and the rest for each shard without a job in what is left
+  pub rests_then : length new ≡ length queues → (asked : ShardJob) (jobs : List ShardJob) → asked.shard ≡ at → AreRestsBut (asked ∷ jobs) queues whole → AreRestsBut jobs new whole
+  rests_then many asked jobs is but k below none = by (asked.shard == k) refl
+    where
+      by : (b : Bool) → (asked.shard == k) ≡ b → IsRestOf (queue_at new k) (whole k)
+      by true same = rest-here k (sym (eqb-true asked.shard k same) ∙ is)
+      by false apart =
+          subst (λ (queue : QueueValue). IsRestOf queue (whole k)) (sym (elsewhere k (λ same. eqb-false asked.shard k apart (is ∙ sym same))))
+          (but k (omega (arith, below, many)) (rw apart none))
 
 -- and there is a queue for each cell
 pub alike_after : (home : Desk) (jobs : List ShardJob) (cells : List Cell) (queues : List QueueValue) → AreTied cells queues → length (cells_after home jobs cells) ≡ length queues

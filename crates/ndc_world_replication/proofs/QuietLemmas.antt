@@ -1,15 +1,17 @@
 -- Readers to whom nothing is in flight.
-use Rattle.std.proofs.Common.{◌≡◌, ◌<◌, ◌≤◌, ◌+◌, ℕ, zero, suc, Bool, true, false, [], ◌∷◌, List, ◌++◌, map, drop, length, get_or, set, ◌&&◌, ◌==◌, refl, ap, sym, ◌∙◌, arith}
+use Rattle.std.proofs.Common.{◌≡◌, ◌<◌, ◌≤◌, ◌+◌, ℕ, zero, suc, Bool, true, false, [], ◌∷◌, List, ◌++◌, map, take, drop, length, get_or, set, ◌&&◌, ◌==◌, refl, ap, sym, ◌∙◌, arith}
 use Rattle.std.specs.List.{filter_map, list_any, range_with_len}
 use Rattle.std.specs.Str.{bytes_eq}
 use Rattle.std.proofs.lemmas.Bool.{eqb-true}
-use Rattle.std.proofs.lemmas.List.{at_drop_more, set-get_or}
+use Rattle.std.proofs.lemmas.Grind.{flat_map-append}
+use Rattle.std.proofs.lemmas.List.{append-nil, at_drop_more, map-append, set-get_or, take-append-drop, take_more}
 use Rattle.ndc_event.specs.declared.batch.Batch.{Batch}
 use Rattle.ndc_event.specs.declared.name.Name.{Name}
 use Rattle.ndc_model.proofs.ListLemmas.{filter-none}
 use Rattle.ndc_model_cells.specs.Cells.{Cell, is_learned_in, learned_message}
 use Rattle.ndc_model_cells.specs.Domains.{learned_of_domains}
 use Rattle.ndc_model_cells.specs.Writing.{same_cluster}
+use Rattle.ndc_model_cells.specs.declared.job.ShardJob.{ShardJob}
 use Rattle.ndc_model_cells.specs.declared.message.Message.{Message}
 use Rattle.ndc_domain.specs.declared.clusters.ClusterNo.{ClusterNo}
 use Rattle.ndc_model.specs.Moves.{all_arrive, arrives, by_link, in_flight, link_without_flights, without_flight}
@@ -35,6 +37,14 @@ pub quiet_links_more : (reader : ClusterNo) (links : List Link) (i : ℕ) (link 
 quiet_links_more reader links i link below is still rest =
     let next : drop i links ≡ link ∷ drop (i + 1) links = at_drop_more (λ (ls : List Link). ls) links i link below ∙ ap (λ (l : Link). l ∷ drop (i + 1) links) (sym is) in
     ap (map (emptied reader)) next ∙ ap (λ (l : Link). l ∷ map (emptied reader) (drop (i + 1) links)) still ∙ ap (λ (ls : List Link). link ∷ ls) rest ∙ sym next
+
+-- the next link stays, and those before it
+pub quiet_links_first : (reader : ClusterNo) (links : List Link) (i : ℕ) (link : Link) → i < length links → link ≡ get_or links i link → emptied reader link ≡ link
+    → map (emptied reader) (take i links) ≡ take i links → map (emptied reader) (take (i + 1) links) ≡ take (i + 1) links
+quiet_links_first reader links i link below is still rest =
+    let next : take (i + 1) links ≡ take i links ++ link ∷ [] = take_more links i link below ∙ ap (λ (l : Link). take i links ++ l ∷ []) (sym is) in
+    ap (map (emptied reader)) next ∙ map-append (emptied reader) (take i links) (link ∷ []) ∙ ap (λ (ls : List Link). ls ++ emptied reader link ∷ []) rest
+    ∙ ap (λ (l : Link). take i links ++ l ∷ []) still ∙ sym next
 
 -- nothing is in flight in a lane that was emptied
 flight-none : (lanes : List Lane) (shard : ℕ) → (get_or (map without_flight lanes) shard new_lane).flight ≡ []
@@ -81,6 +91,39 @@ no_jobs messages (shard ∷ shards) none = ap (λ (ms : List Message). map (arri
 pub no_flight_jobs : (reader : ClusterNo) (links : List Link) (shards : List ℕ) → map (emptied reader) links ≡ links → all_arrive (by_link reader in_flight links) shards ≡ []
 no_flight_jobs reader links shards quiet =
     no_jobs (by_link reader in_flight links) shards (λ shard. sym (ap (λ (ls : List Link). by_link reader in_flight ls shard) quiet) ∙ links-none reader links shard)
+
+-- jobs in which as much arrives for each shard
+jobs-alike : (one two : ℕ → List Message) (shards : List ℕ) → ((shard : ℕ) → one shard ≡ two shard) → all_arrive one shards ≡ all_arrive two shards
+jobs-alike one two [] same = refl
+jobs-alike one two (shard ∷ shards) same = ap (λ (ms : List Message). map (arrives shard) ms ++ all_arrive one shards) (same shard) ∙ ap (λ (js : List ShardJob). map (arrives shard) (two shard) ++ js) (jobs-alike one two shards same)
+
+module _ (reader : ClusterNo) (n : ℕ) (links : List Link) where
+  -- what is in flight over the first links, and over the others
+  flight-parts : (shard : ℕ) → by_link reader in_flight links shard ≡ by_link reader in_flight (take n links) shard ++ by_link reader in_flight (drop n links) shard
+  flight-parts shard = ap (λ (ls : List Link). by_link reader in_flight ls shard) (sym (take-append-drop n links)) ∙ flat_map-append (own_part in_flight reader shard) (take n links) (drop n links)
+
+  emptied-parts : map (emptied reader) links ≡ map (emptied reader) (take n links) ++ map (emptied reader) (drop n links)
+  emptied-parts = ap (map (emptied reader)) (sym (take-append-drop n links)) ∙ map-append (emptied reader) (take n links) (drop n links)
+
+  nothing : (part : List Link) (shard : ℕ) → map (emptied reader) part ≡ part → by_link reader in_flight part shard ≡ []
+  nothing part shard quiet = sym (ap (λ (ls : List Link). by_link reader in_flight ls shard) quiet) ∙ links-none reader part shard
+
+  -- where the first links bring nothing, the jobs are those of the others
+  pub jobs_behind : (shards : List ℕ) → map (emptied reader) (take n links) ≡ take n links → all_arrive (by_link reader in_flight (drop n links)) shards ≡ all_arrive (by_link reader in_flight links) shards
+  jobs_behind shards quiet = jobs-alike (by_link reader in_flight (drop n links)) (by_link reader in_flight links) shards
+      (λ shard. sym (flight-parts shard ∙ ap (λ (ms : List Message). ms ++ by_link reader in_flight (drop n links) shard) (nothing (take n links) shard quiet)))
+
+  pub links_behind : map (emptied reader) (take n links) ≡ take n links → take n links ++ map (emptied reader) (drop n links) ≡ map (emptied reader) links
+  links_behind quiet = sym (emptied-parts ∙ ap (λ (ls : List Link). ls ++ map (emptied reader) (drop n links)) quiet)
+
+  -- where the last links bring nothing, they are those of the first
+  pub jobs_before : (shards : List ℕ) → map (emptied reader) (drop n links) ≡ drop n links → all_arrive (by_link reader in_flight (take n links)) shards ≡ all_arrive (by_link reader in_flight links) shards
+  jobs_before shards quiet = jobs-alike (by_link reader in_flight (take n links)) (by_link reader in_flight links) shards
+      (λ shard. sym (flight-parts shard ∙ ap (λ (ms : List Message). by_link reader in_flight (take n links) shard ++ ms) (nothing (drop n links) shard quiet)
+      ∙ append-nil (by_link reader in_flight (take n links) shard)))
+
+  pub links_before : map (emptied reader) (drop n links) ≡ drop n links → map (emptied reader) (take n links) ++ drop n links ≡ map (emptied reader) links
+  links_before quiet = sym (emptied-parts ∙ ap (λ (ls : List Link). map (emptied reader) (take n links) ++ ls) quiet)
 
 -- where none is brought to the shards of a header, there is no job
 pub no_jobs_below : (messages : ℕ → List Message) (shards : ℕ) → ((shard : ℕ) → shard < shards → messages shard ≡ []) → all_arrive messages (range_with_len 0 shards) ≡ []

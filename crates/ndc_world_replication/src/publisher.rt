@@ -1,4 +1,9 @@
-ghost use Rattle.std.specs.Prelude.{◌≡◌};
+ghost use Rattle.std.specs.Prelude.{◌≡◌, ◌<◌, length, map, OnOk};
+ghost use Rattle.std.specs.List.{AllByRecursion};
+ghost use Rattle.ndc_cluster_links.specs.Rest.{AreFronts, AreRests};
+ghost use Rattle.ndc_model_cells.specs.Jobs.{cell_for};
+ghost use Rattle.ndc_queue.specs.Queues.{QueueValue};
+ghost use Rattle.ndc_world_replication.specs.Publishers.{AreRestsBut};
 
 use ndc_cluster::Cluster;
 use ndc_cluster_links::Queues;
@@ -58,6 +63,27 @@ pub(crate) fn home_in(header: &Header, cluster: ClusterNo) -> Home<'_>
         me: cluster,
         limit: header.limit,
     }
+}
+
+/// Puts what the cells of the shards of jobs have written into the queues of these shards. Where memory runs out, some of it
+/// is there.
+fn extend_asked<C: Cell>(
+    queues: &mut Queues,
+    cells: &[C],
+    jobs: &[ShardJob],
+) -> Result<(), AllocError>
+    requires alike { length cells.now ≡ length queues.old }
+    requires shards { AllByRecursion (λ asked. asked.shard < length queues.old) jobs.now }
+    requires fronts { AreFronts queues.old (λ shard. (cell_for shard (map C.cell cells.now)).written) }
+    requires others { AreRestsBut jobs.now queues.old (λ shard. (cell_for shard (map C.cell cells.now)).written) }
+    ensures rests { OnOk result (AreRests queues.new (λ shard. (cell_for shard (map C.cell cells.now)).written)) }
+    ensures first { OnOk result (map (λ (queue : QueueValue). queue.first) queues.new ≡ map (λ (queue : QueueValue). queue.first) queues.old) }
+{
+    for asked in jobs {
+        let shard = asked.shard as usize;
+        queues.extend(shard, &cells[shard])?;
+    }
+    Ok(())
 }
 
 impl<C: Cell + Drop> Publisher<C> {
@@ -296,7 +322,7 @@ impl<C: Cell + Drop> Publisher<C> {
         let mut cluster = mem::replace(&mut self.cluster, no_cluster);
         let mut queues = mem::replace(&mut self.queues, no_queues);
         let replies = cluster.round(rt, alloc, gate, workers, home, jobs)?;
-        queues.extend(cluster.cells())?;
+        extend_asked(&mut queues, cluster.cells(), jobs)?;
         self.cluster = cluster;
         self.queues = queues;
         Ok(replies)

@@ -1,4 +1,4 @@
-ghost use Rattle.std.specs.Prelude.{◌≡◌, ◌<◌, ◌++◌, [], ◌∷◌, false, length, map, IfOk, OnOk};
+ghost use Rattle.std.specs.Prelude.{◌≡◌, ◌<◌, ◌≤◌, ◌++◌, [], ◌∷◌, false, drop, length, map, take, IfOk, OnOk};
 ghost use Rattle.std.specs.List.{AllByRecursion, range_with_len};
 ghost use Rattle.ndc_model.specs.Moves.{all_arrive, arrives, by_link, in_flight};
 ghost use Rattle.ndc_world_replication.specs.Flights.{emptied, emptied_at};
@@ -62,13 +62,13 @@ fn take_from(
 /// Takes what is in flight to a reader for a shard, link by link, as jobs.
 fn take_shard(
     jobs: &mut Vec<ShardJob>,
-    links: &mut Vec<Link>,
+    links: &mut [Link],
     reader: ClusterNo,
     shard: u32,
 ) -> Result<(), AllocError>
-    requires { AllByRecursion (λ link. shard < length link.lanes) links.old.items }
-    ensures links { OnOk result (links.new.items ≡ map (emptied_at reader shard) links.old.items) }
-    ensures jobs { OnOk result (jobs.new.items ≡ jobs.old.items ++ map (arrives shard) (by_link reader in_flight links.old.items shard)) }
+    requires { AllByRecursion (λ link. shard < length link.lanes) links.old }
+    ensures links { OnOk result (links.new ≡ map (emptied_at reader shard) links.old) }
+    ensures jobs { OnOk result (jobs.new.items ≡ jobs.old.items ++ map (arrives shard) (by_link reader in_flight links.old shard)) }
 {
     for place in 0..links.len() {
         let link = &mut links[place];
@@ -80,13 +80,13 @@ fn take_shard(
 /// Takes what is in flight to a reader for each shard, link by link, as jobs.
 fn take_shards(
     alloc: Global,
-    links: &mut Vec<Link>,
+    links: &mut [Link],
     reader: ClusterNo,
     shards: u32,
 ) -> Result<Vec<ShardJob>, AllocError>
-    requires { AllByRecursion (λ link. length link.lanes ≡ shards) links.old.items }
-    ensures links { OnOk result (links.new.items ≡ map (emptied reader) links.old.items) }
-    ensures jobs { IfOk result (λ jobs. jobs.items ≡ all_arrive (by_link reader in_flight links.old.items) (range_with_len 0 shards)) }
+    requires { AllByRecursion (λ link. length link.lanes ≡ shards) links.old }
+    ensures links { OnOk result (links.new ≡ map (emptied reader) links.old) }
+    ensures jobs { IfOk result (λ jobs. jobs.items ≡ all_arrive (by_link reader in_flight links.old) (range_with_len 0 shards)) }
 {
     let mut jobs = Vec::new(alloc);
     for shard in 0..shards {
@@ -95,21 +95,44 @@ fn take_shards(
     Ok(jobs)
 }
 
-/// Whether it is not known that nothing is in flight to a reader.
-fn may_be_in_flight(links: &[Link], reader: ClusterNo) -> bool
-    ensures { result ≡ false → map (emptied reader) links.now ≡ links.now }
+/// Whether it is not known that nothing is in flight over a link to a reader.
+fn may_bring(link: &Link, reader: ClusterNo) -> bool
+    ensures { result ≡ false → emptied reader link.now ≡ link.now }
 {
-    for link in links {
-        if link.reader().number == reader.number && !link.is_quiet() {
-            return true;
+    link.reader().number == reader.number && !link.is_quiet()
+}
+
+/// How many links stand before the first one over which something may be in flight to a reader.
+fn quiet_front(links: &[Link], reader: ClusterNo) -> usize
+    ensures within { result ≤ length links.now }
+    ensures quiet { map (emptied reader) (take result links.now) ≡ take result links.now }
+{
+    for place in 0..links.len() {
+        if may_bring(&links[place], reader) {
+            return place;
         }
     }
-    false
+    links.len()
+}
+
+/// How many links there are up to the last one over which something may be in flight to a reader.
+fn busy_front(links: &[Link], reader: ClusterNo) -> usize
+    ensures within { result ≤ length links.now }
+    ensures quiet { map (emptied reader) (drop result links.now) ≡ drop result links.now }
+{
+    let mut count = links.len();
+    while 0 < count {
+        if may_bring(&links[count - 1], reader) {
+            return count;
+        }
+        count -= 1;
+    }
+    0
 }
 
 /// Looks over which links of a reader nothing is in flight.
-fn look_all(links: &mut Vec<Link>, reader: ClusterNo)
-    ensures { links.new.items ≡ links.old.items }
+fn look_all(links: &mut [Link], reader: ClusterNo)
+    ensures { links.new ≡ links.old }
 {
     for link in links.iter_mut() {
         if link.reader().number == reader.number {
@@ -118,22 +141,41 @@ fn look_all(links: &mut Vec<Link>, reader: ClusterNo)
     }
 }
 
-/// Takes all that is in flight to a reader, by shard and then link by link, as jobs. Where it is known that nothing is, no
-/// shard is looked at.
-pub(crate) fn take_all(
+/// Takes all that is in flight to a reader, by shard and then link by link, as jobs, and looks over which links nothing is
+/// then. The links at the end that bring nothing are passed by.
+fn take_busy(
     alloc: Global,
-    links: &mut Vec<Link>,
+    links: &mut [Link],
     reader: ClusterNo,
     shards: u32,
 ) -> Result<Vec<ShardJob>, AllocError>
-    requires { AllByRecursion (λ link. length link.lanes ≡ shards) links.old.items }
-    ensures links { OnOk result (links.new.items ≡ map (emptied reader) links.old.items) }
-    ensures jobs { IfOk result (λ jobs. jobs.items ≡ all_arrive (by_link reader in_flight links.old.items) (range_with_len 0 shards)) }
+    requires { AllByRecursion (λ link. length link.lanes ≡ shards) links.old }
+    ensures links { OnOk result (links.new ≡ map (emptied reader) links.old) }
+    ensures jobs { IfOk result (λ jobs. jobs.items ≡ all_arrive (by_link reader in_flight links.old) (range_with_len 0 shards)) }
 {
-    if !may_be_in_flight(links.as_slice(), reader) {
+    let count = busy_front(links, reader);
+    let (busy, _quiet) = links.split_at_mut(count);
+    let jobs = take_shards(alloc, busy, reader, shards)?;
+    look_all(busy, reader);
+    Ok(jobs)
+}
+
+/// Takes all that is in flight to a reader, by shard and then link by link, as jobs. Only the links from the first to the
+/// last one over which something may be in flight to it are looked at for each shard.
+pub(crate) fn take_all(
+    alloc: Global,
+    links: &mut [Link],
+    reader: ClusterNo,
+    shards: u32,
+) -> Result<Vec<ShardJob>, AllocError>
+    requires { AllByRecursion (λ link. length link.lanes ≡ shards) links.old }
+    ensures links { OnOk result (links.new ≡ map (emptied reader) links.old) }
+    ensures jobs { IfOk result (λ jobs. jobs.items ≡ all_arrive (by_link reader in_flight links.old) (range_with_len 0 shards)) }
+{
+    let front = quiet_front(links, reader);
+    if front == links.len() {
         return Ok(Vec::new(alloc));
     }
-    let jobs = take_shards(alloc, links, reader, shards)?;
-    look_all(links, reader);
-    Ok(jobs)
+    let (_quiet, rest) = links.split_at_mut(front);
+    take_busy(alloc, rest, reader, shards)
 }

@@ -113,7 +113,8 @@ impl<C: Cell + Drop> Replication<C> {
         ensures taken { OnOk result (self.new ≡ without_flights_to reader self.old) }
         ensures jobs { IfOk result (λ jobs. jobs.items ≡ flight_jobs header.now reader self.old) }
     {
-        let jobs = take_all(alloc, &mut self.links, reader, header.shards)?;
+        let links = self.links.as_mut_slice();
+        let jobs = take_all(alloc, links, reader, header.shards)?;
         Ok(jobs)
     }
 

@@ -1,5 +1,5 @@
 use Rattle.std.proofs.Common.{◌≡◌, ◌<◌, Some, length, slice_get, ap, sym, subst, ◌∙◌, arith}
-use Rattle.ndc_cluster_links.proofs.QueueLemmas.{front_more}
+use Rattle.ndc_cluster_links.proofs.QueueLemmas.{front_more, len_pushed}
 use Rattle.ndc_cluster_links.specs.Rest.{IsFrontOf}
 use Rattle.ndc_queue.specs.Queues.{QueueValue, queue_len}
 use Rattle.ndc_cluster_links.proofs.queues.push_written.Goals as goal
@@ -13,4 +13,5 @@ loop-queue-preserved g c =
     record {
       front = subst (λ (queue : QueueValue). IsFrontOf queue (g.C.Cell.cell c.args.cell.now).written) (sym c.in_ok-push.ensures.pushed) front;
       first = ap (λ (queue : QueueValue). queue.first) c.in_ok-push.ensures.pushed ∙ c.loop-queue.invariant.first;
+      grown = omega (arith, ap queue_len c.in_ok-push.ensures.pushed, len_pushed c.in_ok-message.message c.loop-queue.queue, c.loop-queue.invariant.grown);
     }

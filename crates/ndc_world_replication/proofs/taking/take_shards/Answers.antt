@@ -10,25 +10,25 @@ use Rattle.ndc_world_replication.proofs.taking.take_shards.Goals as goal
 pub take_shard-requires : goal.take_shard-requires
 take_shard-requires c =
     subst (AllByRecursion (λ (link : Link). c.loop-shard.shard < length link.lanes)) (sym c.loop-shard.invariant.links)
-    (all_lanes_still c.args.reader c.args.shards c.loop-shard.shard (omega arith) c.args.links.now.items c.requires)
+    (all_lanes_still c.args.reader c.args.shards c.loop-shard.shard (omega arith) c.args.links.now c.requires)
 
 pub loop-shard-init : goal.loop-shard-init
-loop-shard-init c = record { links = all_emptied_none c.args.reader c.args.links.now.items; jobs = c.new-jobs.ensures.items }
+loop-shard-init c = record { links = all_emptied_none c.args.reader c.args.links.now; jobs = c.new-jobs.ensures.items }
 
 pub loop-shard-preserved : goal.loop-shard-preserved
 loop-shard-preserved c = record {
   links = c.in_ok-take_shard.ensures.links ∙ ap (map (emptied_at c.args.reader c.loop-shard.shard)) c.loop-shard.invariant.links
-      ∙ all_emptied_more c.args.reader c.args.shards c.loop-shard.shard (omega arith) c.args.links.now.items c.requires;
+      ∙ all_emptied_more c.args.reader c.args.shards c.loop-shard.shard (omega arith) c.args.links.now c.requires;
   jobs = c.in_ok-take_shard.ensures.jobs
-      ∙ ap (λ jobs. jobs ++ map (arrives c.loop-shard.shard) (by_link c.args.reader in_flight c.loop-shard.links.items c.loop-shard.shard)) c.loop-shard.invariant.jobs
-      ∙ ap (λ (links : List Link). all_arrive (by_link c.args.reader in_flight c.args.links.now.items) (range_with_len 0 c.loop-shard.shard) ++ map (arrives c.loop-shard.shard) (by_link c.args.reader in_flight links c.loop-shard.shard))
+      ∙ ap (λ jobs. jobs ++ map (arrives c.loop-shard.shard) (by_link c.args.reader in_flight c.loop-shard.links c.loop-shard.shard)) c.loop-shard.invariant.jobs
+      ∙ ap (λ (links : List Link). all_arrive (by_link c.args.reader in_flight c.args.links.now) (range_with_len 0 c.loop-shard.shard) ++ map (arrives c.loop-shard.shard) (by_link c.args.reader in_flight links c.loop-shard.shard))
       c.loop-shard.invariant.links
-      ∙ ap (λ (messages : List Message). all_arrive (by_link c.args.reader in_flight c.args.links.now.items) (range_with_len 0 c.loop-shard.shard) ++ map (arrives c.loop-shard.shard) messages)
-      (all_flight_still c.args.reader c.args.shards c.loop-shard.shard (omega arith) c.args.links.now.items c.requires)
-      ∙ jobs_of_more (by_link c.args.reader in_flight c.args.links.now.items) c.loop-shard.shard;
+      ∙ ap (λ (messages : List Message). all_arrive (by_link c.args.reader in_flight c.args.links.now) (range_with_len 0 c.loop-shard.shard) ++ map (arrives c.loop-shard.shard) messages)
+      (all_flight_still c.args.reader c.args.shards c.loop-shard.shard (omega arith) c.args.links.now c.requires)
+      ∙ jobs_of_more (by_link c.args.reader in_flight c.args.links.now) c.loop-shard.shard;
 }
 
 pub returns-clause-links : goal.returns-clause-links
 returns-clause-links c =
     let all : c.loop-shard.shard ≡ c.args.shards = omega arith in
-    c.loop-shard.invariant.links ∙ ap (λ shard. map (emptied_below c.args.reader shard) c.args.links.now.items) all ∙ all_emptied c.args.reader c.args.shards c.args.links.now.items c.requires
+    c.loop-shard.invariant.links ∙ ap (λ shard. map (emptied_below c.args.reader shard) c.args.links.now) all ∙ all_emptied c.args.reader c.args.shards c.args.links.now c.requires

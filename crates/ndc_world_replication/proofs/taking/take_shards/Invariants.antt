@@ -6,6 +6,6 @@ use Rattle.ndc_world_replication.proofs.taking.take_shards.Given as goal
 
 abbrev pub invariant-loop-shard : goal.invariant-loop-shard
 invariant-loop-shard l = record {
-  links : l.links.items ≡ map (emptied_below l.reader l.shard) l.initial.links.items;
-  jobs : l.jobs.items ≡ all_arrive (by_link l.reader in_flight l.initial.links.items) (range_with_len 0 l.shard);
+  links : l.links ≡ map (emptied_below l.reader l.shard) l.initial.links;
+  jobs : l.jobs.items ≡ all_arrive (by_link l.reader in_flight l.initial.links) (range_with_len 0 l.shard);
 }

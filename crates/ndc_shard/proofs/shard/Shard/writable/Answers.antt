@@ -5,7 +5,7 @@ use Rattle.ndc_model_cells.specs.Cells.{learned_of}
 use Rattle.ndc_shard.proofs.FoundLemmas.{may-parts}
 use Rattle.ndc_shard_entries.proofs.WriterLemmas.{none_greater}
 use Rattle.ndc_shard_entries.specs.Writer.{unless_behind}
-use Rattle.ndc_shard.proofs.shard.Shard.version_for.Goals as goal
+use Rattle.ndc_shard.proofs.shard.Shard.writable.Goals as goal
 
 pub returns-in-Err : goal.returns-in-Err
 returns-in-Err c =
