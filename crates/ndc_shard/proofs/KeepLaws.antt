@@ -78,6 +78,12 @@ module _ (home : Desk) (all : List Batch) (domain workflow : Name) (cell : Cell)
       → IsAuthored there (set_behind (reset_at home domain workflow event cell) all) domain workflow other
   reset-elsewhere event = elsewhere (reset_at home domain workflow event cell) (reset-takes home all domain workflow cell fine-here by_author.author range event)
 
+  pub reapplication-elsewhere : (there : Desk) (other : Cell) → there.clusters ≡ home.clusters → (there.me ≡ home.me → ⊥) → IsAuthored there all domain workflow other
+      → IsAuthored there (with_entries (reapplication_of home domain workflow cell) all) domain workflow other
+  reapplication-elsewhere there other same apart a =
+      let t = reapplication-takes home all domain workflow cell fine-here by_author.author range in
+      record { kept = t.elsewhere_kept other a.kept; author = t.elsewhere_author there other same apart a.author; whole = a.whole }
+
 -- what a cell sends is of the set
 pub sent-is-of : (all : List Batch) (domain workflow : Name) (key : BatchKey) (cell : Cell) → IsOrderly cell → IsKept all domain workflow cell → IsWhole domain workflow cell → (sent : Message)
     → message_at cell (record { domain = domain; workflow = workflow; key = key }) ≡ Some sent → IsMessageOf all sent × (is_of domain workflow sent.batch ≡ true)

@@ -49,6 +49,8 @@ pub fn what_another_writes_is_in_the_set()
         → there.clusters ≡ home.clusters → there.me ≢ home.me → IsAuthored there all domain workflow other → IsAuthored there (set_behind (command_of home domain workflow command cell) all) domain workflow other }
     ensures resets { (home : DeskValue) (all : List One) (domain workflow : Text) (cell : CellValue) → IsOrderly cell → IsAuthored home all domain workflow cell → HasRange all → (event : ℕ) (there : DeskValue) (other : CellValue)
         → there.clusters ≡ home.clusters → there.me ≢ home.me → IsAuthored there all domain workflow other → IsAuthored there (set_behind (reset_at home domain workflow event cell) all) domain workflow other }
+    ensures reapplications { (home : DeskValue) (all : List One) (domain workflow : Text) (cell : CellValue) → IsOrderly cell → IsAuthored home all domain workflow cell → HasRange all → (there : DeskValue) (other : CellValue)
+        → there.clusters ≡ home.clusters → there.me ≢ home.me → IsAuthored there all domain workflow other → IsAuthored there (with_entries (reapplication_of home domain workflow cell) all) domain workflow other }
 {}
 
 /// The message that a cell has of a learned batch is one of the set, and may be handed to any other cell that keeps it.

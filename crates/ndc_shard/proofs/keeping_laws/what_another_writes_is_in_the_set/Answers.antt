@@ -1,4 +1,4 @@
-use Rattle.ndc_shard.proofs.KeepLaws.{command-elsewhere, reset-elsewhere}
+use Rattle.ndc_shard.proofs.KeepLaws.{command-elsewhere, reapplication-elsewhere, reset-elsewhere}
 use Rattle.ndc_shard.proofs.keeping_laws.what_another_writes_is_in_the_set.Goals as goal
 
 pub returns-clause-commands : goal.returns-clause-commands
@@ -6,3 +6,6 @@ returns-clause-commands c = command-elsewhere
 
 pub returns-clause-resets : goal.returns-clause-resets
 returns-clause-resets c = reset-elsewhere
+
+pub returns-clause-reapplications : goal.returns-clause-reapplications
+returns-clause-reapplications c = reapplication-elsewhere
