@@ -47,13 +47,13 @@ impl Drop for Shard {
 }
 
 impl Shard {
-    ghost use Rattle.std.specs.Prelude.{◌≡◌, ◌≢◌, ◌<◌, ◌++◌, [], ◌∷◌, length, option_to_list, slice_get, None, Some, Ok, IfSome, IfNone, IfOk, IfErr, IsTrue, OnOk, OnErr};
+    ghost use Rattle.std.specs.Prelude.{◌≡◌, ◌≢◌, ◌<◌, ◌++◌, [], ◌∷◌, length, option_to_list, slice_get, None, Some, Ok, Err, MatchResult, IfSome, IfNone, IfOk, IfErr, IsTrue, OnOk, OnErr};
     ghost use Rattle.ndc_model_cells.specs.Arrival.{arrival_of, arrived_at, learned_by};
     ghost use Rattle.ndc_model_cells.specs.Cells.{empty_cell, learned_of};
     ghost use Rattle.ndc_model_cells.specs.Jobs.{all_batches, reapplied_in, reapplied_now, workflows_of, written_at};
     ghost use Rattle.ndc_model_cells.specs.Writing.{Desk as DeskValue, command_of, may_write, reapplication_below, reapplication_of, reset_at, with_all_written, with_written};
     ghost use Rattle.ndc_command.specs.declared.refusal.CommandError.TheVariants.{Memory};
-    ghost use Rattle.ndc_event.specs.Outcome.{Gives, ◌>>=◌};
+    ghost use Rattle.ndc_event.specs.Outcome.{Gives};
     ghost use Rattle.ndc_shard_runs.specs.Kept.{is_due};
     ghost use Rattle.ndc_model_sets.specs.Branches.{workflow_tip};
     ghost use Rattle.ndc_model_sets.specs.Current.{strays};
@@ -143,7 +143,7 @@ impl Shard {
         domain: &Name,
         workflow: &Name,
     ) -> Result<(u64, Option<&Runs>), Refusal>
-        ensures version { (result >>= λ it. Ok it.0) ≡ may_write desk.now domain.now workflow.now self.now }
+        ensures version { MatchResult result (λ it. may_write desk.now domain.now workflow.now self.now ≡ Ok it.0) (λ refusal. may_write desk.now domain.now workflow.now self.now ≡ Err refusal) }
         ensures found { IfOk result (λ it. IfSome it.1 (λ runs. runs.now ≡ learned_of domain.now workflow.now self.now)) }
         ensures none { IfOk result (λ it. IfNone it.1 (learned_of domain.now workflow.now self.now ≡ [])) }
         ensures fit { IfOk result (λ _. IsFit domain.now workflow.now self.now) }
