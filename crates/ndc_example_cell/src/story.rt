@@ -66,6 +66,18 @@ fn write(
     Ok(())
 }
 
+/// A starts the workflow.
+fn start(
+    alloc: Global,
+    pair: &mut Pair,
+    table: &DomainTable,
+    text: &mut Vec<u8>,
+) -> Result<(), StoryError> {
+    let workflow_type = Name::new(alloc, b"order")?;
+    let command = Command::Start { workflow_type };
+    write(pair, Side::First, table, &command, text)
+}
+
 /// A cell takes a signal.
 fn signal(
     alloc: Global,
@@ -76,7 +88,8 @@ fn signal(
 ) -> Result<(), StoryError> {
     let name = Name::new(alloc, b"paid")?;
     let input = Name::new(alloc, b"now")?;
-    write(pair, side, table, &Command::Signal { name, input }, text)
+    let command = Command::Signal { name, input };
+    write(pair, side, table, &command, text)
 }
 
 /// A cell tells the other one the batch that was written with a version and task.
@@ -106,9 +119,7 @@ fn lose_and_serve(
     table: &DomainTable,
     text: &mut Vec<u8>,
 ) -> Result<(), StoryError> {
-    let workflow_type = Name::new(alloc, b"order")?;
-    let start = Command::Start { workflow_type };
-    write(pair, Side::First, table, &start, text)?;
+    start(alloc, pair, table, text)?;
     signal(alloc, pair, Side::First, table, text)?;
     let key = BatchKey {
         version: 1,
