@@ -1,3 +1,4 @@
 pub mod Ascii
 pub mod SameKind
 pub mod Texts
+pub mod Fronts

@@ -1,15 +1,19 @@
-ghost use Rattle.std.specs.Prelude.{◌≡◌};
+ghost use Rattle.std.specs.Prelude.{◌≡◌, IfOk, IsTrue, drop, get_or, ◌<◌};
+ghost use Rattle.std.specs.Arc.{arc_value};
 ghost use Rattle.std.specs.Cmp.Lexicographic.{slice_cmp};
 ghost use Rattle.std.specs.List.{list_all};
 ghost use Rattle.std.specs.Ordering.{nat_cmp};
-ghost use Rattle.ndc_event.specs.Name.{is_name_byte};
+ghost use Rattle.std.specs.String.{string_bytes};
+ghost use Rattle.ndc_event.specs.Front.{IsSpelled, front_of};
+ghost use Rattle.ndc_event.specs.Name.{is_name, is_name_byte};
 
 use std::alloc::{AllocError, Global};
 use std::cmp::Ordering;
 use std::fmt;
 use std::hash::{Hash, Hasher};
 use std::marker::Model;
-use std::sync::ArcStr;
+use std::string::String;
+use std::sync::Arc;
 use thiserror::Error;
 
 /// The greatest length of a name, in bytes.
@@ -39,23 +43,31 @@ impl From<AllocError> for NameError {
     }
 }
 
+/// The text of a name, and its first eight bytes as one number: most names differ there.
+#[derive(Drop)]
+struct Spelled {
+    front: u64,
+    text: String<Global>,
+}
+
 /// The name of a domain, a workflow, a signal, an activity and so on: 1 to 200 bytes from `!` to `~`.
 /// Copies share the bytes. Names are ordered as their bytes are.
 #[derive(Drop)]
 pub struct Name {
-    text: ArcStr<Global>,
+    spelled: Arc<Spelled, Global>,
 }
 
 impl Model for Name {
-    ghost use Rattle.std.specs.Prelude.{List, ℕ, IsTrue};
-    ghost use Rattle.std.specs.Arc.{arc_str_bytes};
-    ghost use Rattle.ndc_event.specs.Name.{is_name};
+    ghost use Rattle.std.specs.Prelude.{List, ℕ};
+    ghost use Rattle.std.specs.Arc.{arc_value};
+    ghost use Rattle.std.specs.String.{string_bytes};
+    ghost use Rattle.ndc_event.specs.Front.{IsSpelled};
 
     ghost Value = { List ℕ };
 
-    ghost view = { λ name. arc_str_bytes name.text };
+    ghost view = { λ name. string_bytes (arc_value name.spelled).text };
 
-    ghost invariant = { λ name. IsTrue (is_name (arc_str_bytes name.text)) };
+    ghost invariant = { λ name. IsSpelled (arc_value name.spelled) };
 }
 
 /// Whether a name may have this byte.
@@ -72,22 +84,69 @@ fn are_name_bytes(bytes: &[u8]) -> bool
     bytes.iter().all(|byte| is_name_byte(*byte))
 }
 
-/// How many bytes of names are compared one by one, before all are compared as text: most names differ early.
+/// How many bytes stand in the front of a name.
+const FRONT: usize = 8;
+
+/// How many bytes behind the front of names are compared one by one, before all are compared as text.
 const NEAR: usize = 16;
 
-/// How texts compare, byte by byte.
-fn compared(one: &str, two: &str) -> Ordering
+/// The byte at this place, 0 where there is none.
+fn byte_at(bytes: &[u8], place: usize) -> u8
+    ensures byte { result ≡ get_or bytes.now place 0 }
+    ensures small { result < 256 }
+{
+    match bytes.get(place) {
+        Some(byte) => *byte,
+        None => 0,
+    }
+}
+
+/// The first eight bytes as one number, the first byte the highest, zeros where there are fewer.
+fn front_of(bytes: &[u8]) -> u64
+    ensures { result ≡ front_of bytes.now }
+{
+    let mut front: u64 = 0;
+    for place in 0..FRONT {
+        front = front * 256 + u64::from(byte_at(bytes, place));
+    }
+    front
+}
+
+/// What is kept of this name.
+fn spell(alloc: Global, text: &str) -> Result<Arc<Spelled, Global>, AllocError>
+    requires { IsTrue (is_name text.now) }
+    ensures text { IfOk result (λ spelled. string_bytes (arc_value spelled).text ≡ text.now) }
+    ensures spelled { IfOk result (λ spelled. IsSpelled (arc_value spelled)) }
+{
+    let spelled = Spelled {
+        front: front_of(text.as_bytes()),
+        text: String::from_str(alloc, text)?,
+    };
+    Ok(Arc::new(alloc, spelled)?)
+}
+
+/// What stands behind the front of a name.
+fn behind_front(bytes: &[u8]) -> &[u8]
+    ensures { result.now ≡ drop 8 bytes.now }
+{
+    if bytes.len() <= FRONT {
+        return &[];
+    }
+    bytes.split_at(FRONT).1
+}
+
+/// How bytes compare, one by one at their beginning.
+fn compared(one: &[u8], two: &[u8]) -> Ordering
     ensures { result ≡ slice_cmp nat_cmp one.now two.now }
 {
-    let (front, other) = (one.as_bytes(), two.as_bytes());
-    let both = front.len().min(other.len());
+    let both = one.len().min(two.len());
     for place in 0..both.min(NEAR) {
-        if front[place] != other[place] {
-            return front[place].cmp(&other[place]);
+        if one[place] != two[place] {
+            return one[place].cmp(&two[place]);
         }
     }
     if both <= NEAR {
-        return front.len().cmp(&other.len());
+        return one.len().cmp(&two.len());
     }
     one.cmp(two)
 }
@@ -114,7 +173,7 @@ impl Name {
         }
         match std::str::from_utf8(bytes) {
             Ok(text) => Ok(Name {
-                text: ArcStr::from_str(alloc, text)?,
+                spelled: spell(alloc, text)?,
             }),
             Err(_) => unreachable!(),
         }
@@ -125,7 +184,7 @@ impl Name {
         ensures text { result.now ≡ self.now }
         ensures is_name { IsTrue (is_name self.now) }
     {
-        self.text.as_str()
+        self.spelled.text.as_str()
     }
 
     /// The bytes of the name.
@@ -133,7 +192,7 @@ impl Name {
         ensures bytes { result.now ≡ self.now }
         ensures is_name { IsTrue (is_name self.now) }
     {
-        self.text.as_str().as_bytes()
+        self.as_str().as_bytes()
     }
 
     /// The same name, over the same bytes.
@@ -141,8 +200,27 @@ impl Name {
         ensures { IfOk result (λ copy. copy ≡ self.now) }
     {
         Ok(Name {
-            text: self.text.clone()?,
+            spelled: self.spelled.clone()?,
         })
+    }
+
+    /// The first eight bytes of the name as one number.
+    fn front(&self) -> u64
+        ensures front { result ≡ front_of self.now }
+        ensures is_name { IsTrue (is_name self.now) }
+    {
+        self.spelled.front
+    }
+
+    /// How the names compare, byte by byte.
+    fn compared(&self, other: &Name) -> Ordering
+        ensures { result ≡ slice_cmp nat_cmp self.now other.now }
+    {
+        let (front, others) = (self.front(), other.front());
+        if front != others {
+            return front.cmp(&others);
+        }
+        compared(behind_front(self.as_bytes()), behind_front(other.as_bytes()))
     }
 }
 
@@ -166,7 +244,7 @@ impl PartialEq for Name {
     ghost laws = { partial_equiv_from_equiv nat_list_eq_equiv };
 
     fn eq(&self, other: &Name) -> bool {
-        compared(self.as_str(), other.as_str()).is_eq()
+        self.compared(other).is_eq()
     }
 }
 
@@ -204,7 +282,7 @@ impl Ord for Name {
     ghost matches_eq = { texts_ties };
 
     fn cmp(&self, other: &Name) -> Ordering {
-        compared(self.as_str(), other.as_str())
+        self.compared(other)
     }
 }
 
