@@ -1,6 +1,5 @@
-use ndc_event::Name;
+use ndc_event::{Items, Name};
 use std::alloc::AllocError;
-use std::marker::Model;
 
 /// What a caller asks of a workflow.
 #[derive(Debug, Drop)]
@@ -66,55 +65,7 @@ impl Action {
 }
 
 /// A list of actions, in order.
-#[derive(Debug, Drop)]
-pub struct Actions {
-    items: Vec<Action>,
-}
-
-impl Model for Actions {
-    ghost use Rattle.std.specs.Prelude.{List};
-    ghost use Rattle.ndc_command.specs.declared.command.Action.{Action};
-
-    ghost Value = { List Action };
-
-    ghost view = { λ actions. actions.items.items };
-}
-
-impl Actions {
-    ghost use Rattle.std.specs.Prelude.{◌≡◌, IfOk};
-
-    /// The list of these actions.
-    pub fn new(items: Vec<Action>) -> Actions
-        ensures { result ≡ items.items }
-    {
-        Actions { items }
-    }
-
-    /// The actions, to be read.
-    pub fn as_slice(&self) -> &[Action]
-        ensures { result.now ≡ self.now }
-    {
-        self.items.as_slice()
-    }
-
-    /// The actions, given back.
-    pub fn into_vec(self) -> Vec<Action>
-        ensures { result.items ≡ self }
-    {
-        self.items
-    }
-
-    /// The same actions.
-    pub fn try_copy(&self) -> Result<Actions, AllocError>
-        ensures { IfOk result (λ copy. copy ≡ self.now) }
-    {
-        let mut items = Vec::with_capacity(*self.items.allocator(), self.items.len())?;
-        for action in self.items.as_slice() {
-            items.push(action.clone()?)?;
-        }
-        Ok(Actions { items })
-    }
-}
+pub type Actions = Items<Action>;
 
 impl Command {
     ghost use Rattle.std.specs.Prelude.{◌≡◌, IfOk};
@@ -137,7 +88,7 @@ impl Command {
             },
             Command::Decide => Command::Decide,
             Command::Respond { actions } => Command::Respond {
-                actions: actions.try_copy()?,
+                actions: actions.clone()?,
             },
             Command::FailDecision { cause } => Command::FailDecision {
                 cause: cause.try_copy()?,

@@ -82,8 +82,10 @@ less-front (suc n) number (x ∷ xs) (y ∷ ys) names others less = by (less-fro
   where
     these : (is_name_byte x ≡ true) × (list_all is_name_byte xs ≡ true)
     these = and_parts (is_name_byte x) (list_all is_name_byte xs) names
+
     those : (is_name_byte y ≡ true) × (list_all is_name_byte ys ≡ true)
     those = and_parts (is_name_byte y) (list_all is_name_byte ys) others
+
     by : (list_all is_name_byte xs ≡ true → list_all is_name_byte ys ≡ true → digits (number * 256 + x) n xs < digits (number * 256 + x) n ys → slice_cmp nat_cmp xs ys ≡ Less) → (order : Ordering) → order ≡ nat_cmp x y → ordering_then order (slice_cmp nat_cmp xs ys) ≡ Less
     by rest Less is = refl
     by rest Equal is =
@@ -106,8 +108,10 @@ greater-front (suc n) number (x ∷ xs) (y ∷ ys) names others less = by (great
   where
     these : (is_name_byte x ≡ true) × (list_all is_name_byte xs ≡ true)
     these = and_parts (is_name_byte x) (list_all is_name_byte xs) names
+
     those : (is_name_byte y ≡ true) × (list_all is_name_byte ys ≡ true)
     those = and_parts (is_name_byte y) (list_all is_name_byte ys) others
+
     by : (list_all is_name_byte xs ≡ true → list_all is_name_byte ys ≡ true → digits (number * 256 + x) n ys < digits (number * 256 + x) n xs → slice_cmp nat_cmp xs ys ≡ Greater) → (order : Ordering) → order ≡ nat_cmp x y → ordering_then order (slice_cmp nat_cmp xs ys) ≡ Greater
     by rest Greater is = refl
     by rest Equal is =
@@ -134,8 +138,10 @@ same-front (suc n) number (x ∷ xs) (y ∷ ys) names others same = by (same-fro
   where
     these : (is_name_byte x ≡ true) × (list_all is_name_byte xs ≡ true)
     these = and_parts (is_name_byte x) (list_all is_name_byte xs) names
+
     those : (is_name_byte y ≡ true) × (list_all is_name_byte ys ≡ true)
     those = and_parts (is_name_byte y) (list_all is_name_byte ys) others
+
     by : (list_all is_name_byte xs ≡ true → list_all is_name_byte ys ≡ true → digits (number * 256 + x) n xs ≡ digits (number * 256 + x) n ys → slice_cmp nat_cmp xs ys ≡ slice_cmp nat_cmp (drop n xs) (drop n ys)) → (order : Ordering) → order ≡ nat_cmp x y → ordering_then order (slice_cmp nat_cmp xs ys) ≡ slice_cmp nat_cmp (drop n xs) (drop n ys)
     by rest Equal is =
         let alike : x ≡ y = ranked x y Equal is in

@@ -1,4 +1,4 @@
-ghost use Rattle.std.specs.Prelude.{◌≡◌, List, IfOk};
+ghost use Rattle.std.specs.Prelude.{◌≡◌, List};
 
 use std::alloc::AllocError;
 use std::marker::Model;
@@ -43,5 +43,16 @@ impl<T: Drop> Drop for Items<T> {
     fn drop(self) {
         let Items { items } = self;
         drop(items);
+    }
+}
+
+impl<T: Drop + Clone> Clone for Items<T> {
+    ghost use Rattle.std.specs.List.{AllZip};
+
+    ghost is_clone = { λ items copies. AllZip T.is_clone items copies };
+
+    fn clone(&self) -> Result<Items<T>, AllocError> {
+        let items = self.items.clone()?;
+        Ok(Items { items })
     }
 }

@@ -220,7 +220,10 @@ impl Name {
         if front != others {
             return front.cmp(&others);
         }
-        compared(behind_front(self.as_bytes()), behind_front(other.as_bytes()))
+        compared(
+            behind_front(self.as_bytes()),
+            behind_front(other.as_bytes()),
+        )
     }
 }
 

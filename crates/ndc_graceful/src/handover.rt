@@ -5,59 +5,13 @@ ghost use Rattle.ndc_domain.specs.Records.{record_of};
 ghost use Rattle.ndc_graceful.specs.Ready.{lagging_from, not_below};
 
 use ndc_domain::{ClusterNo, Clusters, DomainTable, FailoverError};
-use ndc_event::Name;
+use ndc_event::{Items, Name};
 use ndc_queue::Levels;
 use std::alloc::{AllocError, AllocFailed};
-use std::marker::Model;
 use thiserror::Error;
 
 /// A place for each shard, in order: how far a queue is to be done there.
-#[derive(Debug, Drop)]
-pub struct Places {
-    items: Vec<u64>,
-}
-
-impl Model for Places {
-    ghost use Rattle.std.specs.Prelude.{List, ℕ};
-
-    ghost Value = { List ℕ };
-
-    ghost view = { λ places. places.items.items };
-}
-
-impl Places {
-    ghost use Rattle.std.specs.Prelude.{◌≡◌, IfOk};
-
-    /// The list of these places.
-    pub fn new(items: Vec<u64>) -> Places
-        ensures { result ≡ items.items }
-    {
-        Places { items }
-    }
-
-    /// The places, to be read.
-    pub fn as_slice(&self) -> &[u64]
-        ensures { result.now ≡ self.now }
-    {
-        self.items.as_slice()
-    }
-
-    /// The places, given back.
-    pub fn into_vec(self) -> Vec<u64>
-        ensures { result.items ≡ self }
-    {
-        self.items
-    }
-
-    /// The same places.
-    pub fn try_copy(&self) -> Result<Places, AllocError>
-        ensures { IfOk result (λ copy. copy ≡ self.now) }
-    {
-        Ok(Places {
-            items: self.items.clone()?,
-        })
-    }
-}
+pub type Places = Items<u64>;
 
 /// A handover of a domain that is open: from the cluster that was active to the one that is to be.
 #[derive(Debug, Drop)]
@@ -193,7 +147,7 @@ impl Handover {
             to: self.to,
             old: self.old,
             new: self.new,
-            places: self.places.try_copy()?,
+            places: self.places.clone()?,
         })
     }
 }

@@ -1,8 +1,7 @@
 use crate::message::Message;
 use ndc_command::{Command, Refusal};
-use ndc_event::{BatchKey, Name};
+use ndc_event::{BatchKey, Items, Name};
 use ndc_model_sets::Batches;
-use std::marker::Model;
 
 /// What a cell is asked to do.
 #[derive(Debug, Drop)]
@@ -42,44 +41,7 @@ pub struct Written {
 }
 
 /// A list of keys, in order.
-#[derive(Debug, Drop)]
-pub struct Keys {
-    items: Vec<BatchKey>,
-}
-
-impl Model for Keys {
-    ghost use Rattle.std.specs.Prelude.{List};
-    ghost use Rattle.ndc_event.specs.declared.key.BatchKey.{BatchKey};
-
-    ghost Value = { List BatchKey };
-
-    ghost view = { λ keys. keys.items.items };
-}
-
-impl Keys {
-    ghost use Rattle.std.specs.Prelude.{◌≡◌};
-
-    /// The list of these keys.
-    pub fn new(items: Vec<BatchKey>) -> Keys
-        ensures { result ≡ items.items }
-    {
-        Keys { items }
-    }
-
-    /// The keys, to be read.
-    pub fn as_slice(&self) -> &[BatchKey]
-        ensures { result.now ≡ self.now }
-    {
-        self.items.as_slice()
-    }
-
-    /// The keys, given back.
-    pub fn into_vec(self) -> Vec<BatchKey>
-        ensures { result.items ≡ self }
-    {
-        self.items
-    }
-}
+pub type Keys = Items<BatchKey>;
 
 /// What comes of the arrival of a message.
 #[derive(Debug, Drop)]

@@ -1,7 +1,6 @@
-use ndc_event::{Batch, BatchKey, RunId};
+use ndc_event::{Batch, BatchKey, Items, RunId};
 use ndc_history::VersionHistory;
 use ndc_state::{CloseKind, State};
-use std::marker::Model;
 
 /// Whether a run goes on.
 #[derive(Clone, Copy, Debug, PartialEq, Eq)]
@@ -28,44 +27,7 @@ pub struct BranchView {
 }
 
 /// A list of branches, in order.
-#[derive(Drop)]
-pub struct BranchViews {
-    items: Vec<BranchView>,
-}
-
-impl Model for BranchViews {
-    ghost use Rattle.std.specs.Prelude.{List};
-    ghost use Rattle.ndc_model_sets.specs.declared.view.BranchView.{BranchView};
-
-    ghost Value = { List BranchView };
-
-    ghost view = { λ branches. branches.items.items };
-}
-
-impl BranchViews {
-    ghost use Rattle.std.specs.Prelude.{◌≡◌};
-
-    /// The list of these branches.
-    pub fn new(items: Vec<BranchView>) -> BranchViews
-        ensures { result ≡ items.items }
-    {
-        BranchViews { items }
-    }
-
-    /// The branches, to be read.
-    pub fn as_slice(&self) -> &[BranchView]
-        ensures { result.now ≡ self.now }
-    {
-        self.items.as_slice()
-    }
-
-    /// The branches, given back.
-    pub fn into_vec(self) -> Vec<BranchView>
-        ensures { result.items ≡ self }
-    {
-        self.items
-    }
-}
+pub type BranchViews = Items<BranchView>;
 
 /// What a cluster shows of a run.
 #[derive(Drop)]
@@ -81,84 +43,10 @@ pub struct RunView {
 }
 
 /// A list of runs, in order.
-#[derive(Drop)]
-pub struct RunViews {
-    items: Vec<RunView>,
-}
-
-impl Model for RunViews {
-    ghost use Rattle.std.specs.Prelude.{List};
-    ghost use Rattle.ndc_model_sets.specs.declared.view.RunView.{RunView};
-
-    ghost Value = { List RunView };
-
-    ghost view = { λ runs. runs.items.items };
-}
-
-impl RunViews {
-    ghost use Rattle.std.specs.Prelude.{◌≡◌};
-
-    /// The list of these runs.
-    pub fn new(items: Vec<RunView>) -> RunViews
-        ensures { result ≡ items.items }
-    {
-        RunViews { items }
-    }
-
-    /// The runs, to be read.
-    pub fn as_slice(&self) -> &[RunView]
-        ensures { result.now ≡ self.now }
-    {
-        self.items.as_slice()
-    }
-
-    /// The runs, given back.
-    pub fn into_vec(self) -> Vec<RunView>
-        ensures { result.items ≡ self }
-    {
-        self.items
-    }
-}
+pub type RunViews = Items<RunView>;
 
 /// A list of batches, in order.
-#[derive(Drop)]
-pub struct Batches {
-    items: Vec<Batch>,
-}
-
-impl Model for Batches {
-    ghost use Rattle.std.specs.Prelude.{List};
-    ghost use Rattle.ndc_event.specs.declared.batch.Batch.{Batch};
-
-    ghost Value = { List Batch };
-
-    ghost view = { λ batches. batches.items.items };
-}
-
-impl Batches {
-    ghost use Rattle.std.specs.Prelude.{◌≡◌};
-
-    /// The list of these batches.
-    pub fn new(items: Vec<Batch>) -> Batches
-        ensures { result ≡ items.items }
-    {
-        Batches { items }
-    }
-
-    /// The batches, to be read.
-    pub fn as_slice(&self) -> &[Batch]
-        ensures { result.now ≡ self.now }
-    {
-        self.items.as_slice()
-    }
-
-    /// The batches, given back.
-    pub fn into_vec(self) -> Vec<Batch>
-        ensures { result.items ≡ self }
-    {
-        self.items
-    }
-}
+pub type Batches = Items<Batch>;
 
 /// What a cluster shows of a workflow.
 #[derive(Drop)]

@@ -65,12 +65,7 @@ impl Checkpoints {
         ensures run { self.new.run ≡ self.old.run }
         ensures err { OnErr result (self.new ≡ self.old) }
     {
-        if !reaches(events, state.next()) {
-            return Ok(());
-        }
-        let copy = state.try_copy_without_origins()?;
-        self.states.insert(tip, copy)?;
-        Ok(())
+        self.keep_marked(tip, events, state.tracked())
     }
 
     /// Does what [`Checkpoints::keep`] does, for a state that is marked.
@@ -87,8 +82,8 @@ impl Checkpoints {
         if !reaches(events, state.next()) {
             return Ok(());
         }
-        let bare = state.try_copy_without_origins()?;
-        self.states.insert(tip, bare)?;
+        let copy = state.try_copy_without_origins()?;
+        self.states.insert(tip, copy)?;
         Ok(())
     }
 

@@ -1,8 +1,7 @@
 use ndc_command::Command;
 use ndc_domain::{ClusterNo, Clusters, Members};
-use ndc_event::Name;
+use ndc_event::{Items, Name};
 use std::alloc::{AllocError, AllocFailed};
-use std::marker::Model;
 use thiserror::Error;
 
 /// What a script's cells are made of.
@@ -25,44 +24,7 @@ pub struct BurstJob {
 }
 
 /// A list of jobs, in order.
-#[derive(Debug, Drop)]
-pub struct Jobs {
-    items: Vec<BurstJob>,
-}
-
-impl Model for Jobs {
-    ghost use Rattle.std.specs.Prelude.{List};
-    ghost use Rattle.ndc_script_types.specs.declared.script.BurstJob.{BurstJob};
-
-    ghost Value = { List BurstJob };
-
-    ghost view = { λ jobs. jobs.items.items };
-}
-
-impl Jobs {
-    ghost use Rattle.std.specs.Prelude.{◌≡◌};
-
-    /// The list of these jobs.
-    pub fn new(items: Vec<BurstJob>) -> Jobs
-        ensures { result ≡ items.items }
-    {
-        Jobs { items }
-    }
-
-    /// The jobs, to be read.
-    pub fn as_slice(&self) -> &[BurstJob]
-        ensures { result.now ≡ self.now }
-    {
-        self.items.as_slice()
-    }
-
-    /// The jobs, given back.
-    pub fn into_vec(self) -> Vec<BurstJob>
-        ensures { result.items ≡ self }
-    {
-        self.items
-    }
-}
+pub type Jobs = Items<BurstJob>;
 
 /// What a line of a script asks for. Shards are below the header's number of shards; places, counts and cuts
 /// are at most 1,000,000.
@@ -294,44 +256,7 @@ pub struct Line {
 }
 
 /// A list of lines, in order.
-#[derive(Debug, Drop)]
-pub struct Lines {
-    items: Vec<Line>,
-}
-
-impl Model for Lines {
-    ghost use Rattle.std.specs.Prelude.{List};
-    ghost use Rattle.ndc_script_types.specs.declared.script.Line.{Line};
-
-    ghost Value = { List Line };
-
-    ghost view = { λ lines. lines.items.items };
-}
-
-impl Lines {
-    ghost use Rattle.std.specs.Prelude.{◌≡◌};
-
-    /// The list of these lines.
-    pub fn new(items: Vec<Line>) -> Lines
-        ensures { result ≡ items.items }
-    {
-        Lines { items }
-    }
-
-    /// The lines, to be read.
-    pub fn as_slice(&self) -> &[Line]
-        ensures { result.now ≡ self.now }
-    {
-        self.items.as_slice()
-    }
-
-    /// The lines, given back.
-    pub fn into_vec(self) -> Vec<Line>
-        ensures { result.items ≡ self }
-    {
-        self.items
-    }
-}
+pub type Lines = Items<Line>;
 
 /// A script: what it runs on, and what it asks for, line by line.
 #[derive(Debug, Drop)]

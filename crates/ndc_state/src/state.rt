@@ -88,6 +88,13 @@ impl State {
         &mut self.tracked
     }
 
+    /// The state, as what is marked is seen.
+    pub fn tracked(&self) -> &Tracked
+        ensures { result.now.current ≡ self.now }
+    {
+        &self.tracked
+    }
+
     /// The run.
     pub fn run(&self) -> RunId
         ensures { result ≡ self.now.run }
@@ -204,9 +211,7 @@ impl State {
     pub fn try_copy_without_origins(&self) -> Result<State, AllocError>
         ensures { IfOk result (λ copy. copy ≡ record self.now { origins = [] }) }
     {
-        Ok(State {
-            tracked: self.tracked.without_origins()?,
-        })
+        self.tracked.try_copy_without_origins()
     }
 
     /// Lists the origins of the signals among the events behind those that are listed; one that is listed

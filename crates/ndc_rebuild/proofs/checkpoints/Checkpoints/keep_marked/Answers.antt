@@ -9,5 +9,5 @@ use Rattle.ndc_rebuild.proofs.checkpoints.Checkpoints.keep_marked.Goals as goal
 pub returns-clause-states : goal.returns-clause-states
 returns-clause-states c =
     rw (← c.self.view_is)
-    (c.in_ok-insert.ensures.entries ∙ ap (insert_entry key_eq c.self.inside.states.entries c.args.tip) c.in_ok-bare.ensures
+    (c.in_ok-insert.ensures.entries ∙ ap (insert_entry key_eq c.self.inside.states.entries c.args.tip) c.in_ok-copy.ensures
     ∙ with_kept-reached c.args.tip c.args.events c.args.state.now.current c.self.inside.states.entries (ap (reaches c.args.events) (sym c.next.ensures) ∙ sym c.reaches.ensures ∙ c.if-not-reaches.false))
