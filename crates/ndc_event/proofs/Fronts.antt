@@ -1,5 +1,5 @@
 -- Numbers of the first bytes: bytes that differ in them are ordered as they are.
-use Rattle.std.proofs.Common.{◌≡◌, ℕ, zero, suc, ◌+◌, ◌*◌, ◌^◌, ◌<◌, ◌≤◌, List, [], ◌∷◌, drop, get_or, refl, ap, ap₂, sym, ◌∙◌, subst, ◌≢◌, Ordering, Less, Equal, Greater, true, nat_le, IsTrue, length, ◌&&◌, arith}
+use Rattle.std.proofs.Common.{◌≡◌, ℕ, zero, suc, ◌+◌, ◌*◌, ◌^◌, ◌<◌, ◌≤◌, List, [], ◌∷◌, drop, get_or, refl, ap, sym, ◌∙◌, subst, ◌≢◌, Ordering, Less, Equal, Greater, true, nat_le, IsTrue, length, ◌&&◌, arith}
 use Rattle.std.specs.List.{list_all}
 use Rattle.std.specs.Cmp.{ranked}
 use Rattle.std.specs.Cmp.Lexicographic.{slice_cmp}

@@ -1,6 +1,5 @@
 -- The first eight bytes of a name as one number: names that differ in it are ordered as it is.
 use Rattle.std.specs.Prelude.{◌≡◌, ℕ, zero, suc, ◌+◌, ◌*◌, List, [], ◌∷◌, IsTrue}
-use Rattle.std.specs.Arc.{arc_value}
 use Rattle.std.specs.String.{string_bytes}
 use Rattle.ndc_event.specs.Name.{is_name}
 use Rattle.ndc_event.specs.declared.name.Spelled.{Spelled}

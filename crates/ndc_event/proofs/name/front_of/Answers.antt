@@ -1,4 +1,4 @@
-use Rattle.std.proofs.Common.{◌≡◌, subst, ap, ap₂, sym, ◌∙◌, refl, ◌<◌, ◌≤◌, ◌+◌, ◌*◌, get_or, arith}
+use Rattle.std.proofs.Common.{subst, ap₂, sym, ◌∙◌, refl, ◌<◌, ◌+◌, ◌*◌, arith}
 use Rattle.ndc_event.specs.Front.{digits}
 use Rattle.ndc_event.proofs.Fronts.{digits-more, digits-fit, fits-more}
 use Rattle.ndc_event.proofs.name.front_of.Goals as goal

@@ -1,4 +1,4 @@
-use Rattle.std.proofs.Common.{◌≡◌, IsTrue, ap, sym, subst, ◌∙◌}
+use Rattle.std.proofs.Common.{IsTrue, ap, sym, subst, ◌∙◌}
 use Rattle.ndc_event.specs.Front.{IsSpelled, front_of}
 use Rattle.ndc_event.specs.Name.{is_name}
 use Rattle.ndc_event.proofs.name.spell.Goals as goal

@@ -1,4 +1,4 @@
-use Rattle.std.proofs.Common.{ap, ap₂, sym, subst, ◌∙◌, ◌≡◌, drop}
+use Rattle.std.proofs.Common.{ap, ap₂, sym, ◌∙◌, drop}
 use Rattle.std.specs.Cmp.Lexicographic.{slice_cmp}
 use Rattle.std.specs.Ordering.{nat_cmp}
 use Rattle.ndc_event.proofs.Fronts.{name-bytes, front-cmp, same-front}
