@@ -7,7 +7,7 @@ use Rattle.ndc_script_types.specs.WellFormed.{IsWellFormed, IsWellFormedHeader}
 use Rattle.ndc_script_types.specs.declared.script.Header.{Header}
 use Rattle.ndc_script_types.specs.declared.script.Line.{Line}
 use Rattle.ndc_script_types.specs.declared.script.Script.{Script}
-use Rattle.ndc_laws.specs.Counted.{AreReachedFrom}
+use Rattle.ndc_laws.specs.Counts.{AreReachedFrom}
 use Rattle.ndc_laws.specs.Grown.{IsWellFormedLine}
 use Rattle.ndc_laws.proofs.LinesBefore.{front-fits}
 use Rattle.ndc_laws_reached.proofs.LineLemmas.{line_kept}

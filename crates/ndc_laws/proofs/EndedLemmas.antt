@@ -16,7 +16,7 @@ use Rattle.ndc_event.specs.declared.batch.Batch.{Batch}
 use Rattle.ndc_event.specs.declared.name.Name.{Name}
 use Rattle.ndc_laws_reached.proofs.LetterLemmas.{shard-below}
 use Rattle.ndc_laws_reached.proofs.WrittenLemmas.{flat-among, in_order-among, names-of}
-use Rattle.ndc_laws_reached.specs.Sometime.{IsReachedSometime}
+use Rattle.ndc_model.specs.Sometime.{IsReachedSometime}
 use Rattle.ndc_laws_reached.proofs.GrowLemmas.{grows-none, record-grows}
 use Rattle.ndc_laws.specs.Grown.{IsWellFormedLine, TablesGrow, world_after}
 use Rattle.ndc_laws.proofs.GrowLemmas.{tables-then}

@@ -4,7 +4,7 @@ use Rattle.std.specs.List.{AllByRecursion}
 use Rattle.ndc_script_types.specs.WellFormed.{IsWellFormed, IsWellFormedHeader}
 use Rattle.ndc_script_types.specs.declared.script.Header.{Header}
 use Rattle.ndc_script_types.specs.declared.script.Script.{Script}
-use Rattle.ndc_laws_reached.specs.Sometime.{IsReachedSometime}
+use Rattle.ndc_model.specs.Sometime.{IsReachedSometime}
 use Rattle.ndc_laws_reached.proofs.ScriptLemmas.{worlds_kept}
 use Rattle.ndc_laws_reached.proofs.WorkflowApplyLemmas.{writing_keeps}
 use Rattle.ndc_laws.specs.Promised.{IsAsPromised}

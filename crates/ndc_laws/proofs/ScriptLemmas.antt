@@ -12,7 +12,7 @@ use Rattle.ndc_model_cells.specs.Writing.{may_write}
 use Rattle.ndc_domain.specs.declared.clusters.ClusterNo.{ClusterNo}
 use Rattle.ndc_event.specs.declared.batch.Batch.{Batch}
 use Rattle.ndc_event.specs.declared.name.Name.{Name}
-use Rattle.ndc_laws_reached.specs.Sometime.{IsReachedSometime}
+use Rattle.ndc_model.specs.Sometime.{IsReachedSometime}
 use Rattle.ndc_laws_reached.proofs.GrowLemmas.{grows-none}
 use Rattle.ndc_laws.specs.Grown.{TablesGrow, world_after}
 use Rattle.ndc_laws.proofs.EndedLemmas.{nothing-more, stays-ended}

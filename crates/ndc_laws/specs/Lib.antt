@@ -2,4 +2,4 @@ pub mod Promised
 pub mod Grown
 pub mod HandedOver
 pub mod TakenOver
-pub mod Counted
+pub mod Counts

@@ -7,7 +7,7 @@ use Rattle.std.proofs.lemmas.Bool.{and_from}
 use Rattle.std.proofs.lemmas.Slice.Eq.{bytes_eq-Decides}
 use Rattle.ndc_script_types.specs.WellFormed.{IsCluster}
 use Rattle.ndc_script_types.specs.declared.script.Header.{Header}
-use Rattle.ndc_laws_jobs.specs.Again.{brought_again, cell_by, sent_again_of, served_by_author}
+use Rattle.ndc_model.specs.Again.{brought_again, cell_by, sent_again_of, served_by_author}
 use Rattle.ndc_laws_jobs.proofs.BehindLemmas.{arrived-at, behind, held-part, held-set, mine-sound, off-there, same-way}
 use Rattle.ndc_laws_jobs.proofs.GroupLemmas.{by-workflow, order-left}
 use Rattle.ndc_laws_jobs.proofs.WayLemmas.{above-way, way-above}

@@ -3,7 +3,7 @@ use Rattle.std.specs.List.{flat_map}
 use Rattle.std.proofs.Common.{ℕ, ◌<◌, List, [], Option, ◌⊎◌, inl, inr, sym, subst}
 use Rattle.ndc_script_types.specs.WellFormed.{IsCluster}
 use Rattle.ndc_script_types.specs.declared.script.Header.{Header}
-use Rattle.ndc_laws_jobs.specs.Again.{cell_by}
+use Rattle.ndc_model.specs.Again.{cell_by}
 use Rattle.ndc_model_cells.specs.Cells.{both, learned_of}
 use Rattle.ndc_domain.specs.Clusters.{count_of, writer_of}
 use Rattle.ndc_domain.specs.declared.clusters.ClusterNo.{ClusterNo}

@@ -43,7 +43,7 @@ use Rattle.ndc_model_sets.specs.Paths.{first_id, last_item_of, path_to}
 use Rattle.ndc_state.specs.Replay.{history_of}
 use Rattle.ndc_text.specs.Views.{item_text, key_text}
 use Rattle.ndc_model.specs.World.{Link, World, cell_at, cluster_at, home_at, flight_at, is_late_in, lane_at, link_at, shards_of, trimmed_at, with_flight, with_table}
-use Rattle.ndc_laws_jobs.specs.Bare.{bare, bare_step, bare_trace, is_on_reports}
+use Rattle.ndc_model.specs.Bare.{bare, bare_step, bare_trace, is_on_reports}
 use Rattle.ndc_laws_jobs.proofs.MoveLemmas.{all-written-bare, bootstrap-bare, changed-bare, flat-same, jobs-bare, level-bare, map-same, pull-bare, pull-some-bare, renew-bare, resend-bare, same-at, settle-bare, table-bare, trim-bare, work-bare}
 
 -- functions that agree on each item pick alike

@@ -5,7 +5,7 @@ use Rattle.std.specs.Prelude.{IsSome, find, is_some, if◌then◌else◌, option
 use Rattle.std.proofs.lemmas.Bool.{and_from, and_parts}
 use Rattle.ndc_script_types.specs.WellFormed.{IsCluster}
 use Rattle.ndc_script_types.specs.declared.script.Header.{Header}
-use Rattle.ndc_laws_jobs.specs.Again.{cell_by, served_by_author}
+use Rattle.ndc_model.specs.Again.{cell_by, served_by_author}
 use Rattle.ndc_laws_jobs.proofs.AuthorLemmas.{HasAuthor, has-author}
 use Rattle.ndc_model_cells.specs.declared.message.Message.{Message}
 use Rattle.ndc_model_cells.specs.Arrival.{has_arrived}

@@ -17,7 +17,7 @@ use Rattle.ndc_model.specs.Steps.{command_step}
 use Rattle.ndc_model.specs.World.{World}
 use Rattle.ndc_model.specs.Conditions.{MayDoAll}
 use Rattle.ndc_model_cells.specs.Allowed.{IsAllowed}
-use Rattle.ndc_laws_jobs.specs.Lines.{burst_jobs, job_for}
+use Rattle.ndc_model.specs.Allowed.{burst_jobs, job_for}
 use Rattle.ndc_laws_jobs.proofs.AskLemmas.{command-allowed}
 use Rattle.ndc_laws_jobs.proofs.ComeLemmas.{allowed-more}
 

@@ -30,8 +30,8 @@ use Rattle.ndc_model.specs.Tables.{failover_words, join_step, register_words, re
 use Rattle.ndc_model.specs.Texts.{ok, refused}
 use Rattle.ndc_model.specs.World.{Cluster, World, all_clusters, cluster_at, flight_at, new_cluster, others_of, with_flight, with_table}
 use Rattle.ndc_queue.specs.Lists.{after_loss, after_move, after_repeat}
-use Rattle.ndc_laws_jobs.specs.Bare.{is_on_reports}
-use Rattle.ndc_laws_jobs.specs.Standing.{reports_of}
+use Rattle.ndc_model.specs.Bare.{is_on_reports}
+use Rattle.ndc_model.specs.Standing.{reports_of}
 use Rattle.ndc_progress.specs.declared.report.Report.{Report}
 
 -- a cluster takes the place of another that has the same reports

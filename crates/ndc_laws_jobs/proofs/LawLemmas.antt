@@ -16,7 +16,7 @@ use Rattle.ndc_model.specs.Moves.{all_reapply}
 use Rattle.ndc_model.specs.World.{World, cell_at, home_at}
 use Rattle.ndc_model.specs.Conditions.{MayDoAll, late_jobs}
 use Rattle.ndc_model_cells.specs.Allowed.{IsAllowed, MayArrive}
-use Rattle.ndc_laws_jobs.specs.Lines.{letter_jobs}
+use Rattle.ndc_model.specs.Allowed.{letter_jobs}
 use Rattle.ndc_laws_jobs.proofs.AskLemmas.{command-allowed, reset-allowed}
 use Rattle.ndc_laws_jobs.proofs.ComeLemmas.{late_allowed}
 use Rattle.ndc_laws_jobs.proofs.LetterLemmas.{letters_allowed}

@@ -32,7 +32,7 @@ use Rattle.ndc_model_sets.proofs.BranchLemmas.{among-has}
 use Rattle.ndc_model_sets.proofs.LearnedLemmas.{learned_closed}
 use Rattle.ndc_model_sets.proofs.Lists.{all-among, all-from, filter_map-among}
 use Rattle.ndc_model_cells.specs.Allowed.{IsAllowed}
-use Rattle.ndc_laws_jobs.specs.Lines.{letter_jobs}
+use Rattle.ndc_model.specs.Allowed.{letter_jobs}
 use Rattle.ndc_laws_jobs.proofs.ComeLemmas.{many-allowed}
 
 module _ (header : Header) (lines : ℕ) (reader : ClusterNo) (known : IsCluster header reader) (some : 0 < header.shards) (w : World) (is : IsReached header lines w) where

@@ -7,7 +7,7 @@ use Rattle.ndc_script_types.specs.declared.script.Header.{Header}
 use Rattle.ndc_model.specs.Facts.{IsReached}
 use Rattle.ndc_model.specs.World.{World}
 use Rattle.ndc_model_cells.specs.Allowed.{IsAllowed}
-use Rattle.ndc_laws_jobs.specs.Lines.{LineIsAllowed}
+use Rattle.ndc_model.specs.Allowed.{LineIsAllowed}
 use Rattle.ndc_laws_jobs.proofs.AskLemmas.{command-allowed, reset-allowed}
 use Rattle.ndc_laws_jobs.proofs.ComeLemmas.{again_allowed, late_allowed}
 use Rattle.ndc_laws_jobs.proofs.LetterLemmas.{letters_allowed}

@@ -17,7 +17,7 @@ use Rattle.ndc_model_cells.specs.Domains.{learned_of_domains}
 use Rattle.ndc_model.specs.Queues.{after_pull, after_renewal, is_addressed}
 use Rattle.ndc_queue.specs.Levels.{trim_level}
 use Rattle.ndc_model.specs.World.{Cluster, Link, World, all_clusters, cell_at, changed_first, cluster_at, home_at, is_link, link_at, new_cluster, others_of, shards_of, with_cluster, with_late, with_link, with_table, lane_in, queue_at, trimmed_at}
-use Rattle.ndc_laws_jobs.specs.Bare.{bare, bare_cluster, bare_trace}
+use Rattle.ndc_model.specs.Bare.{bare, bare_cluster, bare_trace}
 
 -- functions that agree on each item map, change and flatten alike
 pub map-same : {X Y : Type 0} (f g : X → Y) → ((x : X) → f x ≡ g x) → (xs : List X) → map f xs ≡ map g xs

@@ -10,7 +10,7 @@ use Rattle.ndc_model.specs.Facts.{IsReached}
 use Rattle.ndc_model.specs.Fair.{IsShaped}
 use Rattle.ndc_model.specs.World.{Cluster, World, cluster_at}
 use Rattle.ndc_progress.specs.declared.report.Report.{Report}
-use Rattle.ndc_laws_jobs.specs.Bare.{bare, bare_cluster}
+use Rattle.ndc_model.specs.Bare.{bare, bare_cluster}
 use Rattle.ndc_laws_jobs.proofs.MoveLemmas.{cluster-bare, same-at}
 
 nothing : (report : Report) → IsAmong [] report → ⊥

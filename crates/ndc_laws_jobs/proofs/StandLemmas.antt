@@ -22,9 +22,9 @@ use Rattle.ndc_progress.specs.declared.report.ActivityRef.{ActivityRef}
 use Rattle.ndc_progress.specs.declared.report.Report.{Report}
 use Rattle.ndc_progress.proofs.OrderLemmas.{held_greatest}
 use Rattle.ndc_model_sets.specs.Branches.{workflow_tip}
-use Rattle.ndc_laws_jobs.specs.Bare.{bare_cluster, bare_step, is_on_reports}
-use Rattle.ndc_laws_jobs.specs.Reporting.{shown_of, told_at, told_by, told_unless}
-use Rattle.ndc_laws_jobs.specs.Standing.{AreLeftBy, IsLeftBy, StandFor, reports_of}
+use Rattle.ndc_model.specs.Bare.{bare_cluster, bare_step, is_on_reports}
+use Rattle.ndc_model.specs.Reporting.{shown_of, told_at, told_by, told_unless}
+use Rattle.ndc_model.specs.Standing.{AreLeftBy, IsLeftBy, StandFor, reports_of}
 use Rattle.ndc_laws_jobs.proofs.GreatestLemmas.{all-greatest, count_greatest, greatest_joined, greatest_more, next_greatest}
 use Rattle.ndc_laws_jobs.proofs.KeepLemmas.{line-keeps}
 use Rattle.ndc_laws_jobs.proofs.MoveLemmas.{same-at}

@@ -3,7 +3,7 @@ ghost use Rattle.std.specs.Prelude.{ℕ, ◌<◌, ◌≡◌, List};
 ghost use Rattle.std.specs.List.{IsAmong, flat_map};
 ghost use Rattle.ndc_script_types.specs.WellFormed.{IsCluster};
 ghost use Rattle.ndc_script_types.specs.declared.script.Header.{Header as Head};
-ghost use Rattle.ndc_laws_jobs.specs.Again.{brought_again, sent_again_of};
+ghost use Rattle.ndc_model.specs.Again.{brought_again, sent_again_of};
 ghost use Rattle.ndc_model_cells.specs.Cells.{put_off_in};
 ghost use Rattle.ndc_model_cells.specs.Jobs.{workflows_of};
 ghost use Rattle.ndc_model_cells.specs.Workflow.{workflow_of};

@@ -4,7 +4,7 @@ ghost use Rattle.ndc_script_types.specs.WellFormed.{AreTwoClusters, IsCluster};
 ghost use Rattle.ndc_script_types.specs.declared.script.Header.{Header as Head};
 ghost use Rattle.ndc_model_cells.specs.declared.message.Message.{Message as Sent};
 ghost use Rattle.ndc_domain.specs.declared.clusters.ClusterNo.{ClusterNo as Number};
-ghost use Rattle.ndc_laws_jobs.specs.Lines.{letter_jobs};
+ghost use Rattle.ndc_model.specs.Allowed.{letter_jobs};
 ghost use Rattle.ndc_model.specs.Facts.{IsReached};
 ghost use Rattle.ndc_model.specs.Fair.{IsMessageTrue};
 ghost use Rattle.ndc_model.specs.World.{World, cell_at};

@@ -4,7 +4,7 @@ ghost use Rattle.std.specs.List.{IsAmong};
 ghost use Rattle.ndc_domain.specs.Clusters.{writer_of};
 ghost use Rattle.ndc_event.specs.declared.batch.Batch.{Batch as One};
 ghost use Rattle.ndc_script_types.specs.declared.script.Header.{Header as Head};
-ghost use Rattle.ndc_laws_jobs.specs.Again.{cell_by};
+ghost use Rattle.ndc_model.specs.Again.{cell_by};
 ghost use Rattle.ndc_model_cells.specs.Cells.{learned_of};
 ghost use Rattle.ndc_model.specs.Facts.{IsReached};
 ghost use Rattle.ndc_model.specs.Moves.{all_written};

@@ -6,7 +6,7 @@ ghost use Rattle.ndc_script_types.specs.declared.script.Act.{Act as Asked};
 ghost use Rattle.ndc_script_types.specs.declared.script.BurstJob.{BurstJob as Job};
 ghost use Rattle.ndc_script_types.specs.declared.script.Header.{Header as Head};
 ghost use Rattle.ndc_domain.specs.declared.clusters.ClusterNo.{ClusterNo as Number};
-ghost use Rattle.ndc_laws_jobs.specs.Lines.{LineIsAllowed, burst_jobs};
+ghost use Rattle.ndc_model.specs.Allowed.{LineIsAllowed, burst_jobs};
 ghost use Rattle.ndc_model.specs.Facts.{IsReached};
 ghost use Rattle.ndc_model.specs.World.{World};
 ghost use Rattle.ndc_model.specs.Conditions.{MayDoAll, MaySettle, MayWork};

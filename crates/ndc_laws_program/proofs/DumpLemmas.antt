@@ -18,7 +18,7 @@ use Rattle.ndc_dump.specs.Printed.{CanBeDumped, IsOwn}
 use Rattle.ndc_dump.proofs.Printed.{dump-again}
 use Rattle.ndc_laws_reached.proofs.LetterLemmas.{shard-below}
 use Rattle.ndc_laws_program.specs.Dumps.{HoldsDump, LearnedCanBeDumped}
-use Rattle.ndc_laws_reached.specs.Sometime.{IsReachedSometime}
+use Rattle.ndc_model.specs.Sometime.{IsReachedSometime}
 use Rattle.ndc_laws_reached.proofs.WriterLemmas.{within}
 use Rattle.ndc_laws.specs.Promised.{line, world_before}
 use Rattle.ndc_laws_reached.proofs.LearnedRanges.{ranges}

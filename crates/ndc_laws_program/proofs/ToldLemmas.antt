@@ -18,7 +18,7 @@ use Rattle.ndc_laws.specs.Promised.{world_before}
 use Rattle.ndc_laws.proofs.FrontLemmas.{front-script}
 use Rattle.ndc_laws.proofs.LinesBefore.{front-fits}
 use Rattle.ndc_laws.proofs.ScriptLemmas.{after-both}
-use Rattle.ndc_laws_jobs.specs.Standing.{reports_of}
+use Rattle.ndc_model.specs.Standing.{reports_of}
 use Rattle.ndc_laws_jobs.proofs.KeepLemmas.{line-keeps}
 use Rattle.ndc_laws_program.specs.Told.{Tells, WasTold}
 use Rattle.ndc_laws_reached.proofs.BeatLemmas.{told-own}

@@ -12,7 +12,7 @@ use Rattle.ndc_laws.proofs.SyncLemmas.{same-taken}
 use Rattle.ndc_laws_program.specs.Arriving.{AnswersArrivals}
 use Rattle.ndc_laws_program.specs.Promises.{KeepsInWorlds}
 use Rattle.ndc_laws_program.specs.WorldPromises.{ClosedPartsHaveOneCurrent, HasOneWriters, HoldsReports}
-use Rattle.ndc_laws_reached.specs.Sometime.{IsReachedSometime}
+use Rattle.ndc_model.specs.Sometime.{IsReachedSometime}
 use Rattle.ndc_laws_reached.proofs.OneWriterLemmas.{one_chain, one_current, one_event}
 use Rattle.ndc_laws_reached.proofs.TrimmedLemmas.{trimmed_fit}
 use Rattle.ndc_model.specs.Facts.{IsReached}

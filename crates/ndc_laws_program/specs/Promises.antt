@@ -9,7 +9,7 @@ use Rattle.ndc_script_types.specs.declared.script.Script.{Script}
 use Rattle.ndc_domain.specs.declared.clusters.ClusterNo.{ClusterNo}
 use Rattle.ndc_event.specs.declared.name.Name.{Name}
 use Rattle.ndc_graceful.specs.declared.handover.Handover.{Handover}
-use Rattle.ndc_laws.specs.Counted.{AreReachedFrom}
+use Rattle.ndc_laws.specs.Counts.{AreReachedFrom}
 use Rattle.ndc_laws.specs.Promised.{IsAsPromised, NothingPutOff, line, world_before}
 use Rattle.ndc_laws_program.specs.Arriving.{AnswersArrivals}
 use Rattle.ndc_laws_program.specs.LinePromises.{AnswersDump, BringsLetters, CompletesWhereReady, GoesOnInNewRun, IsEnded, MissesNothingTrimmed, SetsAsideWhereCut, behind}

@@ -18,7 +18,7 @@ use Rattle.ndc_model.specs.World.{World, opening_world}
 use Rattle.ndc_model.proofs.FairLemmas.{opening_reached}
 use Rattle.ndc_model.proofs.ListLemmas.{all-append, length-mapped, all-listed}
 use Rattle.ndc_laws_reached.specs.Writing.{WritingKeeps}
-use Rattle.ndc_laws_reached.specs.Sometime.{IsReachedSometime}
+use Rattle.ndc_model.specs.Sometime.{IsReachedSometime}
 use Rattle.ndc_laws_reached.proofs.LineLemmas.{line_kept}
 
 -- a line that is well-formed

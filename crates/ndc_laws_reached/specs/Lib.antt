@@ -2,6 +2,5 @@ pub mod Laws
 pub mod Writing
 pub mod Tables
 pub mod OneWriter
-pub mod Sometime
 pub mod Trimmed
 pub mod Settled

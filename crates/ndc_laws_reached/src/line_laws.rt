@@ -6,7 +6,7 @@ ghost use Rattle.ndc_script_types.specs.declared.script.Act.{Act as Asked};
 ghost use Rattle.ndc_script_types.specs.declared.script.Header.{Header as Head};
 ghost use Rattle.ndc_script_types.specs.declared.script.Script.{Script as Whole};
 ghost use Rattle.ndc_laws_reached.specs.Writing.{WritingKeeps};
-ghost use Rattle.ndc_laws_reached.specs.Sometime.{IsReachedSometime};
+ghost use Rattle.ndc_model.specs.Sometime.{IsReachedSometime};
 ghost use Rattle.ndc_model.specs.Facts.{IsReached};
 ghost use Rattle.ndc_model.specs.Lines.{act_step, worlds_of};
 ghost use Rattle.ndc_model.specs.World.{World};

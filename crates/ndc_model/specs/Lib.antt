@@ -1,3 +1,6 @@
+pub mod Again
+pub mod Allowed
+pub mod Bare
 pub mod Conditions
 pub mod Facts
 pub mod Fair
@@ -10,8 +13,11 @@ pub mod Progress
 pub mod Queues
 pub mod Reading
 pub mod Report
+pub mod Reporting
 pub mod Scripts
 pub mod Sending
+pub mod Sometime
+pub mod Standing
 pub mod Steps
 pub mod Tables
 pub mod Texts

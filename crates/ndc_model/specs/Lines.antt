@@ -78,26 +78,26 @@ abbrev pub plain_lines : List Line → List Line
 plain_lines lines = flat_map (λ line. lines_of_act line.number line.act) lines
 
 -- a line that was run: its number, and what it left, answered and made learned
-pub record Ran : Type 0 where
+pub record AnsweredLine : Type 0 where
   pub number : ℕ
   pub step : Stepped
 
 -- a line that was run, and what runs in the world that it left
-abbrev pub ran_behind : ℕ → Stepped → (World → List Ran) → List Ran
+abbrev pub ran_behind : ℕ → Stepped → (World → List AnsweredLine) → List AnsweredLine
 ran_behind number step rest = record { number = number; step = step } ∷ rest step.world
 
 -- lines run from a world on, each in the world that the last one left
-abbrev pub ran_from : Header → World → List Line → List Ran
+abbrev pub ran_from : Header → World → List Line → List AnsweredLine
 ran_from header w [] = []
 ran_from header w (line ∷ lines) = ran_behind line.number (act_step header line.act w) (λ v. ran_from header v lines)
 
 -- the world that lines left, or the one before them where none was run
-abbrev pub world_behind : World → List Ran → World
+abbrev pub world_behind : World → List AnsweredLine → World
 world_behind w [] = w
 world_behind w (run ∷ runs) = world_behind run.step.world runs
 
 -- the lines of a script, run from the opening world on
-abbrev pub ran_of : Script → List Ran
+abbrev pub ran_of : Script → List AnsweredLine
 ran_of script = ran_from script.header (opening_world script.header) (plain_lines script.lines)
 
 -- the worlds of a script: the opening one, and the one behind each line
@@ -105,13 +105,13 @@ abbrev pub worlds_of : Script → List World
 worlds_of script = opening_world script.header ∷ map (λ run. run.step.world) (ran_of script)
 
 -- an answer behind the number of its line
-abbrev pub answer_text : Ran → List ℕ
+abbrev pub answer_text : AnsweredLine → List ℕ
 answer_text run = decimal run.number ++ codes " " ++ run.step.answer
 
 -- the answers of lines
-abbrev pub answers_of : List Ran → List ℕ
+abbrev pub answers_of : List AnsweredLine → List ℕ
 answers_of runs = flat_map answer_text runs
 
 -- what lines made learned, in the order of being told
-abbrev pub seen_in : List Ran → List Seen
+abbrev pub seen_in : List AnsweredLine → List Seen
 seen_in runs = flat_map (λ run. run.step.seen) runs

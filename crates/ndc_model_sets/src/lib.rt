@@ -5,6 +5,7 @@
 
 pub mod arrival_laws;
 pub mod branch_laws;
+mod key_set;
 mod keys;
 pub mod path_laws;
 pub mod sound_laws;
@@ -12,5 +13,6 @@ mod view;
 pub mod view_laws;
 pub mod worked_sets;
 
+pub use key_set::KeySet;
 pub use keys::{earlier_key, first_id, is_key, last_id};
 pub use view::{Batches, BranchView, BranchViews, RunStatus, RunView, RunViews, View};

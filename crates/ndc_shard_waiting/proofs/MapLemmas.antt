@@ -23,15 +23,6 @@ pub values_of-by_key : (messages : List Message) → values_of (by_key messages)
 values_of-by_key [] = refl
 values_of-by_key (m ∷ messages) = ap (λ l. m ∷ l) (values_of-by_key messages)
 
--- keys that compare as less come before
-pub less-before : (one two : BatchKey) → key_cmp one two ≡ Less → key_lt one two ≡ true
-less-before one two h = by (key_lt one two) refl (key_eq one two) h
-  where
-    by : (t : Bool) → key_lt one two ≡ t → (e : Bool) → (if t then Less else if e then Equal else Greater) ≡ Less → key_lt one two ≡ true
-    by true e f h = e
-    by false e true h = absurd (cc)
-    by false e false h = absurd (cc)
-
 module _ (cmp : BatchKey → BatchKey → Ordering) (law : (a b : BatchKey) → cmp a b ≡ key_cmp a b) where
   at-key : (key other : BatchKey) → is_at (cmp key) other ≡ key_eq other key
   at-key key other = ap is_eq (law key other) ∙ key_cmp-same key other
@@ -89,13 +80,3 @@ module _ (cmp : BatchKey → BatchKey → Ordering) (law : (a b : BatchKey) → 
       let all : after ≡ by_key (without_message key (values_of before)) = e ∙ ap (λ es. remove_entry (is_at (cmp key)) es) under ∙ remove_entry-by_key key (values_of before) in
       let v : values_of after ≡ without_message key (values_of before) = ap (λ es. values_of es) all ∙ values_of-by_key (without_message key (values_of before)) in
       (v, all ∙ ap by_key (sym v))
-
-  -- keys that come after by comparison come after
-  pub all-after : (key : BatchKey) (keys : List BatchKey) → AllByRecursion (λ other. cmp key other ≡ Less) keys → AllByRecursion (λ other. key_lt key other ≡ true) keys
-  all-after key [] all = tt
-  all-after key (k ∷ keys) all = (less-before key k (sym (law key k) ∙ all.0), all-after key keys all.1)
-
-  -- the key that is taken comes before the others
-  pub least-of : (o : Option BatchKey) (keys : List BatchKey) → IfSome o (λ key. All (IsLtBy cmp key) keys) → IfSome o (λ key. AllByRecursion (λ other. key_lt key other ≡ true) keys)
-  least-of None keys all = tt
-  least-of (Some key) keys all = all-after key keys (recursion_from_All (IsLtBy cmp key) keys all)

@@ -1,7 +1,6 @@
 //! The messages of one workflow that are put off, and what an arrival frees.
 #![tactic(auto)]
 
-mod keys;
 pub mod laws;
 mod links;
 mod messages;

@@ -1,5 +1,5 @@
-use crate::keys::Keys;
 use ndc_event::BatchKey;
+use ndc_model_sets::KeySet;
 use std::alloc::{AllocError, Global};
 use std::collections::BTreeSet;
 use std::marker::Model;
@@ -84,7 +84,7 @@ impl Links {
 
     /// Puts the keys of all batches that wait for this one to the others. In time of the logarithm of the links for
     /// each of them.
-    pub(crate) fn wake(&self, earlier: BatchKey, todo: &mut Keys) -> Result<(), AllocError>
+    pub(crate) fn wake(&self, earlier: BatchKey, todo: &mut KeySet) -> Result<(), AllocError>
         ensures { OnOk result ((one : Key) → is_key_among one todo.new ≡ (is_key_among one todo.old || is_linked earlier one self.now)) }
     {
         let own = BatchKey {

@@ -5,12 +5,11 @@ ghost use Rattle.ndc_shard_waiting.specs.Finding.{message_at, key_before};
 ghost use Rattle.ndc_shard_waiting.specs.Linking.{is_linked, is_link_for};
 ghost use Rattle.ndc_shard_waiting.specs.Waiting.{put_off};
 
-use crate::keys::Keys;
 use crate::links::Links;
 use crate::messages::Messages;
 use ndc_event::{Batch, BatchKey};
 use ndc_model_cells::Message;
-use ndc_model_sets::earlier_key;
+use ndc_model_sets::{KeySet, earlier_key};
 use std::alloc::{AllocError, Global};
 use std::marker::Model;
 
@@ -187,7 +186,7 @@ impl Shelf {
     }
 
     /// Puts the keys of all messages that wait for this one to the others.
-    fn wake(&self, sent: &Message, todo: &mut Keys) -> Result<(), AllocError>
+    fn wake(&self, sent: &Message, todo: &mut KeySet) -> Result<(), AllocError>
         ensures woken { OnOk result ((one : Key) → is_key_among one todo.new ≡ (is_key_among one todo.old || is_woken (both sent.now) one self.now)) }
         ensures waiting { AreWaiting self.now }
     {
@@ -209,7 +208,7 @@ impl Shelf {
         ensures rest { OnOk result (self.new ≡ still_put_off message self.old) }
         ensures waiting { AreWaiting self.new }
     {
-        let mut todo = Keys::new(alloc);
+        let mut todo = KeySet::new(alloc);
         self.wake(&message, &mut todo)?;
         let mut freed = Vec::new(alloc);
         freed.push(message)?;

@@ -2,8 +2,8 @@
 use Rattle.std.proofs.Common.{◌≡◌, ℕ, List, [], ◌∷◌, length, map, refl, ap, ◌∙◌}
 use Rattle.std.specs.List.{fold}
 use Rattle.ndc_script_types.specs.declared.script.Header.{Header}
-use Rattle.ndc_laws_jobs.specs.Bare.{bare, bare_cluster}
-use Rattle.ndc_laws_jobs.specs.Standing.{StandFor}
+use Rattle.ndc_model.specs.Bare.{bare, bare_cluster}
+use Rattle.ndc_model.specs.Standing.{StandFor}
 use Rattle.ndc_laws_jobs.proofs.MoveLemmas.{map-same}
 use Rattle.ndc_model_cells.specs.Cells.{Cell}
 use Rattle.ndc_model_cells.specs.Jobs.{cell_for}
@@ -16,7 +16,7 @@ use Rattle.ndc_world.specs.Counts.{refused_in}
 use Rattle.ndc_world.specs.Standing.{WorldValue}
 use Rattle.ndc_world.specs.Summary.{summary_of, summary_with}
 use Rattle.ndc_world.specs.declared.summary.Summary.{Summary}
-use Rattle.ndc_world_report.specs.Left.{last_world}
+use Rattle.ndc_world_report.specs.Rest.{last_world}
 use Rattle.ndc_tool_top.specs.Demo.{demo_text, summary_line}
 use Rattle.ndc_world_summary.specs.Summaries.{added, are_one_table, cells_of, totals_in, totals_of, tables_alone}
 use Rattle.ndc_world_summary.specs.declared.parts.Totals.{Totals}

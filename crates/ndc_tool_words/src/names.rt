@@ -5,42 +5,11 @@ ghost use Rattle.ndc_tool_words.specs.Names.{begins_with_dash, names_of, names_o
 ghost use Rattle.ndc_tool_words.specs.Reads.{Reads};
 
 use crate::error::WordsError;
-use ndc_event::{Name, NameError};
+use ndc_event::{Items, Name, NameError};
 use std::alloc::{AllocError, Global};
-use std::marker::Model;
 
 /// A list of names, in order.
-#[derive(Debug, Drop)]
-pub struct Names {
-    items: Vec<Name>,
-}
-
-impl Model for Names {
-    ghost use Rattle.std.specs.Prelude.{List};
-    ghost use Rattle.ndc_event.specs.declared.name.Name.{Name};
-
-    ghost Value = { List Name };
-
-    ghost view = { λ names. names.items.items };
-}
-
-impl Names {
-    ghost use Rattle.std.specs.Prelude.{◌≡◌};
-
-    /// The list of these names.
-    pub fn new(items: Vec<Name>) -> Names
-        ensures { result ≡ items.items }
-    {
-        Names { items }
-    }
-
-    /// The names, to be read.
-    pub fn as_slice(&self) -> &[Name]
-        ensures { result.now ≡ self.now }
-    {
-        self.items.as_slice()
-    }
-}
+pub type Names = Items<Name>;
 
 /// Whether the name stands in the list.
 fn stands_in(names: &[Name], name: &[u8]) -> bool

@@ -10,7 +10,7 @@ use Rattle.ndc_model_cells.specs.Cells.{Cell}
 use Rattle.ndc_model_cells.specs.Jobs.{cell_for, cells_behind}
 use Rattle.ndc_model_cells.specs.Writing.{Desk}
 use Rattle.ndc_domain.specs.declared.clusters.ClusterNo.{ClusterNo}
-use Rattle.ndc_laws_jobs.specs.Lines.{LineIsAllowed, job_for, letter_jobs}
+use Rattle.ndc_model.specs.Allowed.{LineIsAllowed, job_for, letter_jobs}
 use Rattle.ndc_model.specs.Moves.{Trace, all_reapply, bootstrapped, due_arrived, flights_arrived, from_world, quietly, reapplied_all, settled_once, without_flights}
 use Rattle.ndc_model.specs.World.{World, all_clusters, others_of}
 use Rattle.ndc_model.specs.Conditions.{EachStep, again_jobs, flight_jobs, MayBootstrap, MayDoAll, MaySettleOnce, all_bootstrapped, all_due_arrived, due_jobs, late_jobs, reader_bootstrapped, tables_merged}

@@ -12,7 +12,7 @@ use Rattle.ndc_model_cells.specs.Jobs.{cells_after, cells_behind, replies_to, re
 use Rattle.ndc_domain.specs.declared.clusters.ClusterNo.{ClusterNo}
 use Rattle.ndc_laws_reached.proofs.BringLemmas.{after-more, world_after}
 use Rattle.ndc_laws_reached.proofs.LetterLemmas.{shard-below}
-use Rattle.ndc_laws_jobs.specs.Lines.{burst_jobs, job_for}
+use Rattle.ndc_model.specs.Allowed.{burst_jobs, job_for}
 use Rattle.ndc_laws_reached.proofs.MoveLemmas.{command-kept}
 use Rattle.ndc_index.specs.declared.seen.Seen.{Seen}
 use Rattle.ndc_model.proofs.ListLemmas.{all-listed, set-there}

@@ -14,7 +14,7 @@ use Rattle.ndc_model_cells.specs.Writing.{Desk}
 use Rattle.ndc_domain.specs.declared.clusters.ClusterNo.{ClusterNo}
 use Rattle.ndc_index.specs.declared.seen.Seen.{Seen}
 use Rattle.ndc_laws_reached.proofs.BringLemmas.{world_after}
-use Rattle.ndc_laws_jobs.specs.Lines.{LineIsAllowed, burst_jobs}
+use Rattle.ndc_model.specs.Allowed.{LineIsAllowed, burst_jobs}
 use Rattle.ndc_laws_jobs.proofs.BurstLemmas.{burst_allowed}
 use Rattle.ndc_laws_jobs.proofs.LineLemmas.{line_allowed}
 use Rattle.ndc_model.specs.Facts.{IsReached}

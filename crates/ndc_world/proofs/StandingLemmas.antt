@@ -9,8 +9,8 @@ use Rattle.ndc_script_types.specs.declared.script.Act.TheVariants as act
 use Rattle.ndc_script_types.specs.declared.script.BurstJob.{BurstJob}
 use Rattle.ndc_script_types.specs.declared.script.Header.{Header}
 use Rattle.ndc_script_types.specs.declared.script.Line.{Line}
-use Rattle.ndc_laws_jobs.specs.Bare.{bare_cluster, bare_trace, is_on_reports}
-use Rattle.ndc_laws_jobs.specs.Standing.{IsLeftBy, StandFor}
+use Rattle.ndc_model.specs.Bare.{bare_cluster, bare_trace, is_on_reports}
+use Rattle.ndc_model.specs.Standing.{IsLeftBy, StandFor}
 use Rattle.ndc_laws_jobs.proofs.ReachedLemmas.{bare-reached}
 use Rattle.ndc_laws_jobs.proofs.KeepLemmas.{line-keeps}
 use Rattle.ndc_laws_jobs.proofs.MoveLemmas.{settle-bare}

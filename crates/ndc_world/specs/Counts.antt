@@ -2,7 +2,7 @@
 use Rattle.std.specs.Prelude.{ℕ, ◌+◌, Bool, List, [], ◌∷◌, if◌then◌else◌}
 use Rattle.ndc_model_cells.specs.declared.job.JobReply.{JobReply}
 use Rattle.ndc_model.specs.Laws.{is_refusal}
-use Rattle.ndc_model.specs.Lines.{Ran}
+use Rattle.ndc_model.specs.Lines.{AnsweredLine}
 use Rattle.ndc_model.specs.Steps.{outcome_answer}
 
 -- one, where this passes
@@ -10,7 +10,7 @@ abbrev pub one_if : Bool → ℕ
 one_if passes = if passes then 1 else 0
 
 -- how many of the lines that ran were refused
-abbrev pub refused_in : List Ran → ℕ
+abbrev pub refused_in : List AnsweredLine → ℕ
 refused_in [] = 0
 refused_in (run ∷ runs) = one_if (is_refusal run.step.answer) + refused_in runs
 

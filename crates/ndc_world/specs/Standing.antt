@@ -3,7 +3,7 @@ use Rattle.std.specs.Prelude.{◌≡◌, ℕ, ◌+◌, ◌≤◌, Bool, false, L
 use Rattle.ndc_script_types.specs.WellFormed.{IsWellFormedHeader}
 use Rattle.ndc_script_types.specs.declared.script.Header.{Header}
 use Rattle.ndc_script_types.specs.declared.script.Line.{Line}
-use Rattle.ndc_laws_jobs.specs.Standing.{StandFor}
+use Rattle.ndc_model.specs.Standing.{StandFor}
 use Rattle.ndc_index.specs.declared.seen.Seen.{Seen}
 use Rattle.ndc_model.specs.Facts.{IsReached}
 use Rattle.ndc_model.specs.Lines.{answers_of, lines_of_act, ran_from, seen_in, world_behind}

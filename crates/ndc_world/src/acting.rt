@@ -1,7 +1,7 @@
 ghost use Rattle.std.specs.Prelude.{◌≡◌, ◌<◌, false, true, IfOk};
 ghost use Rattle.ndc_script_types.specs.WellFormed.{IsWellFormedAct, IsWellFormedHeader};
-ghost use Rattle.ndc_laws_jobs.specs.Bare.{is_on_reports};
-ghost use Rattle.ndc_laws_jobs.specs.Lines.{LineIsAllowed};
+ghost use Rattle.ndc_model.specs.Bare.{is_on_reports};
+ghost use Rattle.ndc_model.specs.Allowed.{LineIsAllowed};
 ghost use Rattle.ndc_model.specs.Facts.{IsReached};
 ghost use Rattle.ndc_model.specs.Lines.{act_step};
 ghost use Rattle.ndc_model.specs.Steps.{answered};

@@ -2,7 +2,7 @@ ghost use Rattle.std.specs.Prelude.{◌≡◌, ◌<◌, ◌≤◌, ◌++◌, len
 ghost use Rattle.ndc_script_types.specs.WellFormed.{IsCluster};
 ghost use Rattle.ndc_model_cells.specs.Jobs.{cells_after, replies_to};
 ghost use Rattle.ndc_model_cells.specs.declared.job.Job.TheVariants as job;
-ghost use Rattle.ndc_laws_jobs.specs.Lines.{burst_jobs, job_for};
+ghost use Rattle.ndc_model.specs.Allowed.{burst_jobs, job_for};
 ghost use Rattle.ndc_model.specs.Fair.{IsShaped};
 ghost use Rattle.ndc_model.specs.Moves.{notes_of};
 ghost use Rattle.ndc_model.specs.Laws.{is_refusal};

@@ -1,8 +1,8 @@
 ghost use Rattle.std.specs.Prelude.{◌≡◌, ◌<◌, ◌^◌, [], length, map, slice_index_or, true, IfOk};
 ghost use Rattle.std.specs.List.{AllByRecursion};
 ghost use Rattle.ndc_script_types.specs.WellFormed.{IsCluster, IsWellFormedAct, IsWellFormedHeader};
-ghost use Rattle.ndc_laws_jobs.specs.Bare.{is_on_reports};
-ghost use Rattle.ndc_laws_jobs.specs.Standing.{IsLeftBy, StandFor};
+ghost use Rattle.ndc_model.specs.Bare.{is_on_reports};
+ghost use Rattle.ndc_model.specs.Standing.{IsLeftBy, StandFor};
 ghost use Rattle.ndc_domain.specs.Clusters.{count_of};
 ghost use Rattle.ndc_domain.specs.declared.clusters.ClusterNo.{ClusterNo as Number};
 ghost use Rattle.ndc_model.specs.Fair.{IsShaped};

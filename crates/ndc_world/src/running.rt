@@ -5,8 +5,8 @@ ghost use Rattle.ndc_script_types.specs.WellFormed.{IsCluster, IsWellFormedAct, 
 ghost use Rattle.ndc_domain.specs.Clusters.{count_of};
 ghost use Rattle.ndc_domain.specs.declared.clusters.ClusterNo.{ClusterNo as Number};
 ghost use Rattle.ndc_event.specs.declared.name.Name.{Name as Text};
-ghost use Rattle.ndc_laws_jobs.specs.Bare.{is_on_reports};
-ghost use Rattle.ndc_laws_jobs.specs.Standing.{StandFor};
+ghost use Rattle.ndc_model.specs.Bare.{is_on_reports};
+ghost use Rattle.ndc_model.specs.Standing.{StandFor};
 ghost use Rattle.ndc_model.specs.Facts.{IsReached};
 ghost use Rattle.ndc_model.specs.Fair.{IsShaped};
 ghost use Rattle.ndc_model.specs.Laws.{is_refusal};

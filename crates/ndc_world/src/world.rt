@@ -64,7 +64,7 @@ impl<'a, C: Reads + Drop> World<'a, C> {
     ghost use Rattle.std.specs.Prelude.{◌≡◌, ◌<◌, ◌+◌, ◌≤◌, false, length, true, IfOk, IsTrue, OnErr};
     ghost use Rattle.ndc_script_types.specs.WellFormed.{IsWellFormedAct, IsWellFormedHeader};
     ghost use Rattle.ndc_domain.specs.Clusters.{cluster_no, count_of};
-    ghost use Rattle.ndc_laws_jobs.specs.Standing.{StandFor};
+    ghost use Rattle.ndc_model.specs.Standing.{StandFor};
     ghost use Rattle.ndc_model.specs.Lines.{lines_of_act};
     ghost use Rattle.ndc_model.specs.World.{cluster_at, opening_world};
     ghost use Rattle.ndc_world.specs.Standing.{IsSettledBy, IsStepped};

@@ -27,7 +27,7 @@ pub struct Tally {
 }
 
 /// The sum; where it is above 2^64 - 1 there can't be so much, and memory is said to have run out.
-pub(crate) fn sum(one: u64, two: u64) -> Result<u64, AllocError>
+pub fn sum(one: u64, two: u64) -> Result<u64, AllocError>
     ensures { IfOk result (λ sum. sum ≡ one + two) }
 {
     match one.checked_add(two) {

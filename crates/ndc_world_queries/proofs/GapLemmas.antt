@@ -20,7 +20,7 @@ use Rattle.ndc_event.specs.declared.key.BatchKey.{BatchKey}
 use Rattle.ndc_laws_reached.proofs.ManyLemmas.{range-below}
 use Rattle.ndc_laws_reached.proofs.MissingLemmas.{none-missing}
 use Rattle.ndc_laws_reached.proofs.WrittenLemmas.{cell-is, own-names}
-use Rattle.ndc_laws_reached.specs.Sometime.{IsReachedSometime}
+use Rattle.ndc_model.specs.Sometime.{IsReachedSometime}
 use Rattle.ndc_model.specs.Sending.{gap_after, gap_line, gap_lines, gaps_answer, missing_text}
 use Rattle.ndc_model.specs.Texts.{ok}
 use Rattle.ndc_model.specs.World.{World, cell_at, shards_of}

@@ -1,7 +1,7 @@
 ghost use Rattle.std.specs.Prelude.{◌≡◌, ◌<◌, ◌++◌, IfOk, OnOk};
 ghost use Rattle.std.specs.List.{flat_map};
 ghost use Rattle.ndc_script_types.specs.WellFormed.{IsCluster};
-ghost use Rattle.ndc_laws_reached.specs.Sometime.{IsReachedSometime};
+ghost use Rattle.ndc_model.specs.Sometime.{IsReachedSometime};
 ghost use Rattle.ndc_model.specs.Sending.{gaps_answer};
 ghost use Rattle.ndc_model.specs.World.{cell_at, shards_of};
 ghost use Rattle.ndc_resend.specs.PutOff.{gaps_of};

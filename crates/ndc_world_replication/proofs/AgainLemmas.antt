@@ -3,7 +3,7 @@ use Rattle.std.proofs.Common.{◌≡◌, ℕ, ◌<◌, List, [], ◌∷◌, ◌+
 use Rattle.std.specs.List.{AllByRecursion, IsAmong, flat_map}
 use Rattle.ndc_script_types.specs.WellFormed.{IsCluster}
 use Rattle.ndc_script_types.specs.declared.script.Header.{Header}
-use Rattle.ndc_laws_jobs.specs.Again.{brought_again, sent_again_at, sent_again_of}
+use Rattle.ndc_model.specs.Again.{brought_again, sent_again_at, sent_again_of}
 use Rattle.ndc_laws_jobs.proofs.AgainLemmas.{brought-of-workflow, sent-by-workflow}
 use Rattle.ndc_model_cells.specs.declared.place.Place.{Place}
 use Rattle.ndc_model_cells.specs.Cells.{put_off_in}
@@ -12,7 +12,7 @@ use Rattle.ndc_model_cells.specs.Places.{place_of}
 use Rattle.ndc_domain.specs.declared.clusters.ClusterNo.{ClusterNo}
 use Rattle.ndc_event.specs.declared.batch.Batch.{Batch}
 use Rattle.ndc_laws_reached.proofs.OwnLemmas.{workflows-among}
-use Rattle.ndc_laws_reached.specs.Sometime.{IsReachedSometime}
+use Rattle.ndc_model.specs.Sometime.{IsReachedSometime}
 use Rattle.ndc_model.specs.Moves.{sent_again}
 use Rattle.ndc_model.specs.World.{World, cell_at}
 use Rattle.ndc_model.proofs.ListLemmas.{among-is, is-among}

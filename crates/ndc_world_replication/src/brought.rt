@@ -7,10 +7,10 @@ ghost use Rattle.ndc_model_sets.specs.Learned.{has_key};
 ghost use Rattle.ndc_resend.specs.Bringing.{new_of, put_new};
 ghost use Rattle.ndc_world_replication.specs.Brought.{AreKeysOf};
 
-use crate::key_set::KeySet;
 use ndc_cluster_reads::Reads;
 use ndc_event::BatchKey;
 use ndc_model_cells::Message;
+use ndc_model_sets::KeySet;
 use std::alloc::{AllocError, Global};
 use std::collections::BTreeMap;
 use std::marker::Model;

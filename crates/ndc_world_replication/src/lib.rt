@@ -6,7 +6,6 @@ mod brought;
 mod due;
 mod flights;
 mod handovers;
-mod key_set;
 mod opening;
 mod publisher;
 pub mod publishers;

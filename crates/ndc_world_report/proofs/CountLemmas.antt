@@ -4,20 +4,20 @@ use Rattle.std.proofs.lemmas.List.{at_drop_all, at_drop_more, length-append}
 use Rattle.ndc_script_types.specs.declared.script.Header.{Header}
 use Rattle.ndc_script_types.specs.declared.script.Line.{Line}
 use Rattle.ndc_script_types.specs.declared.script.Script.{Script}
-use Rattle.ndc_model.specs.Lines.{Ran, act_step, lines_of_act, plain_lines, ran_from, ran_of, world_behind}
+use Rattle.ndc_model.specs.Lines.{AnsweredLine, act_step, lines_of_act, plain_lines, ran_from, ran_of, world_behind}
 use Rattle.ndc_model.specs.World.{World, opening_world}
-use Rattle.ndc_laws_jobs.specs.Standing.{StandFor}
-use Rattle.ndc_world_report.specs.Left.{at_world, last_world, left_of, opening_of}
+use Rattle.ndc_model.specs.Standing.{StandFor}
+use Rattle.ndc_world_report.specs.Rest.{at_world, last_world, left_of, opening_of}
 use Rattle.ndc_world_report.proofs.LeftLemmas.{left_more}
 use Rattle.ndc_world.specs.Counts.{refused_in}
 use Rattle.ndc_world.specs.Running.{Running, behind_line, ran_at}
 use Rattle.ndc_world.specs.Standing.{WorldValue}
 
-refused-more : (runs more : List Ran) → refused_in (runs ++ more) ≡ refused_in runs + refused_in more
+refused-more : (runs more : List AnsweredLine) → refused_in (runs ++ more) ≡ refused_in runs + refused_in more
 refused-more [] more = omega arith
 refused-more (run ∷ runs) more = let rest = refused-more runs more in omega (arith, rest)
 
-behind-more : (w : World) (runs more : List Ran) → world_behind w (runs ++ more) ≡ world_behind (world_behind w runs) more
+behind-more : (w : World) (runs more : List AnsweredLine) → world_behind w (runs ++ more) ≡ world_behind (world_behind w runs) more
 behind-more w [] more = refl
 behind-more w (run ∷ runs) more = behind-more run.step.world runs more
 

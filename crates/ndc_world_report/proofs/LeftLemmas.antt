@@ -12,14 +12,14 @@ use Rattle.ndc_script_types.specs.declared.script.Script.{Script}
 use Rattle.ndc_laws_reached.proofs.ScriptLemmas.{lines-short}
 use Rattle.ndc_index.specs.Seats.{SeatValue, after_all, after_told}
 use Rattle.ndc_index.specs.declared.seen.Seen.{Seen}
-use Rattle.ndc_model.specs.Lines.{Ran, answer_text, answers_of, lines_of_act, plain_lines, ran_of, seen_in, world_behind}
+use Rattle.ndc_model.specs.Lines.{AnsweredLine, answer_text, answers_of, lines_of_act, plain_lines, ran_of, seen_in, world_behind}
 use Rattle.ndc_model.specs.World.{World, opening_world}
-use Rattle.ndc_laws_jobs.specs.Standing.{StandFor}
+use Rattle.ndc_model.specs.Standing.{StandFor}
 use Rattle.ndc_model.proofs.ListLemmas.{all-listed}
 use Rattle.ndc_model.proofs.ScriptLemmas.{runs_in_parts}
 use Rattle.ndc_port.specs.Bytes.{Appends, AppendsFront, Sent}
 use Rattle.ndc_port.proofs.Steps.{Sent_end, Sent_part, Sent_piece, Sent_start}
-use Rattle.ndc_world_report.specs.Left.{MayRun, at_world, kept_where, left_of, opening_of}
+use Rattle.ndc_world_report.specs.Rest.{MayRun, at_world, kept_where, left_of, opening_of}
 use Rattle.ndc_world.specs.Running.{Running, behind_line, ran_at}
 use Rattle.ndc_world.specs.Standing.{WorldValue}
 
@@ -156,20 +156,20 @@ module _ (script : Script) (running : Running) (lines : List Line) (opened : run
   left-all = ap (λ (r : Running). left_of r lines) opened ∙ ap (left_of (opening_of script)) are
 
   pub sent_opening : (written : Option (List ℕ)) → Sent written written (answers_of (ran_of script)) (answers_of (left_of running lines))
-  sent_opening written = subst (λ (l : List Ran). Sent written written (answers_of (ran_of script)) (answers_of l)) (sym left-all) (Sent_start written (answers_of (ran_of script)))
+  sent_opening written = subst (λ (l : List AnsweredLine). Sent written written (answers_of (ran_of script)) (answers_of l)) (sym left-all) (Sent_start written (answers_of (ran_of script)))
 
   pub may_opening : IsWellFormed script → MayRun running.header running.lines lines
   may_opening is = subst (λ (r : Running). MayRun r.header r.lines lines) (sym opened) (subst (MayRun script.header 0) (sym are) (opening_may_run script is))
 
   pub kept_opening : (keeps : Bool) (told : List Seen) → told ≡ [] → told ++ kept_where keeps (seen_in (left_of running lines)) ≡ kept_where keeps (seen_in (ran_of script))
-  kept_opening keeps told none = ap (λ (l : List Seen). l ++ kept_where keeps (seen_in (left_of running lines))) none ∙ ap (λ (l : List Ran). kept_where keeps (seen_in l)) left-all
+  kept_opening keeps told none = ap (λ (l : List Seen). l ++ kept_where keeps (seen_in (left_of running lines))) none ∙ ap (λ (l : List AnsweredLine). kept_where keeps (seen_in l)) left-all
 
   pub asked_opening : (seats : List SeatValue) → map (after_all (seen_in (left_of running lines))) seats ≡ map (after_all (seen_in (ran_of script))) seats
-  asked_opening seats = ap (λ (l : List Ran). map (after_all (seen_in l)) seats) left-all
+  asked_opening seats = ap (λ (l : List AnsweredLine). map (after_all (seen_in l)) seats) left-all
 
 -- behind the last line nothing is left
 module _ (script : Script) (running : Running) (lines : List Line) (i : ℕ) (most : length lines ≤ i) where
-  no-more : {Y : Type 0} (F : List Ran → Y) → F (left_of running (drop i lines)) ≡ F []
+  no-more : {Y : Type 0} (F : List AnsweredLine → Y) → F (left_of running (drop i lines)) ≡ F []
   no-more F = at_drop_all (λ l. F (left_of running l)) lines i most
 
   pub sent_all : (before now : Option (List ℕ)) (bytes : List ℕ) → Sent before now bytes (answers_of (left_of running (drop i lines))) → Appends before now bytes

@@ -16,7 +16,7 @@ use Rattle.ndc_model.specs.Lines.{answers_of, ran_of, seen_in}
 use Rattle.ndc_model.specs.Report.{report_of}
 use Rattle.ndc_port.specs.Bytes.{Appends, AppendsFront, Sent}
 use Rattle.ndc_port.proofs.Steps.{Sent_end, Sent_part, Sent_piece}
-use Rattle.ndc_world_report.specs.Left.{kept_where}
+use Rattle.ndc_world_report.specs.Rest.{kept_where}
 use Rattle.ndc_world_report.proofs.LeftLemmas.{kept_serves}
 use Rattle.ndc_world_report.specs.Seats.{AreNew, Reports, ReportsFront, WritesAll, WritesFront, all_asked, asked_for, failing_of, seat_lines, told_text}
 

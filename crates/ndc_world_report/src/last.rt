@@ -1,9 +1,9 @@
 ghost use Rattle.std.specs.Prelude.{◌≡◌, ◌<◌, false, length, IfOk};
 ghost use Rattle.ndc_script_types.specs.WellFormed.{IsWellFormed};
-ghost use Rattle.ndc_laws_jobs.specs.Standing.{StandFor};
+ghost use Rattle.ndc_model.specs.Standing.{StandFor};
 ghost use Rattle.ndc_model.specs.Lines.{ran_of};
 ghost use Rattle.ndc_world.specs.Counts.{refused_in};
-ghost use Rattle.ndc_world_report.specs.Left.{last_world};
+ghost use Rattle.ndc_world_report.specs.Rest.{last_world};
 
 use ndc_cluster_reads::Reads;
 use ndc_port::Gate;

@@ -5,8 +5,8 @@ use Rattle.std.specs.List.{AllByRecursion}
 use Rattle.std.proofs.lemmas.Bool.{and_parts, eqb-false, eqb-true, le-ltb, lt-ltb, ltb-false}
 use Rattle.ndc_script_types.specs.declared.script.Header.{Header}
 use Rattle.ndc_laws_jobs.proofs.StandLemmas.{beat-left}
-use Rattle.ndc_laws_jobs.specs.Reporting.{told_at, told_by}
-use Rattle.ndc_laws_jobs.specs.Standing.{IsLeftBy, StandFor}
+use Rattle.ndc_model.specs.Reporting.{told_at, told_by}
+use Rattle.ndc_model.specs.Standing.{IsLeftBy, StandFor}
 use Rattle.ndc_model_cells.specs.Writing.{may_write, state_under}
 use Rattle.ndc_command.specs.declared.refusal.CommandError.{CommandError}
 use Rattle.ndc_domain.specs.declared.clusters.ClusterNo.{ClusterNo}

@@ -11,7 +11,7 @@ use Rattle.ndc_model_cells.specs.Shards.{shard_of}
 use Rattle.ndc_command.specs.declared.command.Command.{Command}
 use Rattle.ndc_domain.specs.declared.clusters.ClusterNo.{ClusterNo}
 use Rattle.ndc_event.specs.declared.name.Name.{Name}
-use Rattle.ndc_laws_jobs.specs.Lines.{job_for}
+use Rattle.ndc_model.specs.Allowed.{job_for}
 use Rattle.ndc_index.specs.declared.seen.Seen.{Seen}
 use Rattle.ndc_model.specs.Moves.{Note, jobs_done, notes_of, worked}
 use Rattle.ndc_model.specs.Sending.{work_step}

@@ -14,7 +14,7 @@ use Rattle.ndc_model_cells.specs.Jobs.{cell_for, cells_after, replies_to}
 use Rattle.ndc_model_cells.specs.Shards.{shard_of}
 use Rattle.ndc_domain.specs.declared.clusters.ClusterNo.{ClusterNo}
 use Rattle.ndc_laws_reached.proofs.LetterLemmas.{shard-below}
-use Rattle.ndc_laws_jobs.specs.Lines.{letter_jobs}
+use Rattle.ndc_model.specs.Allowed.{letter_jobs}
 use Rattle.ndc_index.specs.declared.seen.Seen.{Seen}
 use Rattle.ndc_letters.specs.declared.letter.Letter.{Letter}
 use Rattle.ndc_letters.specs.Letters.{place_of_letter}

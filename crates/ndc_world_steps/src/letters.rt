@@ -3,7 +3,7 @@ ghost use Rattle.std.specs.List.{AllByRecursion, filter_map};
 ghost use Rattle.ndc_script_types.specs.WellFormed.{IsCluster};
 ghost use Rattle.ndc_model_cells.specs.Shards.{shard_of};
 ghost use Rattle.ndc_domain.specs.Clusters.{count_of};
-ghost use Rattle.ndc_laws_jobs.specs.Lines.{letter_jobs};
+ghost use Rattle.ndc_model.specs.Allowed.{letter_jobs};
 ghost use Rattle.ndc_letters.specs.Letters.{is_whole, letter_of, with_letter};
 ghost use Rattle.ndc_model.specs.Fair.{IsShaped};
 ghost use Rattle.ndc_model.specs.Letters.{damage_step, damaged, letter_job, letters_answer, mergeletters_step, purge_step, with_letters};

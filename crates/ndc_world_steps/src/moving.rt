@@ -1,7 +1,7 @@
 ghost use Rattle.std.specs.Prelude.{◌≡◌, ◌<◌, [], ◌∷◌, ◌++◌, length, IfOk, OnOk};
 ghost use Rattle.std.specs.List.{flat_map};
 ghost use Rattle.ndc_script_types.specs.WellFormed.{AreTwoClusters, IsCluster};
-ghost use Rattle.ndc_laws_reached.specs.Sometime.{IsReachedSometime};
+ghost use Rattle.ndc_model.specs.Sometime.{IsReachedSometime};
 ghost use Rattle.ndc_world_answers.specs.Tallies.{with_notes};
 ghost use Rattle.ndc_world_steps.specs.Telling.{tally_of};
 ghost use Rattle.ndc_model.specs.Moves.{after_settlement};

@@ -1,8 +1,8 @@
 ghost use Rattle.std.specs.Prelude.{◌≡◌, ◌≢◌, ◌<◌, ◌^◌, [], Ok, Result, slice_set, length, option_copied, slice_index_or, IfOk, OnOk};
 ghost use Rattle.std.specs.List.{AllByRecursion};
 ghost use Rattle.ndc_script_types.specs.WellFormed.{IsCluster};
-ghost use Rattle.ndc_laws_jobs.specs.Reporting.{shown_of, told_at, told_by};
-ghost use Rattle.ndc_laws_jobs.specs.Standing.{IsLeftBy, StandFor};
+ghost use Rattle.ndc_model.specs.Reporting.{shown_of, told_at, told_by};
+ghost use Rattle.ndc_model.specs.Standing.{IsLeftBy, StandFor};
 ghost use Rattle.ndc_command.specs.declared.refusal.CommandError.TheVariants.{Memory};
 ghost use Rattle.ndc_command.specs.declared.refusal.CommandError.{CommandError as CommandFault};
 ghost use Rattle.ndc_event.specs.Outcome.{Gives};

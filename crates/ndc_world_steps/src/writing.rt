@@ -1,6 +1,6 @@
 ghost use Rattle.std.specs.Prelude.{◌≡◌, ◌<◌, [], ◌∷◌, IfOk};
 ghost use Rattle.ndc_script_types.specs.WellFormed.{IsCluster};
-ghost use Rattle.ndc_laws_jobs.specs.Lines.{job_for};
+ghost use Rattle.ndc_model.specs.Allowed.{job_for};
 ghost use Rattle.ndc_model_cells.specs.declared.job.Job.TheVariants as job;
 ghost use Rattle.ndc_model.specs.Fair.{IsShaped};
 ghost use Rattle.ndc_model.specs.Steps.{command_step, reset_step, writing_step};

@@ -7,6 +7,7 @@ ghost use Rattle.ndc_world_summary.specs.Summaries.{messages_of, with_workflow, 
 use ndc_cluster_rounds::Cell;
 use ndc_event::Batch;
 use ndc_model_cells::Message;
+use ndc_world_answers::sum;
 use std::alloc::{AllocError, Global};
 
 /// What cells have written: how many batches, and to which workflows, each by the first batch that was found of it.
@@ -14,16 +15,6 @@ use std::alloc::{AllocError, Global};
 pub(crate) struct Found {
     pub(crate) batches: u64,
     pub(crate) workflows: Vec<Batch>,
-}
-
-/// The sum; where it is above 2^64 - 1 there can't be so much, and memory is said to have run out.
-pub(crate) fn sum(one: u64, two: u64) -> Result<u64, AllocError>
-    ensures { IfOk result (λ sum. sum ≡ one + two) }
-{
-    match one.checked_add(two) {
-        Some(sum) => Ok(sum),
-        None => Err(AllocError),
-    }
 }
 
 /// How many batches a message has: its own, and the one that it carries.

@@ -2,7 +2,7 @@ ghost use Rattle.std.specs.Prelude.{◌≡◌, map, IfOk};
 ghost use Rattle.ndc_world_summary.specs.Summaries.{added, branch_count, first_learned, one_if_any, part_of, totals_in};
 
 use crate::alike::are_alike;
-use crate::found::{found_in, sum};
+use crate::found::found_in;
 use crate::learned::{branch_count, learned_of};
 use ndc_cluster_reads::Reads;
 use ndc_event::Batch;

@@ -1,5 +1,5 @@
 use Rattle.std.proofs.Common.{◌≡◌, ◌++◌, drop}
-use Rattle.ndc_laws_jobs.specs.Lines.{burst_jobs}
+use Rattle.ndc_model.specs.Allowed.{burst_jobs}
 use Rattle.ndc_world.proofs.bursts.jobs_of.Given as goal
 
 abbrev pub invariant-loop-one : goal.invariant-loop-one

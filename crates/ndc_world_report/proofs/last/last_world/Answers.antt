@@ -1,7 +1,7 @@
 use Rattle.std.proofs.Common.{◌<◌, ◌≤◌, ◌+◌, ◌∙◌, ap, length, arith, refl}
 use Rattle.ndc_model.specs.Lines.{world_behind}
 use Rattle.ndc_model.specs.World.{opening_world}
-use Rattle.ndc_world_report.specs.Left.{at_world}
+use Rattle.ndc_world_report.specs.Rest.{at_world}
 use Rattle.ndc_world_report.proofs.CountLemmas.{counted_all, counted_next, counted_opening}
 use Rattle.ndc_world_report.proofs.LeftLemmas.{may_opening, may_run_more, moved_at, opened_at}
 use Rattle.ndc_world_report.proofs.last.last_world.Goals as goal

@@ -1,5 +1,5 @@
 use Rattle.std.proofs.Common.{◌≡◌, drop, false}
-use Rattle.ndc_world_report.specs.Left.{MayRun}
+use Rattle.ndc_world_report.specs.Rest.{MayRun}
 use Rattle.ndc_world_report.proofs.CountLemmas.{IsCounting}
 use Rattle.ndc_world_report.proofs.last.last_world.Given as goal
 

@@ -1,6 +1,6 @@
 use Rattle.ndc_model.specs.Lines.{answers_of}
 use Rattle.ndc_port.proofs.Steps.{Sent_start, Sent_stop}
-use Rattle.ndc_world_report.specs.Left.{at_world}
+use Rattle.ndc_world_report.specs.Rest.{at_world}
 use Rattle.ndc_world_report.proofs.Ends.{on_err}
 use Rattle.ndc_world_report.proofs.running.run_line.Goals as goal
 use Rattle.ndc_world.specs.Running.{ran_at}

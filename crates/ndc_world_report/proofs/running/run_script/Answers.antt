@@ -5,7 +5,7 @@ use Rattle.ndc_index.specs.Seats.{own_text}
 use Rattle.ndc_model.specs.Lines.{answers_of, ran_of, world_behind}
 use Rattle.ndc_model.specs.World.{opening_world}
 use Rattle.ndc_port.proofs.Steps.{Sent_start, Sent_stop}
-use Rattle.ndc_world_report.specs.Left.{at_world}
+use Rattle.ndc_world_report.specs.Rest.{at_world}
 use Rattle.ndc_world_report.proofs.Ends.{on_err}
 use Rattle.ndc_world_report.proofs.LeftLemmas.{asked_all, asked_opening, kept_all, kept_line, kept_opening, may_opening, may_run_more, moved_at, none_kept, opened_at, sent_all, sent_line, sent_opening, sent_part, told_all, told_line, told_next}
 use Rattle.ndc_world_report.proofs.SeatLemmas.{ends_front, ends_whole, from_nothing, front_answers, late_told, same_seats}

@@ -1,7 +1,7 @@
 use Rattle.std.proofs.Common.{◌≡◌, ◌≤◌, drop, false, map}
 use Rattle.std.specs.Option.{option_map}
 use Rattle.ndc_index.specs.Seats.{after_all, seat_of, shown}
-use Rattle.ndc_world_report.specs.Left.{MayRun}
+use Rattle.ndc_world_report.specs.Rest.{MayRun}
 use Rattle.ndc_world_report.proofs.LeftLemmas.{IsUnderWay}
 use Rattle.ndc_world_report.proofs.running.run_script.Given as goal
 

@@ -1,6 +1,6 @@
 use Rattle.std.proofs.Common.{List, [], ◌∷◌, ◌++◌, ap, ◌∙◌}
 use Rattle.std.specs.List.{flat_map}
-use Rattle.ndc_laws_jobs.specs.Lines.{letter_jobs}
+use Rattle.ndc_model.specs.Allowed.{letter_jobs}
 use Rattle.ndc_model.specs.Steps.{seen_of}
 use Rattle.ndc_world_replication.specs.Dones.{notes_in}
 use Rattle.ndc_world_replication.specs.declared.working.Done.{Done}

@@ -1,7 +1,7 @@
 use Rattle.std.proofs.Common.{◌<◌, length, subst, sym, ◌∙◌}
 use Rattle.std.specs.List.{AllByRecursion}
 use Rattle.ndc_model_cells.specs.declared.job.ShardJob.{ShardJob}
-use Rattle.ndc_laws_jobs.specs.Lines.{letter_jobs}
+use Rattle.ndc_model.specs.Allowed.{letter_jobs}
 use Rattle.ndc_model.specs.World.{cluster_at}
 use Rattle.ndc_world_steps.proofs.MergeLemmas.{letter_jobs_there, served_notes, served_world}
 use Rattle.ndc_world_steps.proofs.letters.serve.Goals as goal

@@ -1,6 +1,6 @@
 use Rattle.std.proofs.Common.{List, ap, ◌∙◌}
 use Rattle.ndc_laws_jobs.proofs.StandLemmas.{progress-left}
-use Rattle.ndc_laws_jobs.specs.Reporting.{shown_of}
+use Rattle.ndc_model.specs.Reporting.{shown_of}
 use Rattle.ndc_model.specs.Reading.{learned_at}
 use Rattle.ndc_progress.specs.declared.report.Report.{Report}
 use Rattle.ndc_world_steps.proofs.ActivityLemmas.{seat_is}

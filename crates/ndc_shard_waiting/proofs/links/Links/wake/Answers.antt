@@ -18,7 +18,7 @@ returns-then-ne c =
 
 pub loop-link-preserved : goal.loop-link-preserved
 loop-link-preserved c =
-    subst (λ (l : List BatchKey). Wakes c.args.earlier c.args.self.now c.args.todo.now l c.next.new.self) (sym c.in_ok-put.ensures)
+    subst (λ (l : List BatchKey). Wakes c.args.earlier c.args.self.now c.args.todo.now l c.next.new.self) (sym c.in_ok-put.ensures.ok)
     (wakes-more c.args.earlier c.args.self.now c.args.todo.now c.loop-link.todo c.in-Some.link.now c.next.new.self
     (same-key c.in-Some.link.now.earlier c.args.earlier (sym c.ne.ensures ∙ c.if-ne.false))
     (subst (λ (l : List Link). Wakes c.args.earlier c.args.self.now c.args.todo.now c.loop-link.todo l) c.in-Some.ensures.steps c.loop-link.invariant))

@@ -1,6 +1,6 @@
 use Rattle.std.proofs.Common.{◌≡◌, ◌++◌, drop, map}
 use Rattle.std.specs.List.{flat_map}
-use Rattle.ndc_laws_jobs.specs.Again.{sent_again_at}
+use Rattle.ndc_model.specs.Again.{sent_again_at}
 use Rattle.ndc_model.specs.Moves.{arrives}
 use Rattle.ndc_world_replication.proofs.replication.Replication.add_places.Given as goal
 

@@ -1,5 +1,5 @@
 use Rattle.std.proofs.Common.{List, sym, ◌∙◌, ap}
-use Rattle.ndc_laws_jobs.specs.Again.{served_by_author}
+use Rattle.ndc_model.specs.Again.{served_by_author}
 use Rattle.ndc_model_cells.specs.declared.message.Message.{Message}
 use Rattle.ndc_resend.specs.Bringing.{asked_from}
 use Rattle.ndc_resend.proofs.OrderLemmas.{asked_last}

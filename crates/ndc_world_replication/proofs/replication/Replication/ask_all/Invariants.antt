@@ -1,5 +1,5 @@
 use Rattle.std.proofs.Common.{◌≡◌, [], length}
-use Rattle.ndc_laws_jobs.specs.Again.{served_by_author}
+use Rattle.ndc_model.specs.Again.{served_by_author}
 use Rattle.ndc_resend.specs.Bringing.{asked_from}
 use Rattle.ndc_world_replication.specs.Brought.{AreKeysOf}
 use Rattle.ndc_world_replication.proofs.replication.Replication.ask_all.Given as goal

@@ -1,5 +1,5 @@
 use Rattle.std.proofs.Common.{List, [], ap, ◌∙◌}
-use Rattle.ndc_laws_jobs.specs.Again.{served_by_author}
+use Rattle.ndc_model.specs.Again.{served_by_author}
 use Rattle.ndc_model_cells.specs.Cells.{Cell}
 use Rattle.ndc_model_cells.specs.Workflow.{workflow_of}
 use Rattle.ndc_model_cells.specs.declared.message.Message.{Message}

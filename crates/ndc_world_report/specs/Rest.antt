@@ -6,7 +6,7 @@ use Rattle.ndc_script_types.specs.declared.script.Header.{Header}
 use Rattle.ndc_script_types.specs.declared.script.Line.{Line}
 use Rattle.ndc_script_types.specs.declared.script.Script.{Script}
 use Rattle.ndc_index.specs.declared.seen.Seen.{Seen}
-use Rattle.ndc_model.specs.Lines.{Ran, plain_lines, ran_from, ran_of, world_behind}
+use Rattle.ndc_model.specs.Lines.{AnsweredLine, plain_lines, ran_from, ran_of, world_behind}
 use Rattle.ndc_model.specs.World.{World, opening_world}
 use Rattle.ndc_world.specs.Running.{Running}
 use Rattle.ndc_world.specs.Standing.{WorldValue}
@@ -16,7 +16,7 @@ abbrev pub at_world : WorldValue → World → Running
 at_world value w = record { header = value.header; lines = value.lines; world = w }
 
 -- what runs where these lines do, in the world that was left
-abbrev pub left_of : Running → List Line → List Ran
+abbrev pub left_of : Running → List Line → List AnsweredLine
 left_of running lines = ran_from running.header running.world (plain_lines lines)
 
 -- these lines may run behind so many: they are as they should be, and no more than 100,000 lines run with them

@@ -8,7 +8,7 @@ use Rattle.ndc_model.specs.Steps.{Stepped}
 use Rattle.ndc_model.specs.World.{World}
 use Rattle.ndc_progress.specs.Reports.{greatest_of}
 use Rattle.ndc_progress.specs.declared.report.Report.{Report}
-use Rattle.ndc_laws_jobs.specs.Bare.{bare}
+use Rattle.ndc_model.specs.Bare.{bare}
 
 -- all progress reports of each cluster
 abbrev pub reports_of : World → List (List Report)

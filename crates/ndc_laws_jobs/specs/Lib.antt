@@ -1,5 +1,0 @@
-pub mod Again
-pub mod Bare
-pub mod Lines
-pub mod Reporting
-pub mod Standing
