@@ -31,3 +31,32 @@ kind_name (ChildWorkflowExecutionStarted _) = codes "ChildWorkflowExecutionStart
 kind_name (ChildWorkflowExecutionCompleted _ _) = codes "ChildWorkflowExecutionCompleted"
 kind_name (ChildWorkflowExecutionFailed _ _) = codes "ChildWorkflowExecutionFailed"
 kind_name (MarkerRecorded _) = codes "MarkerRecorded"
+
+-- the place of a kind among all kinds
+unfoldable pub kind_number : EventKind → ℕ
+kind_number (WorkflowExecutionStarted _) = 0
+kind_number (WorkflowExecutionSignaled _ _ _) = 1
+kind_number WorkflowExecutionCancelRequested = 2
+kind_number (WorkflowExecutionCompleted _) = 3
+kind_number (WorkflowExecutionFailed _) = 4
+kind_number WorkflowExecutionCanceled = 5
+kind_number (WorkflowExecutionTerminated _) = 6
+kind_number (WorkflowExecutionContinuedAsNew _ _) = 7
+kind_number DecisionTaskScheduled = 8
+kind_number DecisionTaskStarted = 9
+kind_number DecisionTaskCompleted = 10
+kind_number (DecisionTaskFailed _) = 11
+kind_number DecisionTaskTimedOut = 12
+kind_number (ActivityTaskScheduled _ _) = 13
+kind_number (ActivityTaskStarted _) = 14
+kind_number (ActivityTaskCompleted _ _) = 15
+kind_number (ActivityTaskFailed _ _) = 16
+kind_number (ActivityTaskTimedOut _) = 17
+kind_number (TimerStarted _) = 18
+kind_number (TimerFired _) = 19
+kind_number (TimerCanceled _) = 20
+kind_number (StartChildWorkflowExecutionInitiated _ _) = 21
+kind_number (ChildWorkflowExecutionStarted _) = 22
+kind_number (ChildWorkflowExecutionCompleted _ _) = 23
+kind_number (ChildWorkflowExecutionFailed _ _) = 24
+kind_number (MarkerRecorded _) = 25

@@ -90,7 +90,7 @@ impl EventKind {
     ghost use Rattle.std.specs.Prelude.{◌≡◌, ◌↔◌, IfOk, IsTrue};
     ghost use Rattle.std.specs.Option.{option_copied};
     ghost use Rattle.ndc_event.specs.Attributes.{first_name, second_name, next_run, copied_origin};
-    ghost use Rattle.ndc_event.specs.Kind.{kind_name};
+    ghost use Rattle.ndc_event.specs.Kind.{kind_name, kind_number};
 
     /// The kind's name, as histories and batch texts print it.
     #[tactic(auto, unfolding(crate::specs::Kind::kind_name))]
@@ -133,6 +133,41 @@ impl EventKind {
         ensures { IfOk result (λ copy. copy ≡ self.now) }
     {
         self.clone()
+    }
+
+    /// The place of the kind among all kinds.
+    #[tactic(auto, unfolding(crate::specs::Kind::kind_number))]
+    fn number(&self) -> u8
+        ensures { result ≡ kind_number self.now }
+    {
+        match self {
+            EventKind::WorkflowExecutionStarted { .. } => 0,
+            EventKind::WorkflowExecutionSignaled { .. } => 1,
+            EventKind::WorkflowExecutionCancelRequested => 2,
+            EventKind::WorkflowExecutionCompleted { .. } => 3,
+            EventKind::WorkflowExecutionFailed { .. } => 4,
+            EventKind::WorkflowExecutionCanceled => 5,
+            EventKind::WorkflowExecutionTerminated { .. } => 6,
+            EventKind::WorkflowExecutionContinuedAsNew { .. } => 7,
+            EventKind::DecisionTaskScheduled => 8,
+            EventKind::DecisionTaskStarted => 9,
+            EventKind::DecisionTaskCompleted => 10,
+            EventKind::DecisionTaskFailed { .. } => 11,
+            EventKind::DecisionTaskTimedOut => 12,
+            EventKind::ActivityTaskScheduled { .. } => 13,
+            EventKind::ActivityTaskStarted { .. } => 14,
+            EventKind::ActivityTaskCompleted { .. } => 15,
+            EventKind::ActivityTaskFailed { .. } => 16,
+            EventKind::ActivityTaskTimedOut { .. } => 17,
+            EventKind::TimerStarted { .. } => 18,
+            EventKind::TimerFired { .. } => 19,
+            EventKind::TimerCanceled { .. } => 20,
+            EventKind::StartChildWorkflowExecutionInitiated { .. } => 21,
+            EventKind::ChildWorkflowExecutionStarted { .. } => 22,
+            EventKind::ChildWorkflowExecutionCompleted { .. } => 23,
+            EventKind::ChildWorkflowExecutionFailed { .. } => 24,
+            EventKind::MarkerRecorded { .. } => 25,
+        }
     }
 
     /// The first attribute that is a name.
@@ -286,7 +321,7 @@ impl EventKind {
     pub fn is_same(&self, other: &EventKind) -> bool
         ensures { IsTrue result ↔ (self.now ≡ other.now) }
     {
-        if !is_same_text(self.name(), other.name()) {
+        if self.number() != other.number() {
             return false;
         }
         if !is_same_name(self.first_name(), other.first_name()) {
@@ -300,13 +335,6 @@ impl EventKind {
         }
         is_same_origin(self.copied_origin(), other.copied_origin())
     }
-}
-
-/// Whether two texts are the same.
-fn is_same_text(one: &str, two: &str) -> bool
-    ensures { IsTrue result ↔ (one.now ≡ two.now) }
-{
-    one == two
 }
 
 /// Whether two names are the same, or both are none.

@@ -139,6 +139,9 @@ fn behind_front(bytes: &[u8]) -> &[u8]
 fn compared(one: &[u8], two: &[u8]) -> Ordering
     ensures { result ≡ slice_cmp nat_cmp one.now two.now }
 {
+    if one.is_empty() && two.is_empty() {
+        return Ordering::Equal;
+    }
     let both = one.len().min(two.len());
     for place in 0..both.min(NEAR) {
         if one[place] != two[place] {

@@ -65,7 +65,7 @@ fn names_on(alloc: Global, parts: &[&[u8]]) -> Result<Names, WordsError>
         }
         items.push(name)?;
     }
-    Ok(Names { items })
+    Ok(Names::new(items))
 }
 
 /// The names that a text is, which stand between single commas and differ.

@@ -3,17 +3,17 @@ ghost use Rattle.std.specs.Prelude.{◌≡◌, ◌≤◌, length, insert, OnOk, 
 
 use std::alloc::AllocError;
 
-/// Takes room for one item alone, where there is none.
+/// Takes room where there is none: for one item at first, then for as many as there are.
 fn room<T>(items: &mut Vec<T>) -> Result<(), AllocError>
     ensures { items.new.items ≡ items.old.items }
 {
-    if items.is_empty() {
-        return items.reserve_exact(1);
+    if items.len() < items.capacity() {
+        return Ok(());
     }
-    Ok(())
+    items.reserve_exact(items.len().max(1))
 }
 
-/// Puts the item to the place. The first item takes room for itself alone; for want of memory the list is as it
+/// Puts the item to the place. Room grows from one item on to twice as many; for want of memory the list is as it
 /// was.
 pub fn put<T: Drop>(items: &mut Vec<T>, place: usize, item: T) -> Result<(), AllocError>
     requires { place ≤ length items.old.items }

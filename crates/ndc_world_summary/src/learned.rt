@@ -3,12 +3,12 @@ ghost use Rattle.std.specs.List.{sum_by};
 ghost use Rattle.ndc_model_cells.specs.Cells.{learned_of};
 ghost use Rattle.ndc_world_summary.specs.Summaries.{branch_count};
 
-use ndc_world_answers::sum;
 use ndc_cluster_reads::Reads;
 use ndc_event::{Batch, Name};
 use ndc_model_sets::RunView;
 use ndc_shard_runs::Runs;
 use ndc_state::Steps;
+use ndc_world_answers::sum;
 use std::alloc::{AllocError, Global};
 
 /// Steps of restoring states are counted under this name.

@@ -6,6 +6,7 @@ use crate::found::found_in;
 use crate::learned::{branch_count, learned_of};
 use ndc_cluster_reads::Reads;
 use ndc_event::Batch;
+use ndc_world_answers::sum;
 use std::alloc::{AllocError, Global};
 
 /// What the clusters of a script come to.

@@ -1,6 +1,6 @@
 use Rattle.std.proofs.Common.{sym, ◌∙◌, ap}
 use Rattle.ndc_event.specs.Attributes.{copied_origin}
-use Rattle.ndc_event.proofs.SameKind.{same_kind}
+use Rattle.ndc_event.proofs.SameKind.{same_kind, same_name}
 use Rattle.ndc_event.proofs.kind.EventKind.is_same.Goals as goal
 
 -- kinds with the same name and attributes are one
@@ -8,7 +8,7 @@ pub returns : goal.returns
 returns c = (
   λ last.
       same_kind c.args.self.now c.args.other.now
-      (sym c.name.ensures ∙ c.is_same_text.ensures.0 c.if-not-is_same_text.false ∙ c.name-2.ensures)
+      (same_name c.args.self.now c.args.other.now (sym c.number.ensures ∙ c.if-number.false ∙ c.number-2.ensures))
       (sym c.first_name.ensures ∙ c.is_same_name.ensures.0 c.if-not-is_same_name.false ∙ c.first_name-2.ensures)
       (sym c.second_name.ensures ∙ c.is_same_name-2.ensures.0 c.if-not-is_same_name-2.false ∙ c.second_name-2.ensures)
       (sym c.next_run.ensures ∙ c.is_same_run.ensures.0 c.if-not-is_same_run.false ∙ c.next_run-2.ensures)
