@@ -12,6 +12,7 @@ use Rattle.ndc_domain.specs.Records.{IsRecord}
 use Rattle.ndc_domain.specs.Merge.{merged_record, brings}
 use Rattle.ndc_domain.specs.Laws.{Keeps}
 use Rattle.ndc_domain.proofs.Edits.{same_fields}
+use Rattle.ndc_domain.proofs.CallLaws.{not_false}
 
 or_comm : (a b : Bool) → (a || b) ≡ (b || a)
 or_comm true true = refl
@@ -34,10 +35,6 @@ or_left false b h = absurd (cc)
 or_right : (a b : Bool) → b ≡ true → (a || b) ≡ true
 or_right true b h = refl
 or_right false b h = h
-
-not_false : (a : Bool) → not a ≡ false → a ≡ true
-not_false true h = refl
-not_false false h = absurd (cc)
 
 neither : (a b : Bool) → (a || b) ≡ false → (a ≡ false) × (b ≡ false)
 neither true b h = absurd (cc)

@@ -1,5 +1,5 @@
 -- Batches that were read line by line are a set in range.
-use Rattle.std.proofs.Common.{◌≡◌, ℕ, suc, ◌+◌, ◌<◌, ◌≤◌, Bool, true, false, not, ◌==◌, nat_lt, List, [], ◌∷◌, map, length, inl, inr, Option, Some, None, Result, Ok, Err, IfOk, if◌then◌else◌, refl, sym, ap, ◌∙◌, subst, arith}
+use Rattle.std.proofs.Common.{◌≡◌, ℕ, suc, ◌+◌, ◌<◌, ◌≤◌, Bool, true, false, not, ◌==◌, nat_lt, List, [], ◌∷◌, map, length, inl, inr, Option, Some, None, Result, Ok, Err, IfOk, refl, sym, ap, ◌∙◌, subst, arith, if◌then◌else◌}
 use Rattle.std.specs.List.{AllByRecursion}
 use Rattle.std.proofs.lemmas.Bool.{and_parts, eqb-true, ltb-true, ltb-false}
 use Rattle.ndc_event.specs.Batch.{fault_of, is_carrier_fit, is_parent_fit}
@@ -27,6 +27,7 @@ use Rattle.ndc_dump.specs.Batches.{batch_on, batches_on, behind, is_behind, is_o
 use Rattle.ndc_dump.specs.Frame.{begins_batch}
 use Rattle.ndc_dump_causes.specs.Given.{AreRead}
 use Rattle.ndc_dump.specs.Lines.{without_end}
+use Rattle.ndc_dump_causes.proofs.NoCause.{went}
 
 -- a batch without a fault points back
 pub points-back : (b : Batch) → fault_of b ≡ None → PointsBack b
@@ -51,10 +52,6 @@ points-back b none key e = by b.parent b.carrier (passes b none).parent (passes 
         let parts = and_parts (c.version == b.key.version) (c.task + 1 == b.key.task) g in
         let next : c.task + 1 ≡ b.key.task = eqb-true (c.task + 1) b.key.task parts.1 in
         subst (λ (k : BatchKey). key_lt k b.key ≡ true) same (before-from c b.key (inr (eqb-true c.version b.key.version parts.0, omega (arith, next))))
-
-went : {A B E : Type 0} (r : Result A E) (f : A → Result B E) (x : B) → (r >>= f) ≡ Ok x → (a : A) × (r ≡ Ok a) × (f a ≡ Ok x)
-went (Ok a) f x e = (a, refl, e)
-went (Err error) f x e = absurd (cc)
 
 -- what is known of the batch of a line
 pub record IsLine (last : Option BatchKey) (b : Batch) : Type 0 where

@@ -1,10 +1,8 @@
 -- The last of some events.
-use Rattle.std.proofs.Common.{◌≡◌, ℕ, suc, ◌-◌, List, [], ◌∷◌, length, Some, slice_get, refl, sym, ap, ◌∙◌, arith}
+use Rattle.std.proofs.Common.{◌≡◌, ℕ, ◌-◌, List, [], ◌∷◌, length, Some, slice_get, refl, sym, ap, ◌∙◌, arith}
 use Rattle.ndc_event.specs.declared.batch.Event.{Event}
 use Rattle.ndc_model_sets.specs.Paths.{last_event, last_from}
-
-before-suc : (n : ℕ) → suc n - 1 ≡ n
-before-suc n = omega arith
+use Rattle.ndc_model_sets.proofs.EventLemmas.{before-suc}
 
 last-up : (first : Event) (events : List Event) (n : ℕ) (event : Event) → n ≡ length events → slice_get (first ∷ events) n ≡ Some event → last_from first events ≡ event
 last-up first [] n event e h = let at : slice_get (first ∷ []) 0 ≡ Some event = sym (ap (slice_get (first ∷ [])) e) ∙ h in cc

@@ -1,5 +1,5 @@
 -- The index of a set's events tells which copied signals have another event as their original.
-use Rattle.std.proofs.Common.{◌≡◌, ℕ, Bool, true, false, not, ◌&&◌, ◌||◌, ◌==◌, List, [], ◌∷◌, Option, Some, None, if◌then◌else◌, cond, refl, sym, ap, ◌∙◌, subst}
+use Rattle.std.proofs.Common.{◌≡◌, ℕ, Bool, true, false, not, ◌&&◌, ◌||◌, ◌==◌, List, [], ◌∷◌, Option, Some, None, cond, refl, sym, ap, ◌∙◌, subst, if◌then◌else◌}
 use Rattle.std.specs.List.{list_any}
 use Rattle.std.specs.Map.{lookup}
 use Rattle.std.specs.Str.{bytes_eq}
@@ -17,6 +17,7 @@ use Rattle.ndc_state.specs.Origins.{same_origin}
 use Rattle.ndc_dump_causes.specs.declared.originals.Signal.{Signal}
 use Rattle.ndc_dump_causes.specs.Causes.{has_unfit_copy, is_original, is_unfit_copy, misnames, names}
 use Rattle.ndc_dump_causes.specs.Originals.{both, has_unfit_among, is_unfit_among, is_unlike, joined, misfits, misfits_in, place_of, same_signal, signal_in, with_batches, with_event, with_events}
+use Rattle.ndc_model_sets.proofs.BranchLemmas.{run_id}
 
 -- ---- tests
 
@@ -32,7 +33,7 @@ or-same : (a : Bool) → (a || a) ≡ a
 or-same true = refl
 or-same false = refl
 
-or-false : (a : Bool) → (a || false) ≡ a
+pub or-false : (a : Bool) → (a || false) ≡ a
 or-false true = refl
 or-false false = refl
 
@@ -90,9 +91,6 @@ kind-unlike name input _ = refl
 
 origin : RunId → ℕ → ℕ → Origin
 origin run event version = record { run = run; event = event; version = version }
-
-run_id : ℕ → RunId
-run_id value = record { value = value }
 
 parts-origin : (a b : ℕ) (e f v w : ℕ) → a ≡ b → e ≡ f → v ≡ w → origin (run_id a) e v ≡ origin (run_id b) f w
 unfolding origin run_id

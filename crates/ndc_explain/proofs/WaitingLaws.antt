@@ -1,5 +1,5 @@
 -- What waits is what is a stray.
-use Rattle.std.proofs.Common.{◌≡◌, ℕ, Bool, true, false, not, ◌&&◌, ◌||◌, List, [], ◌∷◌, ◌++◌, inl, inr, map, Option, Some, None, is_some, is_none, if◌then◌else◌, refl, sym, ap, subst, ◌∙◌}
+use Rattle.std.proofs.Common.{◌≡◌, ℕ, Bool, true, false, not, ◌&&◌, ◌||◌, List, [], ◌∷◌, ◌++◌, inl, inr, map, Option, Some, None, is_some, is_none, refl, sym, ap, subst, ◌∙◌, if◌then◌else◌}
 use Rattle.std.specs.List.{list_any, cons_option, AllByRecursion}
 use Rattle.std.specs.Map.{lookup}
 use Rattle.std.proofs.lemmas.List.Folds.{list_any-append}
@@ -37,12 +37,9 @@ use Rattle.ndc_explain.specs.Explanation.{findings, waits}
 use Rattle.ndc_explain.specs.Signals.{Settlers, with_events, with_kind, with_listed}
 use Rattle.ndc_explain.specs.Standing.{with_optional, with_parent, with_parents, with_tip, with_tips}
 use Rattle.ndc_explain.proofs.LawProofs.{same_origins}
+use Rattle.ndc_dump_causes.proofs.KnownLemmas.{or-false}
 
 -- ---- tests
-
-or-false : (a : Bool) → (a || false) ≡ a
-or-false true = refl
-or-false false = refl
 
 or-swap : (a b : Bool) → (a || b) ≡ (b || a)
 or-swap true true = refl

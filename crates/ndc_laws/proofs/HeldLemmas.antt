@@ -1,5 +1,5 @@
 -- Clusters that have the same reports hold the same.
-use Rattle.std.proofs.Common.{◌≡◌, ℕ, Bool, true, false, ◌&&◌, ◌||◌, ◌==◌, nat_lt, List, [], ◌∷◌, ◌⊎◌, inl, inr, Option, Some, None, refl, sym, ◌∙◌, subst, ap, arith, true≢false, if◌then◌else◌}
+use Rattle.std.proofs.Common.{◌≡◌, ℕ, Bool, true, false, List, [], ◌∷◌, ◌⊎◌, inl, inr, Option, Some, None, refl, sym, ◌∙◌, subst, ap, arith, true≢false, if◌then◌else◌}
 use Rattle.std.proofs.lemmas.Bool.Decides.{nat_tests}
 use Rattle.ndc_script_types.specs.WellFormed.{IsCluster}
 use Rattle.ndc_script_types.specs.declared.script.Header.{Header}
@@ -9,15 +9,11 @@ use Rattle.ndc_model.specs.World.{World, cluster_at}
 use Rattle.ndc_laws_cells.proofs.Lists.{among-is, is-among}
 use Rattle.ndc_laws.specs.Promised.{HaveTheSameReports}
 use Rattle.ndc_progress.proofs.HeldLemmas.{same_is_one}
-use Rattle.ndc_progress.proofs.OrderLemmas.{not-before}
+use Rattle.ndc_progress.proofs.OrderLemmas.{not-before, before}
 use Rattle.ndc_progress.specs.Reports.{greater_report, held, report_lt, same_activity}
 use Rattle.ndc_progress.specs.declared.report.ActivityRef.{ActivityRef}
 use Rattle.ndc_progress.specs.declared.report.Report.{Report}
 use Rattle.ndc_model_sets.proofs.Lists.{Among}
-
--- the order of reports, by their numbers
-abbrev before : ℕ → ℕ → ℕ → ℕ → Bool
-before v b w c = nat_lt v w || ((v == w) && nat_lt b c)
 
 not-itself : (v b : ℕ) → before v b v b ≡ false
 not-itself v b = grind (arith, nat_tests)

@@ -11,7 +11,7 @@ use Rattle.ndc_script_types.specs.declared.script.Header.{Header}
 use Rattle.ndc_script_types.specs.declared.script.Line.{Line}
 use Rattle.ndc_domain.specs.Clusters.{name_of}
 use Rattle.ndc_laws_reached.proofs.LineLemmas.{line_kept}
-use Rattle.ndc_laws_reached.proofs.ScriptLemmas.{act-fits, act-short}
+use Rattle.ndc_laws_reached.proofs.ScriptLemmas.{act-fits, act-short, Fits}
 use Rattle.ndc_laws_reached.proofs.WorkflowApplyLemmas.{writing_keeps}
 use Rattle.ndc_laws.specs.Promised.{RunsReached, world_before}
 use Rattle.ndc_model.specs.Facts.{IsReached}
@@ -20,10 +20,6 @@ use Rattle.ndc_model.specs.Lines.{act_step, lines_of_act, plain_lines, ran_from,
 use Rattle.ndc_model.specs.World.{World, opening_world}
 use Rattle.ndc_model.proofs.FairLemmas.{opening_reached}
 use Rattle.ndc_model.proofs.ListLemmas.{all-append, all-listed}
-
--- a line that is well-formed
-abbrev Fits : Header → Line → Type 0
-Fits header line = IsWellFormedAct header line.act
 
 -- the first lines, with each burst taken apart, are well-formed
 pub front-fits : (header : Header) (front back : List Line) → AllByRecursion (Fits header) (front ++ back) → AllByRecursion (Fits header) (plain_lines front)

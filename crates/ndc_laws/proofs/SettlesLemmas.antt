@@ -1,10 +1,9 @@
 -- Reapplication by a writer that has learned all settles the workflow.
 use Rattle.std.proofs.Common.{◌≡◌, ◌<◌, ◌≤◌, ◌+◌, ◌*◌, ℕ, Bool, true, false, List, [], ◌∷◌, ◌++◌, map, ◌⊎◌, inl, inr, Option, Some, None, Ok, refl, sym, ◌∙◌, subst, ap, arith, true≢false, if◌then◌else◌}
 use Rattle.std.specs.List.{cons_option}
-use Rattle.ndc_script_types.specs.WellFormed.{IsCluster, IsName}
+use Rattle.ndc_script_types.specs.WellFormed.{IsCluster}
 use Rattle.ndc_script_types.specs.declared.script.Header.{Header}
 use Rattle.ndc_model_cells.specs.Cells.{Cell, arrived_of, learned_of}
-use Rattle.ndc_model_cells.specs.Places.{is_of}
 use Rattle.ndc_model_cells.specs.Shards.{shard_of}
 use Rattle.ndc_model_cells.specs.Writing.{Entry, alone, batch_below, may_write, next_key, reapplication_below, reapplication_by, reapplication_of, with_all_written, with_written}
 use Rattle.ndc_model_cells.proofs.PlaceLemmas.{written_arrives}
@@ -12,7 +11,7 @@ use Rattle.ndc_domain.specs.declared.clusters.ClusterNo.{ClusterNo}
 use Rattle.ndc_event.specs.declared.batch.Batch.{Batch}
 use Rattle.ndc_event.specs.declared.key.RunId.{RunId}
 use Rattle.ndc_event.specs.declared.kind.EventKind.{EventKind}
-use Rattle.ndc_laws_reached.proofs.WrittenLemmas.{cell-is, names-of, own-names}
+use Rattle.ndc_laws_reached.proofs.WrittenLemmas.{cell-is, own-names}
 use Rattle.ndc_laws_reached.specs.Writing.{applied_in, count_in, with_cell}
 use Rattle.ndc_laws_reached.specs.Settled.{ApplyingSettles, IsOwnSettled}
 use Rattle.ndc_laws_reached.proofs.JoinedLemmas.{first-back}
@@ -23,7 +22,6 @@ use Rattle.ndc_laws.proofs.AncestorLemmas.{arrived-part, arrived-set}
 use Rattle.ndc_laws.proofs.StrayLemmas.{no-stray}
 use Rattle.ndc_model.specs.Facts.{IsReached}
 use Rattle.ndc_model.specs.Fair.{written_of}
-use Rattle.ndc_model.specs.Moves.{all_written}
 use Rattle.ndc_model.specs.World.{World, cell_at, cell_of, home_at}
 use Rattle.ndc_reapply.specs.Reapplied.{copy_of, reapplied}
 use Rattle.ndc_reapply.specs.declared.stray.Stray.{Stray}
@@ -34,17 +32,16 @@ use Rattle.ndc_model_sets.specs.Origins.{origins_in, signal_of, signals_in}
 use Rattle.ndc_model_sets.specs.Sets.{Has, arrived}
 use Rattle.ndc_model_sets.specs.Sound.{IsSound}
 use Rattle.ndc_model_sets.proofs.ArrivalLemmas.{equal_sets}
-use Rattle.ndc_model_sets.proofs.BranchLemmas.{has-among}
 use Rattle.ndc_model_sets.proofs.ForkLemmas.{among-left, among-right}
 use Rattle.ndc_model_sets.proofs.LearnedLemmas.{closed_whole, learned-reaches, reaches-has}
-use Rattle.ndc_model_sets.proofs.Lists.{Among, all-among, among-map, filter-among}
+use Rattle.ndc_model_sets.proofs.Lists.{Among, among-map}
 use Rattle.ndc_state.specs.Value.{StateValue}
 use Rattle.ndc_state.specs.Written.{events_from, failover_close, wake}
-use Rattle.ndc_text.specs.Ranges.{InRange}
 use Rattle.ndc_laws_cells.specs.Adding.{MayAdd}
 use Rattle.ndc_laws_cells.specs.Entries.{AreFew, IsWrite}
 use Rattle.ndc_laws_cells.proofs.MayLemmas.{new-above, tip-all}
 use Rattle.ndc_laws_cells.proofs.ReapplyLemmas.{reapplication-writes}
+use Rattle.ndc_laws_reached.proofs.WorkflowApplyLemmas.{tip-names}
 
 -- where there is none, there is none where the run is open
 none-at-all : (o : Option Batch) (batches : List Batch) (list : List Stray) → list ≡ [] → NoneWhereOpen o batches list
@@ -110,13 +107,6 @@ module _ (header : Header) (lines : ℕ) (w : World) (is : IsReached header line
       equal_sets held all (arrived-set header lines w is cluster known at below b.domain b.workflow) sound.set (arrived-part header lines w is cluster known at below b.domain b.workflow)
       (λ x has. reaches-has held x (learned-reaches held x (arrived-set header lines w is cluster known at below b.domain b.workflow) (subst (λ l. Has l x) (sym whole) has)))
 
-  tip-names : (tip : Batch) → Has all tip → IsName b.domain × IsName b.workflow
-  tip-names tip has =
-      let p = filter-among (is_of b.domain b.workflow) (all_written header at w) tip (has-among all tip has) in
-      let n = names-of b.domain b.workflow tip p.0 in
-      let r = all-among InRange all tip (is.ranges b.domain b.workflow) (has-among all tip has) in
-      (subst IsName n.0 r.domain, subst IsName n.1 r.workflow)
-
   -- where nothing is written there is no stray
   unchanged : HasNoStray part → IsOwnSettled header cluster b (with_cell cluster at cell w)
   unchanged none =
@@ -166,7 +156,7 @@ module _ (header : Header) (lines : ℕ) (w : World) (is : IsReached header line
 
         by : (running : Bool) → state.running ≡ running → IsOwnSettled header cluster b (with_cell cluster at (with_all_written (entries state.running) cell) w)
         by true running =
-            let n = tip-names tip (tip-all all part version adds tip found) in
+            let n = tip-names header lines w is b tip (tip-all all part version adds tip found) in
             let e : reapplication_below b.domain b.workflow version (Some tip) part (x ∷ list) ≡ alone new ∷ [] = ap entries running in
             let r = reapplication-writes all part version adds few b.domain b.workflow n.0 n.1 (Some tip) found (x ∷ list) are (alone new) [] e in
             subst (λ l. IsOwnSettled header cluster b (with_cell cluster at (with_all_written l cell) w)) (sym (ap entries running)) (written r.2)

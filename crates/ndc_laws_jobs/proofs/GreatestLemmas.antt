@@ -1,5 +1,5 @@
 -- What is held of activities by the greatest report of each, where more reports are told or taken over.
-use Rattle.std.proofs.Common.{◌≡◌, Bool, true, false, cond, not, ◌||◌, List, [], ◌∷◌, ◌++◌, append-nil, append_assoc, map, count_by, Some, None, refl, sym, ap, subst, ◌∙◌, true≢false, if◌then◌else◌, ℕ, ◌==◌, nat_lt, ◌&&◌}
+use Rattle.std.proofs.Common.{◌≡◌, Bool, true, false, cond, not, List, [], ◌∷◌, ◌++◌, append-nil, append_assoc, map, count_by, Some, None, refl, sym, ap, subst, ◌∙◌, true≢false, ℕ, ◌&&◌, if◌then◌else◌}
 use Rattle.std.specs.List.{AllByRecursion, filter}
 use Rattle.ndc_event.specs.declared.name.Name.{Name}
 use Rattle.ndc_progress.specs.Keyed.{AreOnce}
@@ -7,11 +7,7 @@ use Rattle.ndc_progress.specs.Reports.{activities_of, greater_report, greatest_o
 use Rattle.ndc_progress.specs.declared.report.ActivityRef.{ActivityRef}
 use Rattle.ndc_progress.specs.declared.report.Report.{Report}
 use Rattle.ndc_progress.proofs.HeldLemmas.{other_flip, same_is_one, self_same}
-use Rattle.ndc_progress.proofs.OrderLemmas.{held_greatest, merged_once, with_once, greater-of_three}
-
--- whether numbers come before others: a version and a beat
-abbrev before : ℕ → ℕ → ℕ → ℕ → Bool
-before v b w c = nat_lt v w || ((v == w) && nat_lt b c)
+use Rattle.ndc_progress.proofs.OrderLemmas.{held_greatest, merged_once, with_once, greater-of_three, before}
 
 -- the greater of two reports of an activity is of it
 of-both : (a : ActivityRef) (x y : Report) → a ≡ x.activity → a ≡ y.activity → a ≡ (greater_report x (Some y)).activity

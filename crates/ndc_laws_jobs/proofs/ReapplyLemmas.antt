@@ -1,7 +1,7 @@
 -- Strays may be applied again, in one workflow after the other.
 use Rattle.std.proofs.Common.{◌≡◌, ℕ, ◌<◌, ◌≤◌, ◌+◌, ◌*◌, Bool, true, false, List, [], ◌∷◌, length, map, inl, inr, Option, Some, None, Result, Ok, Err, refl, sym, ◌∙◌, subst, ap, arith}
 use Rattle.std.specs.List.{AllByRecursion}
-use Rattle.ndc_script_types.specs.WellFormed.{IsCluster, IsName}
+use Rattle.ndc_script_types.specs.WellFormed.{IsCluster}
 use Rattle.ndc_script_types.specs.declared.script.Header.{Header}
 use Rattle.ndc_model_cells.specs.declared.job.Job.TheVariants.{Reapply}
 use Rattle.ndc_model_cells.specs.Cells.{Cell, learned_of}
@@ -24,21 +24,19 @@ use Rattle.ndc_laws_reached.proofs.RoundLemmas.{applied-tables, has-cell, owns-s
 use Rattle.ndc_laws_reached.proofs.WriterLemmas.{WritesWith, are-few, may-add, may-parts}
 use Rattle.ndc_model.specs.Facts.{IsReached}
 use Rattle.ndc_model.specs.Fair.{written_of}
-use Rattle.ndc_model.specs.Moves.{all_reapply, all_written}
+use Rattle.ndc_model.specs.Moves.{all_reapply}
 use Rattle.ndc_model.specs.World.{World, cell_at, home_at, shards_of}
 use Rattle.ndc_model.specs.Conditions.{MayDoAll}
 use Rattle.ndc_model_sets.specs.Branches.{workflow_tip}
 use Rattle.ndc_model_sets.specs.Current.{strays}
-use Rattle.ndc_model_sets.specs.Sets.{Has}
-use Rattle.ndc_model_sets.proofs.BranchLemmas.{has-among}
-use Rattle.ndc_model_sets.proofs.Lists.{Among, all-among, all-from, filter-among}
-use Rattle.ndc_text.specs.Ranges.{InRange}
+use Rattle.ndc_model_sets.proofs.Lists.{Among, all-among, all-from}
 use Rattle.ndc_model_cells.specs.Allowed.{HasRoom, IsAllowed, MayReapply, MayWriteAll}
 use Rattle.ndc_laws_cells.proofs.MayLemmas.{tip-all}
 use Rattle.ndc_laws_cells.proofs.ReapplyLemmas.{reapplication-writes}
 use Rattle.ndc_laws_jobs.proofs.ComeLemmas.{allowed-more}
 use Rattle.ndc_laws_jobs.proofs.EntryLemmas.{entry-may}
 use Rattle.ndc_laws_jobs.proofs.RoomLemmas.{has-room}
+use Rattle.ndc_laws_reached.proofs.WorkflowApplyLemmas.{tip-names}
 
 -- one workflow
 module _ (header : Header) (lines : ℕ) (w : World) (is : IsReached header lines w) (cluster : ClusterNo) (known : IsCluster header cluster) (b : Batch)
@@ -58,14 +56,6 @@ module _ (header : Header) (lines : ℕ) (w : World) (is : IsReached header line
   abbrev part : List Batch
   part = learned_of b.domain b.workflow cell
 
-  -- the tip's names are those of the workflow
-  tip-names : (tip : Batch) → Has all tip → IsName b.domain × IsName b.workflow
-  tip-names tip has =
-      let p = filter-among (is_of b.domain b.workflow) (all_written header at w) tip (has-among all tip has) in
-      let n = names-of b.domain b.workflow tip p.0 in
-      let r = all-among InRange all tip (is.ranges b.domain b.workflow) (has-among all tip has) in
-      (subst IsName n.0 r.domain, subst IsName n.1 r.workflow)
-
   apply-may : MayWriteAll b.domain b.workflow (reapplication_of (home_at header cluster w) b.domain b.workflow (cell_at cluster (shard_of b.domain b.workflow header.shards) w)) (cell_at cluster (shard_of b.domain b.workflow header.shards) w)
   unfolding reapplication_of
   apply-may = by (may_write home b.domain b.workflow cell) refl
@@ -75,7 +65,7 @@ module _ (header : Header) (lines : ℕ) (w : World) (is : IsReached header line
       entries-may version with tip found [] e = tt
       entries-may version with tip found (entry ∷ others) e =
           let may = may-add header lines w is cluster known b.domain b.workflow below version with in
-          let n = tip-names tip (tip-all all part version may tip found) in
+          let n = tip-names header lines w is b tip (tip-all all part version may tip found) in
           let r = reapplication-writes all part version may (are-few header lines w is cluster known b.domain b.workflow below version with) b.domain b.workflow n.0 n.1 (Some tip) found (strays part) refl entry others e in
           subst (λ (l : List Entry). MayWriteAll b.domain b.workflow (entry ∷ l) cell) (sym r.0) (entry-may header lines w is cluster known b.domain b.workflow below version 0 entry with.by_record r.2, tt)
 

@@ -1,7 +1,6 @@
 -- Settled clusters that share all domains are the same.
-use Rattle.std.proofs.Common.{◌≡◌, ℕ, zero, suc, ◌+◌, ◌<◌, Bool, true, false, ◌&&◌, ◌==◌, List, [], ◌∷◌, ◌++◌, Option, option_to_list, length, map, slice_index_or, if◌then◌else◌, refl, sym, ◌∙◌, subst, ap, arith}
+use Rattle.std.proofs.Common.{◌≡◌, ℕ, zero, suc, ◌+◌, ◌<◌, Bool, true, false, List, [], ◌∷◌, ◌++◌, Option, option_to_list, length, map, slice_index_or, refl, sym, ◌∙◌, subst, ap, arith, if◌then◌else◌}
 use Rattle.std.specs.List.{AllByRecursion, flat_map, fold, list_all, list_any, range_with_len}
-use Rattle.std.proofs.lemmas.Bool.Decides.{Decides-eqb}
 use Rattle.std.proofs.lemmas.List.{map-append}
 use Rattle.std.proofs.lemmas.List.Concat.{flat_map-cons}
 use Rattle.ndc_script_types.specs.WellFormed.{IsCluster}
@@ -26,11 +25,7 @@ use Rattle.ndc_world_summary.specs.declared.parts.Totals.{Totals}
 use Rattle.ndc_world_summary.specs.Summaries.{added, are_alike, are_one_table, cells_of, learned_with, messages_of, part_of, same_table, totals_in, totals_of, tables_alone, with_workflow, workflows_in}
 use Rattle.ndc_world_summary.specs.Same.{same_batches}
 use Rattle.ndc_world_summary.proofs.BatchLemmas.{batches_decide}
-use Rattle.ndc_world_summary.proofs.TableLemmas.{table_decides}
-
-both-true : (a b : Bool) → a ≡ true → b ≡ true → (a && b) ≡ true
-both-true true b first second = second
-both-true false b first second = first
+use Rattle.ndc_world_summary.proofs.TableLemmas.{table_decides, both-true}
 
 -- parts that are all the same, and a beginning that is
 fold-same : (parts : List Totals) (start : Totals) → start.same ≡ true → AllByRecursion (λ (part : Totals). part.same ≡ true) parts → (fold added start parts).same ≡ true

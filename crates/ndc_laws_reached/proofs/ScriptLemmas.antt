@@ -22,7 +22,7 @@ use Rattle.ndc_model.specs.Sometime.{IsReachedSometime}
 use Rattle.ndc_laws_reached.proofs.LineLemmas.{line_kept}
 
 -- a line that is well-formed
-abbrev Fits : Header → Line → Type 0
+abbrev pub Fits : Header → Line → Type 0
 Fits header line = IsWellFormedAct header line.act
 
 -- the lines that stand for a well-formed act are well-formed

@@ -30,6 +30,15 @@ use Rattle.ndc_laws_cells.specs.Entries.{IsWrite}
 use Rattle.ndc_laws_cells.proofs.MayLemmas.{tip-all}
 use Rattle.ndc_laws_cells.proofs.ReapplyLemmas.{reapplication-writes}
 
+-- the names of a batch that was written to a workflow are those of the workflow
+pub tip-names : (header : Header) (lines : ℕ) (w : World) → IsReached header lines w → (b tip : Batch) → Has (written_of header b.domain b.workflow w) tip → IsName b.domain × IsName b.workflow
+tip-names header lines w is b tip has =
+    let all : List Batch = written_of header b.domain b.workflow w in
+    let p = filter-among (is_of b.domain b.workflow) (all_written header (shard_of b.domain b.workflow header.shards) w) tip (has-among all tip has) in
+    let n = names-of b.domain b.workflow tip p.0 in
+    let r = all-among InRange all tip (is.ranges b.domain b.workflow) (has-among all tip has) in
+    (subst IsName n.0 r.domain, subst IsName n.1 r.workflow)
+
 module _ (header : Header) (lines : ℕ) (w : World) (is : IsReached header lines w) (cluster : ClusterNo) (known : IsCluster header cluster) (b : Batch)
     (below : shard_of b.domain b.workflow header.shards < header.shards) (room : count_in header b.domain b.workflow w + 1 ≤ 2 * lines) where
   abbrev at : ℕ
@@ -52,14 +61,6 @@ module _ (header : Header) (lines : ℕ) (w : World) (is : IsReached header line
     lone : entry.second ≡ None
     write : IsWrite all part b.domain b.workflow version 0 entry
 
-  -- the tip's names are those of the workflow
-  tip-names : (tip : Batch) → Has all tip → IsName b.domain × IsName b.workflow
-  tip-names tip has =
-      let p = filter-among (is_of b.domain b.workflow) (all_written header at w) tip (has-among all tip has) in
-      let n = names-of b.domain b.workflow tip p.0 in
-      let r = all-among InRange all tip (is.ranges b.domain b.workflow) (has-among all tip has) in
-      (subst IsName n.0 r.domain, subst IsName n.1 r.workflow)
-
   applies : (entry : Entry) (others : List Entry) → reapplication_of (home_at header cluster w) b.domain b.workflow cell ≡ entry ∷ others → Applies entry others
   unfolding reapplication_of
   applies entry others e = by (may_write (home_at header cluster w) b.domain b.workflow cell) refl e
@@ -69,7 +70,7 @@ module _ (header : Header) (lines : ℕ) (w : World) (is : IsReached header line
       below-tip version with None tip h = absurd (cc)
       below-tip version with (Some tip) found h =
           let may = may-add header lines w is cluster known b.domain b.workflow below version with in
-          let n = tip-names tip (tip-all all part version may tip found) in
+          let n = tip-names header lines w is b tip (tip-all all part version may tip found) in
           let r = reapplication-writes all part version may (are-few header lines w is cluster known b.domain b.workflow below version with) b.domain b.workflow n.0 n.1 (Some tip) found (strays part) refl entry others h in
           record { version = version; with = with; alone = r.0; lone = r.1; write = r.2 }
 

@@ -42,7 +42,7 @@ Rise-filter p (c ∷ cs) rise =
     filter-cases Rise p c cs (λ _. (All-filter (λ x. key_lt c.key x.key ≡ true) p cs rise.0, Rise-filter p cs rise.1)) (λ _. Rise-filter p cs rise.1)
 
 -- run ids of one number are one
-run_id : ℕ → RunId
+pub run_id : ℕ → RunId
 run_id value = record { value = value }
 
 value-run : (v w : ℕ) → v ≡ w → run_id v ≡ run_id w

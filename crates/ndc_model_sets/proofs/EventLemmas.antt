@@ -9,7 +9,7 @@ last-up first [] (suc i) event n h = absurd (cc)
 last-up first (next ∷ events) zero event n h = absurd (cc)
 last-up first (next ∷ events) (suc i) event n h = last-up next events i event (omega (arith, n)) h
 
-before-suc : (n : ℕ) → suc n - 1 ≡ n
+pub before-suc : (n : ℕ) → suc n - 1 ≡ n
 before-suc n = omega arith
 
 -- the event at the last place has the last id

@@ -38,7 +38,7 @@ none-wanted [] = refl
 none-wanted (b ∷ batches) = ap (walk_over b) (none-wanted batches)
 
 -- a key that comes before another is not it
-other-key : (low high : BatchKey) → key_lt low high ≡ true → key_eq high low ≡ false
+pub other-key : (low high : BatchKey) → key_lt low high ≡ true → key_eq high low ≡ false
 other-key low high l = by (key_eq high low) refl
   where
     by : (t : Bool) → key_eq high low ≡ t → key_eq high low ≡ false

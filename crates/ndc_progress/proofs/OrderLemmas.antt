@@ -10,7 +10,7 @@ use Rattle.ndc_progress.specs.declared.report.Report.{Report}
 use Rattle.ndc_progress.proofs.HeldLemmas.{other_flip, same_is_one, self_same}
 
 -- whether numbers come before others: a version and a beat
-abbrev before : ℕ → ℕ → ℕ → ℕ → Bool
+abbrev pub before : ℕ → ℕ → ℕ → ℕ → Bool
 before v b w c = nat_lt v w || ((v == w) && nat_lt b c)
 
 -- what comes before what comes before another comes before that

@@ -1,5 +1,5 @@
 -- The batches that lead to one, through parents and carriers.
-use Rattle.std.proofs.Common.{◌≡◌, ◌+◌, ◌<◌, Bool, true, false, List, [], ◌∷◌, ◌++◌, length, reverse, Option, Some, None, if◌then◌else◌, refl, sym, ◌∙◌, subst, ap, arith, length-append}
+use Rattle.std.proofs.Common.{◌≡◌, ◌+◌, ◌<◌, Bool, true, false, List, [], ◌∷◌, ◌++◌, length, reverse, Option, Some, None, refl, sym, ◌∙◌, subst, ap, arith, length-append, if◌then◌else◌}
 use Rattle.std.specs.Prelude.{IfSome}
 use Rattle.std.proofs.lemmas.List.{append-nil, append_assoc, reverse-append}
 use Rattle.ndc_event.specs.Key.{key_eq, key_lt}
@@ -9,8 +9,8 @@ use Rattle.ndc_model_cells.specs.Cells.{ancestors_down, ancestors_over, missing_
 use Rattle.ndc_model_sets.specs.Paths.{Walk, is_wanted}
 use Rattle.ndc_model_sets.specs.Reading.{named}
 use Rattle.ndc_model_sets.specs.Sets.{ComeAfter, Has, IsSet, PointsBack, Rise, batch_at, earlier}
-use Rattle.ndc_model_sets.proofs.KeyLemmas.{before-irrefl, key_eq-self, same-keys}
-use Rattle.ndc_model_sets.proofs.PathLemmas.{GoesOn, from}
+use Rattle.ndc_model_sets.proofs.KeyLemmas.{key_eq-self}
+use Rattle.ndc_model_sets.proofs.PathLemmas.{GoesOn, from, other-key}
 use Rattle.ndc_model_sets.proofs.SetLemmas.{after-trans, at-cases, found-all, found-has, found-key}
 use Rattle.ndc_resend.specs.Serving.{chain_to}
 
@@ -31,13 +31,6 @@ goes_on-over b more one two g = by (is_wanted two.wanted b) refl
 pub none-wanted : (batches : List Batch) → ancestors_down batches (from None) ≡ from None
 none-wanted [] = refl
 none-wanted (b ∷ batches) = ap (ancestors_over b) (none-wanted batches)
-
-other-key : (low high : BatchKey) → key_lt low high ≡ true → key_eq high low ≡ false
-other-key low high l = by (key_eq high low) refl
-  where
-    by : (t : Bool) → key_eq high low ≡ t → key_eq high low ≡ false
-    by true e = absurd (before-irrefl low (subst (λ (k : BatchKey). key_lt low k ≡ true) (same-keys high low e) l))
-    by false e = e
 
 passed : (b : Batch) (key : BatchKey) → key_eq b.key key ≡ false → ancestors_over b (from (Some key)) ≡ from (Some key)
 passed b key e = ap (λ t. if t then record { wanted = earlier b; path = b ∷ [] } else from (Some key)) e

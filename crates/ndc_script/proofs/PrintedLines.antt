@@ -1,5 +1,5 @@
 -- Printed lines are kept as they are.
-use Rattle.std.proofs.Common.{◌≡◌, ℕ, ◌+◌, ◌≤◌, Bool, true, false, ◌&&◌, not, List, [], ◌∷◌, length, nat_le, Option, Some, None, if◌then◌else◌, append_assoc, refl, ap, ◌∙◌, arith}
+use Rattle.std.proofs.Common.{◌≡◌, ℕ, ◌+◌, ◌≤◌, Bool, true, false, ◌&&◌, not, List, [], ◌∷◌, length, nat_le, Option, Some, None, append_assoc, refl, ap, ◌∙◌, arith, if◌then◌else◌}
 use Rattle.std.specs.List.{list_all, cons_option}
 use Rattle.std.proofs.lemmas.Bool.{le-leb, and_parts, and_from}
 use Rattle.ndc_event.specs.Name.{is_name}
@@ -7,6 +7,7 @@ use Rattle.ndc_script_words.specs.declared.text.Reading.TheVariants.{Readable, U
 use Rattle.ndc_script_words.specs.Text.{KeptLine, words_of, is_line_byte, is_short, is_comment, is_skipped, reading_of, kept_line, kept_from, text_lines}
 use Rattle.ndc_script_types.specs.Print.{spaced, lines_text}
 use Rattle.ndc_script.proofs.PrintedWords.{AreNames, name_parts, words_of-spaced, line_bytes-spaced, text_lines-line}
+use Rattle.ndc_script.proofs.PrintedMembers.{not_false}
 
 -- words that make a line: there are some, all are names, and the first begins no comment
 abbrev pub is_line : List (List ℕ) → Bool
@@ -26,10 +27,6 @@ names_are_short [] h = refl
 names_are_short (word ∷ words) h =
     let p : (is_name word ≡ true) × AreNames words = and_parts (is_name word) (list_all is_name words) h in
     and_from (is_short word) (list_all is_short words) (le-leb (length word) 200 ((name_parts word p.0).1)) (names_are_short words p.1)
-
-not_false : (b : Bool) → not b ≡ true → b ≡ false
-not_false true h = absurd (cc)
-not_false false h = refl
 
 -- what is kept of a line, by whether its bytes are allowed and what its words are
 kept_by : ℕ → Bool → List (List ℕ) → Option KeptLine

@@ -25,7 +25,7 @@ distinct : List ℕ → Bool
 distinct [] = true
 distinct (n ∷ ns) = not (list_any (λ m. m == n) ns) && distinct ns
 
-not_false : (b : Bool) → not b ≡ true → b ≡ false
+pub not_false : (b : Bool) → not b ≡ true → b ≡ false
 not_false true h = absurd (cc)
 not_false false h = refl
 

@@ -1,5 +1,5 @@
 -- Actions that are read are well-formed: their names are names, and the last alone closes the run.
-use Rattle.std.proofs.Common.{◌≡◌, ℕ, zero, suc, ◌≤◌, Bool, true, false, List, [], ◌∷◌, length, Option, Some, None, Result, Ok, Err, IfOk, refl, sym, arith}
+use Rattle.std.proofs.Common.{◌≡◌, ℕ, zero, suc, ◌≤◌, Bool, true, false, List, [], ◌∷◌, length, Option, Some, None, Ok, IfOk, refl, arith}
 use Rattle.std.specs.List.{AllByRecursion as ByRecursion}
 use Rattle.std.proofs.lemmas.List.Elements.{All-from_recursion}
 use Rattle.ndc_command.specs.declared.command.Action.{Action}
@@ -18,6 +18,7 @@ use Rattle.ndc_script_words.specs.Verbs.{action_verb}
 use Rattle.ndc_script_types.specs.WellFormed.{IsName, IsWellFormedAction, closes, closes_last, AreWellFormedActions}
 use Rattle.ndc_script_words.proofs.Fits.{after}
 use Rattle.ndc_script_words.proofs.Names.{named_fits}
+use Rattle.ndc_script_read.proofs.Short.{weaker}
 
 -- a group as it should be: where it closes the run, nothing stands behind it
 record FitsBefore (words : List (List ℕ)) (group : Group) : Type 0 where
@@ -96,10 +97,6 @@ more_fit : (line : ℕ) (words : List (List ℕ)) (group : Group) (actions : Lis
 more_fit line words group [] true is fits ok fit = record { names = (fits.names, tt); last = refl }
 more_fit line words group (next ∷ actions) true is fits ok fit = absurd (cc (none_behind line group.operands words (fits.last is), ok))
 more_fit line words group actions false is fits ok fit = record { names = (fits.names, fit.names); last = open_first group.action actions is fit.last }
-
-weaker : {A E : Type 0} (r : Result A E) (P : A → Type 0) (x : A) → IfOk r P → r ≡ Ok x → P x
-weaker (Ok y) P x p is = let same : y ≡ x = cc in rw (sym same) p
-weaker (Err e) P x p is = absurd (cc)
 
 actions_fit : (line operands : ℕ) (words : List (List ℕ)) → IfOk (actions_behind line operands words) Fit
 unfolding actions_behind

@@ -12,13 +12,13 @@ use Rattle.ndc_state.specs.Laws.{AreApart}
 use Rattle.ndc_model_cells.specs.Writing.{first_batch, greatest_task, state_under}
 use Rattle.ndc_model_sets.specs.Branches.{same_run, workflow_tip}
 use Rattle.ndc_model_sets.specs.Origins.{origins_in}
-use Rattle.ndc_model_sets.specs.Sets.{Has, arrived}
+use Rattle.ndc_model_sets.specs.Sets.{arrived}
 use Rattle.ndc_model_sets.specs.Sound.{IsCopyFit, IsSound}
 use Rattle.ndc_model_sets.specs.Writing.{CopiesFitWith, CopiesFitBothWays}
 use Rattle.ndc_model_sets.proofs.BranchLemmas.{same-run}
-use Rattle.ndc_model_sets.proofs.SetLemmas.{at-cases}
 use Rattle.ndc_model_sets.proofs.WriteLaws.{beginning_keeps_sound}
 use Rattle.ndc_shard_entries.specs.Example.{begun, decided}
+use Rattle.ndc_shard_runs.proofs.ExampleLemmas.{empty-sound, only}
 
 -- the kind is no copied signal
 abbrev IsNoCopy : Event → Type 0
@@ -41,19 +41,6 @@ plain-decided = (
 plain-begun : AllByRecursion IsNoCopy begun.events
 plain-begun = (λ n i o e. absurd (cc), (λ n i o e. absurd (cc), tt))
 
-empty-sound : IsSound []
-empty-sound = record {
-  set = record { ordered = tt; back = tt };
-  closed = λ b has. absurd (cc);
-  faultless = λ b has. absurd (cc);
-  parents = λ b before key has e at. absurd (cc);
-  chains = λ one two has other run version less. absurd (cc);
-  origins = λ b has. absurd (cc);
-  copies = λ b other has there. absurd (cc);
-  replays = λ b has. absurd (cc);
-  carriers = λ b carrier key has e at. absurd (cc);
-}
-
 one-apart : AreApart (origins_in decided.run decided.events)
 one-apart i j d l m e = let no : j < 1 = m in absurd (omega (arith, l, no))
 
@@ -65,12 +52,6 @@ unfolding Rattle.ndc_state.specs.Table.row
 decided-sound =
     beginning_keeps_sound [] decided empty-sound (record { fresh = refl; faultless = refl; parent = refl; alone = λ b has. absurd (cc); carrier = λ key e. absurd (cc) })
     one-apart (record { own = no-copies decided.run decided.events decided.events plain-decided; others = λ b has. absurd (cc) }) refl
-
-only : (b c : Batch) → Has (c ∷ []) b → b ≡ c
-only b c = at-cases (λ o. o ≡ Some b → b ≡ c) c [] b.key (λ e h. sym (same h)) (λ e h. absurd (cc))
-  where
-    same : {X : Type 0} {x y : X} → Some x ≡ Some y → x ≡ y
-    same e = cc
 
 begun-fits : CopiesFitWith (decided ∷ []) begun
 begun-fits = record {

@@ -3,6 +3,7 @@ use Rattle.std.proofs.Common.{◌≡◌, ℕ, zero, suc, ◌-◌, List, [], ◌�
 use Rattle.ndc_model_cells.specs.Writing.{goes_on_as}
 use Rattle.ndc_event.specs.declared.kind.EventKind.{EventKind}
 use Rattle.ndc_event.specs.declared.kind.EventKind.TheVariants.{WorkflowExecutionContinuedAsNew}
+use Rattle.ndc_model_sets.proofs.EventLemmas.{before-suc}
 
 goes-behind : (first next : EventKind) (kinds : List EventKind) → goes_on_as (first ∷ next ∷ kinds) ≡ goes_on_as (next ∷ kinds)
 goes-behind (WorkflowExecutionContinuedAsNew _ _) next kinds = refl
@@ -13,9 +14,6 @@ goes-up first [] zero kind n h = let same : first ≡ kind = cc in ap (λ (k : E
 goes-up first [] (suc i) kind n h = absurd (cc)
 goes-up first (next ∷ kinds) zero kind n h = absurd (cc)
 goes-up first (next ∷ kinds) (suc i) kind n h = goes-behind first next kinds ∙ goes-up next kinds i kind (omega (arith, n)) h
-
-before-suc : (n : ℕ) → suc n - 1 ≡ n
-before-suc n = omega arith
 
 -- the kind at the last place says it
 pub goes-at : (kinds : List EventKind) (kind : EventKind) → slice_get kinds (length kinds - 1) ≡ Some kind → goes_on_as kinds ≡ goes_on_as (kind ∷ [])

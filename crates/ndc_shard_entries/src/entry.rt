@@ -61,12 +61,4 @@ impl Entry {
     {
         self.second.as_ref()
     }
-
-    /// The batch, and the one that it carries, given back.
-    pub fn into_parts(self) -> (Batch, Option<Batch>)
-        ensures { result ≡ (self.batch, self.second) }
-    {
-        let Entry { batch, second } = self;
-        (batch, second)
-    }
 }

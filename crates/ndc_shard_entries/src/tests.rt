@@ -113,9 +113,8 @@ fn a_command_is_written(rt: HostRuntime) -> Result<(), Fail> {
     let command = continuing(alloc)?;
     match command_entry(alloc, &domain, &workflow, &command, LIMIT, 1, &runs) {
         Ok(entry) => {
-            let (batch, second) = entry.into_parts();
-            assert_eq!(rt; outline(&batch), (1, 2, 2));
-            assert_eq!(rt; second.as_ref().map(outline), Some((1, 3, 2)));
+            assert_eq!(rt; outline(entry.batch()), (1, 2, 2));
+            assert_eq!(rt; entry.second().map(outline), Some((1, 3, 2)));
         }
         Err(_) => assert!(rt; false),
     }

@@ -3,18 +3,15 @@ use Rattle.std.proofs.Common.{◌≡◌, Bool, true, false, not, List, [], ◌�
 use Rattle.std.specs.List.{AllByRecursion, filter, flat_map}
 use Rattle.std.specs.declared.cmp.Ordering.TheVariants.{Less}
 use Rattle.ndc_domain.specs.Records.{names_cmp}
-use Rattle.ndc_domain.proofs.Order.{less_irrefl}
 use Rattle.ndc_event.specs.declared.batch.Batch.{Batch}
 use Rattle.ndc_event.specs.declared.name.Name.{Name}
-use Rattle.ndc_model_cells.specs.declared.place.Place.{Place}
 use Rattle.ndc_model_cells.specs.Jobs.{workflows_of}
 use Rattle.ndc_model_cells.specs.Places.{AreBehind, AreInOrder, is_of, place_lt, place_of}
 use Rattle.ndc_model_cells.proofs.PlaceLemmas.{PlaceIsBefore, place-from, place-parts, place-trans}
 use Rattle.ndc_model_sets.proofs.Lists.{filter-cases}
-use Rattle.ndc_shard_waiting.proofs.FreeLemmas.{not-itself}
 use Rattle.ndc_shard_workflows.proofs.CellLemmas.{own-names}
 use Rattle.ndc_shard_workflows.proofs.ListLemmas.{all-first, others_than}
-use Rattle.ndc_shard_workflows.proofs.SameLemmas.{names-of, of-names, of-turn}
+use Rattle.ndc_shard_workflows.proofs.SameLemmas.{names-of, of-names, of-turn, place-itself}
 
 -- those of the workflows of some batches
 abbrev parts : List Batch → List Batch → List Batch
@@ -69,15 +66,6 @@ module _ (b c : Batch) (own : is_of b.domain b.workflow c ≡ true) where
   others-twice : (xs : List Batch) → others_than b (c ∷ others_than c xs) ≡ others_than c xs
   others-twice xs =
       ap (λ t. cond (not t) (c ∷ others_than b (others_than c xs)) (others_than b (others_than c xs))) own ∙ all-others b (others_than c xs) (subst (AreOther b) (same-others xs) (others-other b xs))
-
--- behind a batch of another workflow there is none of this one's
-place-itself : (a : Place) → place_lt a a ≡ true → ⊥
-place-itself a l = by (place-parts a a l)
-  where
-    by : PlaceIsBefore a a → ⊥
-    by (inl less) = less_irrefl a.domain less
-    by (inr (d, inl less)) = less_irrefl a.workflow less
-    by (inr (d, inr (w, k))) = true≢false (sym k ∙ not-itself a.key)
 
 module _ (b c : Batch) (order : place_lt (place_of b) (place_of c) ≡ true) (other : is_of b.domain b.workflow c ≡ false) where
   behind-other : (x : Batch) → place_lt (place_of c) (place_of x) ≡ true → (t : Bool) → is_of b.domain b.workflow x ≡ t → t ≡ false

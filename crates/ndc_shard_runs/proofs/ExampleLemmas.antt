@@ -11,7 +11,7 @@ use Rattle.ndc_model_sets.proofs.BranchLemmas.{same-run}
 use Rattle.ndc_model_sets.proofs.SetLemmas.{at-cases}
 use Rattle.ndc_model_sets.proofs.WriteLaws.{beginning_keeps_sound}
 
-empty-sound : IsSound []
+pub empty-sound : IsSound []
 empty-sound = record {
   set = record { ordered = tt; back = tt };
   closed = λ b has. absurd (cc);
@@ -39,7 +39,7 @@ first-sound =
     beginning_keeps_sound [] (begun_again 1 None) empty-sound
     (record { fresh = refl; faultless = refl; parent = refl; alone = λ b has. absurd (cc); carrier = λ key e. absurd (cc) }) none-apart first-alone refl
 
-only : (b c : Batch) → Has (c ∷ []) b → b ≡ c
+pub only : (b c : Batch) → Has (c ∷ []) b → b ≡ c
 only b c = at-cases (λ o. o ≡ Some b → b ≡ c) c [] b.key (λ e h. sym (same h)) (λ e h. absurd (cc))
   where
     same : {X : Type 0} {x y : X} → Some x ≡ Some y → x ≡ y

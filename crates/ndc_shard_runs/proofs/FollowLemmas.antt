@@ -144,7 +144,7 @@ or-turn true false = refl
 or-turn false true = refl
 or-turn false false = refl
 
-and-false : (t : Bool) → (t && false) ≡ false
+pub and-false : (t : Bool) → (t && false) ≡ false
 and-false true = refl
 and-false false = refl
 

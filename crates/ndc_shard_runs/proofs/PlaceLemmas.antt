@@ -1,5 +1,5 @@
 -- Keys with their runs, in a map and in a list.
-use Rattle.std.proofs.Common.{◌≡◌, ℕ, zero, suc, ◌-◌, Bool, true, false, List, [], ◌∷◌, ◌++◌, length, cond, Option, Some, None, slice_get, if◌then◌else◌, refl, ap, sym, ◌∙◌, subst, arith}
+use Rattle.std.proofs.Common.{◌≡◌, ℕ, zero, suc, ◌-◌, Bool, true, false, List, [], ◌∷◌, ◌++◌, length, cond, Option, Some, None, slice_get, refl, ap, sym, ◌∙◌, subst, arith, if◌then◌else◌}
 use Rattle.std.specs.BTreeMap.{insert_entry, is_at}
 use Rattle.std.specs.List.{AllByRecursion}
 use Rattle.std.specs.Map.{lookup, remove_entry}
@@ -16,6 +16,7 @@ use Rattle.ndc_model_sets.specs.Last.{last_batch}
 use Rattle.ndc_model_sets.proofs.KeyOrder.{key_cmp, key_cmp-same}
 use Rattle.ndc_shard_runs.specs.Places.{places_of, place_at, with_place, without_place, last_place}
 use Rattle.ndc_shard_runs.proofs.ArrivedLemmas.{none-parts, not-less, not-same}
+use Rattle.ndc_model_sets.proofs.EventLemmas.{before-suc}
 
 module _ (cmp : BatchKey → BatchKey → Ordering) (law : (a b : BatchKey) → cmp a b ≡ key_cmp a b) where
   at-key : (key other : BatchKey) → is_at (cmp key) other ≡ key_eq other key
@@ -50,9 +51,6 @@ last-up (x ∷ []) zero p n h = h
 last-up (x ∷ []) (suc i) p n h = absurd (cc)
 last-up (x ∷ y ∷ places) zero p n h = absurd (omega (arith, n))
 last-up (x ∷ y ∷ places) (suc i) p n h = last-up (y ∷ places) i p (omega (arith, n)) h
-
-before-suc : (n : ℕ) → suc n - 1 ≡ n
-before-suc n = omega arith
 
 pub last-at : (places : List (BatchKey × RunId)) (p : BatchKey × RunId) → slice_get places (length places - 1) ≡ Some p → last_place places ≡ Some p
 last-at [] p h = absurd (cc)

@@ -62,7 +62,7 @@ find-passes p (y ∷ ys) x h = by (p y) refl h (find-passes p ys x)
     by false e g rest = rest g
 
 -- run ids of one number are those of one key
-one-key : (v t w u : ℕ) → t < 2 ^ 64 → u < 2 ^ 64 → v * 2 ^ 64 + t ≡ w * 2 ^ 64 + u → (v ≡ w) × (t ≡ u)
+pub one-key : (v t w u : ℕ) → t < 2 ^ 64 → u < 2 ^ 64 → v * 2 ^ 64 + t ≡ w * 2 ^ 64 + u → (v ≡ w) × (t ≡ u)
 one-key v t w u l m e = (omega (arith, l, m, e), omega (arith, l, m, e))
 
 module _ (batches : List Batch) (b : Batch) (sound : IsSound batches) (after : IsSound (arrived b batches)) (none : batch_at b.key batches ≡ None) where

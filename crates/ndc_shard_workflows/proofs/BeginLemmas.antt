@@ -1,5 +1,5 @@
 -- A batch without a parent, with which the set is sound, is the first of its run.
-use Rattle.std.proofs.Common.{ℕ, ◌≡◌, ◌+◌, ◌*◌, ◌<◌, ◌^◌, true, ◌==◌, List, [], ◌∷◌, inl, Option, Some, None, refl, sym, ◌∙◌, subst, ap, arith}
+use Rattle.std.proofs.Common.{◌≡◌, ◌+◌, ◌*◌, ◌<◌, ◌^◌, true, ◌==◌, List, [], ◌∷◌, inl, Option, Some, None, refl, sym, ◌∙◌, subst, ap, arith}
 use Rattle.std.proofs.lemmas.Bool.{and_parts, eqb-true}
 use Rattle.ndc_model_cells.specs.Writing.{greatest_task}
 use Rattle.ndc_event.specs.Batch.{fault_of, is_first_fit}
@@ -11,7 +11,7 @@ use Rattle.ndc_shard_runs.specs.RunMap.{part_of}
 use Rattle.ndc_shard_runs.proofs.ArrivedLemmas.{greatest-arrived}
 use Rattle.ndc_shard_runs.proofs.PartLemmas.{part-has}
 use Rattle.ndc_shard_runs.proofs.ReadLemmas.{new-faultless}
-use Rattle.ndc_shard_runs.proofs.TakenLemmas.{task-up-to}
+use Rattle.ndc_shard_runs.proofs.TakenLemmas.{task-up-to, one-key}
 use Rattle.ndc_model_sets.specs.Branches.{same_run}
 use Rattle.ndc_model_sets.specs.Paths.{path_to}
 use Rattle.ndc_model_sets.specs.Sets.{batch_at, Has, arrived}
@@ -23,10 +23,6 @@ use Rattle.ndc_model_sets.proofs.KeyLemmas.{key-parts}
 use Rattle.ndc_model_sets.proofs.Lists.{Among}
 use Rattle.ndc_model_sets.proofs.PathLemmas.{path_is}
 use Rattle.ndc_model_sets.proofs.SetLemmas.{has-found}
-
--- a run's number tells its first key
-one-key : (v t w u : ℕ) → t < 2 ^ 64 → u < 2 ^ 64 → v * 2 ^ 64 + t ≡ w * 2 ^ 64 + u → (v ≡ w) × (t ≡ u)
-one-key v t w u l m e = (omega (arith, l, m, e), omega (arith, l, m, e))
 
 number : (b : Batch) → fault_of b ≡ None → b.parent ≡ None → b.run.value ≡ b.key.version * 2 ^ 64 + b.key.task
 number b f g =

@@ -1,5 +1,5 @@
 -- What the batches that have arrived of a workflow carry.
-use Rattle.std.proofs.Common.{◌≡◌, Bool, true, false, List, [], ◌++◌, Option, Some, None, if◌then◌else◌, refl, sym, ◌∙◌, subst, ap, true≢false}
+use Rattle.std.proofs.Common.{◌≡◌, Bool, true, false, List, [], ◌++◌, Option, Some, None, refl, sym, ◌∙◌, subst, ap, true≢false, if◌then◌else◌}
 use Rattle.std.specs.Prelude.{◌&&◌, find}
 use Rattle.std.specs.List.{AllByRecursion, filter_map}
 use Rattle.ndc_model_cells.specs.declared.message.Message.{Message}
@@ -22,6 +22,7 @@ use Rattle.ndc_shard_workflows.specs.Workflow.{IsWorkflow}
 use Rattle.ndc_shard_workflows.proofs.PutOffLemmas.{found-known}
 use Rattle.ndc_shard_workflows.specs.Messages.{carrier_in, first_key, is_beside, is_under, least_of, least_with, lesser, noted_at}
 use Rattle.ndc_shard_workflows.proofs.FirstKeyLemmas.{all-in, first-all, first-batch, least-first}
+use Rattle.ndc_shard_runs.proofs.FollowLemmas.{and-false}
 
 -- the least key, when all that is learned, and all that waits, was gone over
 pub least-all : (test : Batch → Bool) (w : WorkflowValue) → IsWorkflow w → least_of test (batches_of w.waiting) (least_of test (learned w.arrived) None) ≡ first_key test w.arrived
@@ -64,10 +65,6 @@ none-yet w is items batches none all = (
   ap (λ (l : List Message). l ++ filter_map (own_message (learned w.arrived) w.arrived) batches) none ∙ ap (filter_map (own_message (learned w.arrived) w.arrived)) all,
   subst (λ (l : List Batch). AllByRecursion (λ b. batch_at b.key (learned w.arrived) ≡ Some b) l) (sym all) (each-learned w is),
 )
-
-and-false : (t : Bool) → (t && false) ≡ false
-and-false true = refl
-and-false false = refl
 
 -- of a batch that has arrived, what it carries is what has its key as that of the carrier
 under-is : (all : List Batch) (b : Batch) → Has all b → (other : Batch) → is_under all b.key other ≡ carries b other

@@ -1,5 +1,5 @@
 -- A run of two batches: what is learned of it is sound, and its messages may arrive and be written.
-use Rattle.std.proofs.Common.{◌≡◌, true, false, [], ◌∷◌, Some, None, refl, sym, subst, arith, ◌<◌, ◌≤◌, ◌^◌}
+use Rattle.std.proofs.Common.{◌≡◌, true, false, [], ◌∷◌, None, refl, sym, subst, arith, ◌<◌, ◌≤◌, ◌^◌}
 use Rattle.std.specs.List.{AllByRecursion}
 use Rattle.std.proofs.lemmas.List.Elements.{All-from_recursion}
 use Rattle.ndc_model_cells.specs.declared.message.Message.{Message}
@@ -7,13 +7,12 @@ use Rattle.ndc_model_cells.specs.Cells.{both}
 use Rattle.ndc_event.specs.Key.{key_lt}
 use Rattle.ndc_event.specs.declared.batch.Batch.{Batch}
 use Rattle.ndc_event.specs.declared.batch.Event.{Event}
-use Rattle.ndc_shard_runs.proofs.ExampleLemmas.{first-sound}
+use Rattle.ndc_shard_runs.proofs.ExampleLemmas.{first-sound, empty-sound, only}
 use Rattle.ndc_model_sets.specs.Learned.{learned}
-use Rattle.ndc_model_sets.specs.Sets.{Has}
 use Rattle.ndc_model_sets.specs.Sound.{IsSound}
 use Rattle.ndc_model_sets.specs.Worked.{begun_again}
 use Rattle.ndc_model_sets.specs.Writing.{CopiesFitWith, CopiesFitBothWays}
-use Rattle.ndc_model_sets.proofs.SetLemmas.{at-cases, found-all}
+use Rattle.ndc_model_sets.proofs.SetLemmas.{found-all}
 use Rattle.ndc_model_sets.proofs.WriteLaws.{below_keeps_sound}
 use Rattle.ndc_state.specs.Laws.{AreApart}
 use Rattle.ndc_model_cells.specs.Messages.{IsMessage, IsNewTo, HasSmallIds, carrying}
@@ -22,27 +21,8 @@ use Rattle.ndc_shard_workflows.specs.Workflow.{empty_workflow, has_arrived, afte
 use Rattle.ndc_shard_workflows.specs.Worked.{started, first_sent, second_sent, second_alone}
 use Rattle.ndc_shard_workflows.proofs.OneWriteLemmas.{CanBeWritten}
 
-empty-sound : IsSound []
-empty-sound = record {
-  set = record { ordered = tt; back = tt };
-  closed = λ b has. absurd (cc);
-  faultless = λ b has. absurd (cc);
-  parents = λ b before key has e at. absurd (cc);
-  chains = λ one two has other run version less. absurd (cc);
-  origins = λ b has. absurd (cc);
-  copies = λ b other has there. absurd (cc);
-  replays = λ b has. absurd (cc);
-  carriers = λ b carrier key has e at. absurd (cc);
-}
-
 apart : AreApart []
 apart i j d l m e = let no : j < 0 = m in absurd (omega (arith, no))
-
-only : (b c : Batch) → Has (c ∷ []) b → b ≡ c
-only b c = at-cases (λ o. o ≡ Some b → b ≡ c) c [] b.key (λ e h. sym (same h)) (λ e h. absurd (cc))
-  where
-    same : {X : Type 0} {x y : X} → Some x ≡ Some y → x ≡ y
-    same e = cc
 
 -- neither batch has a copied signal
 fits : CopiesFitWith (begun_again 1 None ∷ []) started

@@ -1,6 +1,6 @@
 -- A workflow of its names stays one behind an arrival, and behind what is written there.
-use Rattle.std.proofs.Common.{◌≡◌, Bool, true, false, not, List, [], ◌∷◌, Option, Some, None, Ok, refl, sym, ◌∙◌, subst, ap}
-use Rattle.std.specs.Prelude.{IfSome, if◌then◌else◌}
+use Rattle.std.proofs.Common.{◌≡◌, Bool, true, false, not, List, [], ◌∷◌, Option, Some, None, Ok, refl, sym, ◌∙◌, subst, ap, if◌then◌else◌}
+use Rattle.std.specs.Prelude.{IfSome}
 use Rattle.std.specs.List.{AllByRecursion, filter}
 use Rattle.ndc_model_cells.specs.declared.message.Message.{Message}
 use Rattle.ndc_model_cells.specs.Laws.{arrived_second}
@@ -21,6 +21,7 @@ use Rattle.ndc_shard_workflows.proofs.FreedLemmas.{freed-with, still-put-off}
 use Rattle.ndc_shard_workflows.proofs.PutOffLemmas.{beside-is, put-off-beside, put-off-with}
 use Rattle.ndc_shard_workflows.proofs.OneWriteLemmas.{CanBeWritten, put-off-still, written-is, written-learned}
 use Rattle.ndc_shard_workflows.specs.Workflows.{IsOwn, workflow_or_empty}
+use Rattle.ndc_shard_runs.proofs.ExampleLemmas.{empty-sound}
 
 -- of three lists, by two tests
 all-cases : {X : Type 0} (P : X → Type 0) (s t : Bool) (one two three : List X) → AllByRecursion P one → AllByRecursion P two → AllByRecursion P three
@@ -56,19 +57,6 @@ empty-is = beside-is [] [] (record {
   apart = tt;
   off = tt;
 })
-
-empty-sound : IsSound []
-empty-sound = record {
-  set = record { ordered = tt; back = tt };
-  closed = λ b has. absurd (cc);
-  faultless = λ b has. absurd (cc);
-  parents = λ b before key has e at. absurd (cc);
-  chains = λ one two has other run version less. absurd (cc);
-  origins = λ b has. absurd (cc);
-  copies = λ b other has there. absurd (cc);
-  replays = λ b has. absurd (cc);
-  carriers = λ b carrier key has e at. absurd (cc);
-}
 
 pub empty-own : (domain workflow : Name) → IsOwn domain workflow empty_workflow
 empty-own domain workflow = record { is = empty-is; sound = empty-sound; arrived = tt; waiting = tt }

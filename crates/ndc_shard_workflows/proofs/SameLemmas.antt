@@ -20,7 +20,7 @@ pub of-turn : (a b : Batch) → is_of a.domain a.workflow b ≡ true → is_of b
 of-turn a b e = let names = names-of a.domain a.workflow b e in of-names b.domain b.workflow a (sym names.0) (sym names.1)
 
 -- no place is before itself
-place-itself : (a : Place) → place_lt a a ≡ true → ⊥
+pub place-itself : (a : Place) → place_lt a a ≡ true → ⊥
 place-itself a l = by (place-parts a a l)
   where
     by : PlaceIsBefore a a → ⊥

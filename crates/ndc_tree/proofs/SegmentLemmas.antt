@@ -1,5 +1,5 @@
 -- Batches as segments: what is found in them, and where a new one goes.
-use Rattle.std.proofs.Common.{◌≡◌, ℕ, zero, suc, ◌<◌, ◌≤◌, ◌-◌, Bool, true, false, not, nat_lt, ◌&&◌, ◌||◌, ◌==◌, List, [], ◌∷◌, ◌++◌, length, get_or, set, drop, cond, Option, Some, None, Result, Ok, Err, IfOk, IfErr, OnOk, OnErr, slice_get, if◌then◌else◌, refl, sym, ◌∙◌, subst, ap, arith}
+use Rattle.std.proofs.Common.{◌≡◌, ℕ, zero, suc, ◌<◌, ◌≤◌, ◌-◌, Bool, true, false, not, nat_lt, ◌&&◌, ◌||◌, ◌==◌, List, [], ◌∷◌, ◌++◌, length, get_or, set, drop, cond, Option, Some, None, Result, Ok, Err, IfOk, IfErr, OnOk, OnErr, slice_get, refl, sym, ◌∙◌, subst, ap, arith, if◌then◌else◌}
 use Rattle.std.specs.Prelude.{insert}
 use Rattle.std.specs.Option.{option_or}
 use Rattle.std.specs.List.{AllByRecursion}
@@ -20,6 +20,7 @@ use Rattle.ndc_tree.specs.declared.batches.Segment.{Segment}
 use Rattle.ndc_tree.specs.Segments.{AreSegments, IsSegment, against, flat}
 use Rattle.ndc_tree.specs.Sorted.{Hits, Parts}
 use Rattle.ndc_tree.proofs.SortedLemmas.{searched, hits, all_follow, all-insert, order-insert}
+use Rattle.ndc_model_sets.proofs.EventLemmas.{before-suc}
 
 cmp-less : (a b : ℕ) → nat_cmp a b ≡ Less → a < b
 cmp-less a b = grind (arith, nat_tests)
@@ -332,9 +333,6 @@ flat-last-up (x ∷ y ∷ segments) (suc i) s are n at =
     by : (chain : List Batch) → is_nil chain ≡ false → option_or (last_batch (chain ++ flat segments)) (last_batch x.chain) ≡ last_batch (chain ++ flat segments)
     by [] h = absurd (cc)
     by (b ∷ chain) h = last-some b (chain ++ flat segments) (last_batch x.chain)
-
-before-suc : (n : ℕ) → suc n - 1 ≡ n
-before-suc n = omega arith
 
 pub flat-last : (segments : List Segment) (s : Segment) → AllByRecursion IsSegment segments → slice_get segments (length segments - 1) ≡ Some s → last_batch (flat segments) ≡ last_batch s.chain
 flat-last [] s are at = absurd (cc)
