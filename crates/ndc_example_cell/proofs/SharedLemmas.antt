@@ -32,7 +32,7 @@ use Rattle.ndc_model_cells.proofs.PlaceLemmas.{set_of_workflow}
 use Rattle.ndc_resend.specs.Serving.{answered, served_for}
 use Rattle.ndc_resend.specs.declared.asking.GapOf.{GapOf}
 use Rattle.ndc_model_sets.proofs.SoundLemmas.{part_is_sound}
-use Rattle.ndc_laws_cells.specs.Keeping.{CanArrive, CanWrite, CanWriteEach, HasRange, IsAuthor, IsAuthored, IsKept, IsMessageOf, IsWhole, set_behind}
+use Rattle.ndc_model_cells.specs.Keeping.{CanArrive, CanWrite, CanWriteEach, HasRange, IsAuthor, IsAuthored, IsKept, IsMessageOf, IsWhole, set_behind}
 use Rattle.ndc_laws_cells.proofs.AskLemmas.{IsFine, Takes, command-takes}
 use Rattle.ndc_laws_cells.proofs.FoundLemmas.{there-among}
 use Rattle.ndc_laws_cells.proofs.SentLemmas.{sent-is}

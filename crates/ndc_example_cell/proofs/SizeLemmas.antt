@@ -17,8 +17,8 @@ use Rattle.ndc_model_cells.specs.Writing.{Desk, Entry, alone, carried_by, comman
 use Rattle.ndc_model_sets.specs.Current.{state_to}
 use Rattle.ndc_model_sets.specs.Sets.{Has, arrived, batch_at}
 use Rattle.ndc_laws_cells.specs.Adding.{MayAdd}
-use Rattle.ndc_laws_cells.specs.Entries.{HaveTasksUpTo, IsCarriedIn, IsEntryOf}
-use Rattle.ndc_laws_cells.specs.Keeping.{IsAuthor, set_behind}
+use Rattle.ndc_laws_cells.specs.Entries.{IsCarriedIn, IsEntryOf}
+use Rattle.ndc_model_cells.specs.Keeping.{IsAuthor, set_behind, HaveTasksUpTo}
 use Rattle.ndc_laws_cells.proofs.AskLemmas.{IsFine, author-adds, then-which}
 use Rattle.ndc_laws_cells.proofs.CommandLemmas.{command-gives, planned-goes-below, start-entry}
 use Rattle.ndc_laws_cells.proofs.CountLemmas.{arrived-cases}

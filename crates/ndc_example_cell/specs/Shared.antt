@@ -6,8 +6,7 @@ use Rattle.ndc_domain.specs.declared.clusters.ClusterNo.{ClusterNo}
 use Rattle.ndc_domain.specs.declared.record.DomainRecord.{DomainRecord}
 use Rattle.ndc_event.specs.declared.batch.Batch.{Batch}
 use Rattle.ndc_event.specs.declared.name.Name.{Name}
-use Rattle.ndc_laws_cells.specs.Entries.{HaveTasksUpTo}
-use Rattle.ndc_laws_cells.specs.Keeping.{IsAuthored, IsKept, IsWhole}
+use Rattle.ndc_model_cells.specs.Keeping.{IsAuthored, IsKept, IsWhole, HaveTasksUpTo}
 use Rattle.ndc_model_cells.specs.declared.message.Message.{Message}
 use Rattle.ndc_model_cells.specs.Cells.{Cell, arrived_of, learned_message, learned_of}
 use Rattle.ndc_model_sets.specs.Sets.{Has}

@@ -19,7 +19,7 @@ use Rattle.ndc_model_cells.specs.Laws.{arrived_second}
 use Rattle.ndc_model_cells.specs.Messages.{batches_of, carrying, waits_for}
 use Rattle.ndc_model_cells.specs.Places.{is_of}
 use Rattle.ndc_model_cells.specs.Workflow.{workflow_of}
-use Rattle.ndc_model_cells.specs.Writing.{Desk, Entry, command_entries, command_of, greatest_version, may_write, reapplication_below, reapplication_by, reapplication_of, reset_at, reset_below, state_under, with_all_written, with_written}
+use Rattle.ndc_model_cells.specs.Writing.{Desk, Entry, command_entries, command_of, greatest_version, may_write, reapplication_below, reapplication_by, reapplication_of, reset_at, reset_below, state_under, with_all_written, with_written, goes_on}
 use Rattle.ndc_model_cells.proofs.CellLemmas.{others_arrived}
 use Rattle.ndc_model_cells.proofs.PlaceLemmas.{set_of_workflow, writing_keeps, writing_only_adds, written_arrives}
 use Rattle.ndc_model_cells.proofs.SoundLemmas.{learned_is_sound}
@@ -35,8 +35,8 @@ use Rattle.ndc_model_sets.proofs.Lists.{Among, all-among, all-from, find-among}
 use Rattle.ndc_model_sets.proofs.SetLemmas.{found-has, found-key, has-found}
 use Rattle.ndc_model_sets.proofs.SoundLemmas.{faultless-back}
 use Rattle.ndc_laws_cells.specs.Adding.{MayAdd}
-use Rattle.ndc_laws_cells.specs.Entries.{AddsOne, AddsTwo, IsCarriedIn, IsEntryOf, goes_on}
-use Rattle.ndc_laws_cells.specs.Keeping.{HasRange, IsAuthor, IsKept, IsWhole, with_entries, with_entry}
+use Rattle.ndc_laws_cells.specs.Entries.{AddsOne, AddsTwo, IsCarriedIn, IsEntryOf}
+use Rattle.ndc_model_cells.specs.Keeping.{HasRange, IsAuthor, IsKept, IsWhole, with_entries, with_entry}
 use Rattle.ndc_laws_cells.proofs.CommandLemmas.{command-adds}
 use Rattle.ndc_laws_cells.proofs.EntryLemmas.{greatest-least}
 use Rattle.ndc_laws_cells.proofs.KeptLemmas.{events-within, if-some, joined-has, some-if}

@@ -29,7 +29,7 @@ use Rattle.ndc_state.specs.Value.{StateValue}
 use Rattle.ndc_state.specs.Written.{events_from, failover_close}
 use Rattle.ndc_text.specs.Ranges.{IsName, KindFits}
 use Rattle.ndc_laws_cells.specs.Adding.{MayAdd}
-use Rattle.ndc_laws_cells.specs.Entries.{AddsOne, AreFew, HaveTasksUpTo, IsEntryOf, IsPlain, IsWrite, WritesOne}
+use Rattle.ndc_laws_cells.specs.Entries.{AddsOne, AreFew, IsEntryOf, IsPlain, IsWrite, WritesOne}
 use Rattle.ndc_laws_cells.proofs.EntryLemmas.{IsBelow, IsBelowShort, as-write, behind-small, begins, begins-short, below-entry, below-write, few-tasks, first-entry, first-is-small, key-small, next-most, next-task}
 use Rattle.ndc_laws_cells.proofs.FreshLemmas.{state-fresh}
 use Rattle.ndc_laws_cells.proofs.KindLemmas.{plain-all, planned-few, planned-fit, planned-plain}
@@ -37,6 +37,7 @@ use Rattle.ndc_laws_cells.proofs.MayLemmas.{next-many, next-newest}
 use Rattle.ndc_laws_cells.proofs.PlanLemmas.{answered, planned-below}
 use Rattle.ndc_laws_cells.proofs.RangeLemmas.{run-fits}
 use Rattle.ndc_laws_cells.proofs.WriteLemmas.{ends-by}
+use Rattle.ndc_model_cells.specs.Keeping.{HaveTasksUpTo}
 
 -- a list that has a first item
 pub record HasFirst {X : Type 0} (xs : List X) : Type 0 where

@@ -25,11 +25,12 @@ use Rattle.ndc_state.specs.Value.{StateValue, new_state}
 use Rattle.ndc_state.specs.Written.{events_from, replay_kinds}
 use Rattle.ndc_text.specs.Ranges.{IsName, OptionKeyFits}
 use Rattle.ndc_laws_cells.specs.Adding.{Added, IsNewest, MayAdd}
-use Rattle.ndc_laws_cells.specs.Entries.{AreFew, HaveTasksUpTo, IsCarriedIn, IsEntryOf, IsSecond, IsSmall, IsWrite}
+use Rattle.ndc_laws_cells.specs.Entries.{AreFew, IsCarriedIn, IsEntryOf, IsSecond, IsSmall, IsWrite}
 use Rattle.ndc_laws_cells.proofs.KindLemmas.{plain-all}
 use Rattle.ndc_laws_cells.proofs.MayLemmas.{below-added, first-added, next-many, next-newest, tip-all, tip-part}
 use Rattle.ndc_laws_cells.proofs.RangeLemmas.{IsKeySmall, KindsFit, below-ranges, first-ranges, key-fits}
 use Rattle.ndc_laws_cells.proofs.WriteLemmas.{beginning-replays, behind-newest, count-written, kinds-of, length-written}
+use Rattle.ndc_model_cells.specs.Keeping.{HaveTasksUpTo}
 
 -- a greatest task is no greater than what none is above
 pub greatest-least : (n : ℕ) (batches : List Batch) → ((b : Batch) → Among b batches → b.key.task ≤ n) → greatest_task batches ≤ n

@@ -34,7 +34,7 @@ use Rattle.ndc_model_sets.proofs.PathLemmas.{path_is}
 use Rattle.ndc_model_sets.proofs.SetLemmas.{found-has, found-key}
 use Rattle.ndc_model_sets.proofs.SoundLemmas.{faultless-back}
 use Rattle.ndc_state.specs.Replay.{history_of}
-use Rattle.ndc_laws_cells.specs.Keeping.{HasRange, IsAuthor, IsCarried, IsKept, IsMessageOf}
+use Rattle.ndc_model_cells.specs.Keeping.{HasRange, IsAuthor, IsCarried, IsKept, IsMessageOf}
 use Rattle.ndc_laws_cells.proofs.FoundLemmas.{at-there}
 use Rattle.ndc_laws_cells.proofs.FreshLemmas.{follow-most}
 use Rattle.ndc_laws_cells.proofs.NameLemmas.{names-of, own-names}

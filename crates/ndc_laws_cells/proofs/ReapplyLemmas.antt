@@ -34,7 +34,7 @@ use Rattle.ndc_state.specs.Value.{StateValue}
 use Rattle.ndc_state.specs.Written.{failover_close, is_failover_close_due, replay_kinds, wake}
 use Rattle.ndc_text.specs.Ranges.{InRange, IsName, KindFits, is_id, is_run, is_version}
 use Rattle.ndc_laws_cells.specs.Adding.{MayAdd}
-use Rattle.ndc_laws_cells.specs.Entries.{AddsOne, AreFew, HaveTasksUpTo, IsEntryOf, IsWrite}
+use Rattle.ndc_laws_cells.specs.Entries.{AddsOne, AreFew, IsEntryOf, IsWrite}
 use Rattle.ndc_laws_cells.proofs.CountLemmas.{events-most}
 use Rattle.ndc_laws_cells.proofs.CommandLemmas.{HasFirst}
 use Rattle.ndc_laws_cells.proofs.EntryLemmas.{IsBelow, IsBelowShort, below-entry, below-write}
@@ -44,6 +44,7 @@ use Rattle.ndc_laws_cells.proofs.PlanLemmas.{close-each, wake-each}
 use Rattle.ndc_laws_cells.proofs.RangeLemmas.{event-in}
 use Rattle.ndc_laws_cells.proofs.StrayLemmas.{stray-original, strays-few}
 use Rattle.ndc_laws_cells.proofs.WriteLemmas.{Stays, all-stay}
+use Rattle.ndc_model_cells.specs.Keeping.{HaveTasksUpTo}
 
 -- what holds of the failover close, of copies of these strays and of scheduling holds of all that is written for them
 module _ (P : EventKind → Type 0) (scheduled : P kind.DecisionTaskScheduled) (closed : P (kind.DecisionTaskFailed (codes "failoverClose"))) where

@@ -41,7 +41,7 @@ use Rattle.ndc_state.specs.Written.{failover_close, replay_kinds}
 use Rattle.ndc_state.specs.declared.rule.StateError.{StateError}
 use Rattle.ndc_text.specs.Ranges.{IsName, KindFits, OriginFits, is_id, is_run, is_version}
 use Rattle.ndc_laws_cells.specs.Adding.{MayAdd}
-use Rattle.ndc_laws_cells.specs.Entries.{AddsOne, AddsTwo, AreFew, HaveTasksUpTo, IsEntryOf, IsWrite, WritesAlone, WritesBehind}
+use Rattle.ndc_laws_cells.specs.Entries.{AddsOne, AddsTwo, AreFew, IsEntryOf, IsWrite, WritesAlone, WritesBehind}
 use Rattle.ndc_laws_cells.proofs.AddLemmas.{more-originals}
 use Rattle.ndc_laws_cells.proofs.CommandLemmas.{HasFirst, planned-goes-below, planned-short}
 use Rattle.ndc_laws_cells.proofs.CountLemmas.{arrived-length}
@@ -52,6 +52,7 @@ use Rattle.ndc_laws_cells.proofs.MayLemmas.{next-newest, part-sound, tip-part, t
 use Rattle.ndc_laws_cells.proofs.RangeLemmas.{KindsFit, event-in}
 use Rattle.ndc_laws_cells.proofs.StrayLemmas.{origin-named}
 use Rattle.ndc_laws_cells.proofs.WriteLemmas.{Stays, all-stay, behind-newest, goes-step}
+use Rattle.ndc_model_cells.specs.Keeping.{HaveTasksUpTo}
 
 -- what holds of the kinds of events as another run repeats them
 module _ (P : EventKind → Type 0) (run : RunId) where

@@ -14,7 +14,7 @@ use Rattle.ndc_model_cells.specs.Arrival.{arrived_at, cell_with, has_arrived}
 use Rattle.ndc_model_cells.specs.Cells.{Cell, IsCell, arrived_of, carries, learned_message, learned_of, message_at, message_found, message_of}
 use Rattle.ndc_model_cells.specs.Laws.{arrived_second}
 use Rattle.ndc_model_cells.specs.Places.{batch_there, is_of}
-use Rattle.ndc_model_cells.specs.Writing.{goes_on_as}
+use Rattle.ndc_model_cells.specs.Writing.{goes_on_as, goes_on}
 use Rattle.ndc_model_cells.proofs.PlaceLemmas.{set_of_workflow}
 use Rattle.ndc_model_sets.specs.Learned.{IsPart}
 use Rattle.ndc_model_sets.specs.Paths.{is_wanted, last_event, path_to, versions_of}
@@ -28,8 +28,7 @@ use Rattle.ndc_model_sets.proofs.Lists.{Among, among-filter, filter-among, find-
 use Rattle.ndc_model_sets.proofs.PathLemmas.{part-path}
 use Rattle.ndc_model_sets.proofs.SetLemmas.{found-has, found-key}
 use Rattle.ndc_state.specs.Replay.{history_of}
-use Rattle.ndc_laws_cells.specs.Entries.{goes_on}
-use Rattle.ndc_laws_cells.specs.Keeping.{IsCarried, IsKept, IsMessageOf, IsWhole}
+use Rattle.ndc_model_cells.specs.Keeping.{IsCarried, IsKept, IsMessageOf, IsWhole}
 use Rattle.ndc_laws_cells.proofs.FoundLemmas.{find-passes, there-among}
 use Rattle.ndc_laws_cells.proofs.KeptLemmas.{arrived-then, as-written, if-some, joined-has, none-is, own-is, second-of}
 use Rattle.ndc_laws_cells.proofs.NameLemmas.{names-of, wanted-some}

@@ -1,7 +1,7 @@
 -- What is written at once to a workflow.
-use Rattle.std.specs.Prelude.{◌≡◌, ℕ, ◌+◌, ◌^◌, ◌≤◌, Bool, true, false, is_some, length, map, List, [], ◌∷◌, Some, None, IfSome}
+use Rattle.std.specs.Prelude.{◌≡◌, ℕ, ◌+◌, ◌^◌, ◌≤◌, true, false, is_some, length, List, [], ◌∷◌, Some, None, IfSome}
 use Rattle.std.specs.List.{AllByRecursion, flat_map}
-use Rattle.ndc_model_cells.specs.Writing.{Entry, goes_on_as}
+use Rattle.ndc_model_cells.specs.Writing.{Entry, goes_on}
 use Rattle.ndc_event.specs.declared.batch.Batch.{Batch}
 use Rattle.ndc_event.specs.declared.key.RunId.{RunId}
 use Rattle.ndc_event.specs.declared.kind.EventKind.{EventKind}
@@ -12,10 +12,6 @@ use Rattle.ndc_model_sets.specs.Learned.{has_key}
 use Rattle.ndc_model_sets.specs.Sets.{Has, arrived, earlier}
 use Rattle.ndc_text.specs.Ranges.{InRange}
 use Rattle.ndc_laws_cells.specs.Adding.{Added}
-
--- whether a batch ends by going on as another run
-abbrev pub goes_on : Batch → Bool
-goes_on b = is_some (goes_on_as (map (λ event. event.kind) b.events))
 
 -- how many original signals batches hold
 abbrev pub originals_in : List Batch → ℕ
@@ -39,10 +35,6 @@ pub record IsSecond (all : List Batch) (b second : Batch) : Type 0 where
   pub parent : second.parent ≡ None
   pub stays : goes_on second ≡ false
   pub small : IsSmall 0 (length all + 2) second
-
--- no batch has a task above this one
-abbrev pub HaveTasksUpTo : ℕ → List Batch → Type 0
-HaveTasksUpTo most batches = (b : Batch) → Has batches b → b.key.task ≤ most
 
 -- the batch that another one carries: the first of its run, of the same workflow and version, which does not go on itself
 pub record IsCarriedIn (all : List Batch) (b second : Batch) : Type 0 where

@@ -1,4 +1,3 @@
 pub mod Adding
 pub mod Entries
 pub mod Past
-pub mod Keeping

@@ -26,11 +26,11 @@ use Rattle.ndc_model_sets.specs.Sound.{CopiesNamed, IsSound}
 use Rattle.ndc_text.specs.Ranges.{InRange}
 use Rattle.ndc_model.specs.Facts.{BeatsAreSmall, HandoversFit, IsHandoverFit, IsLetterFit, LettersFit, ReportsAgree, WritingIsInRange, is_old, place_in}
 use Rattle.ndc_model.specs.Fair.{AreMembersKnown, AreMessagesTrue, AreNumbersSmall, ArrivalsWereWritten, CopiesNameOriginals, HasRecordFrom, IsArrivedFit, IsFair, IsLaneTrue, IsConfigKnown, IsOwn, IsRecordInRange, MessagesAreTrue, NumbersAreSmall, RecordsAgree, WritersUseOwnVersions, WritingIsSound, is_named, places_written, primary}
-use Rattle.ndc_laws_cells.specs.Entries.{goes_on}
 use Rattle.ndc_model.specs.Moves.{all_written, messages_among}
 use Rattle.ndc_model.specs.Queues.{Lane, names_cluster, needs_nothing}
 use Rattle.ndc_model.specs.World.{Link, World, all_clusters, cell_at, cluster_at, is_late_in, lane_in, queue_at, trimmed_at}
 use Rattle.ndc_laws_reached.proofs.Lists.{each-link}
+use Rattle.ndc_model_cells.specs.Writing.{goes_on}
 
 -- the parts of a world, as functions
 abbrev pub places_in : Header → World → ℕ → List Place

@@ -23,8 +23,9 @@ use Rattle.ndc_laws_reached.proofs.WrittenLemmas.{own-names, wanted-some}
 use Rattle.ndc_laws_cells.proofs.OrderLemmas.{filter-arrived, filter-one-more}
 use Rattle.ndc_laws_cells.proofs.PairLemmas.{joined, news}
 use Rattle.ndc_laws_cells.specs.Adding.{Added}
-use Rattle.ndc_laws_cells.specs.Entries.{IsSecond, IsSmall, goes_on, originals_in}
+use Rattle.ndc_laws_cells.specs.Entries.{IsSecond, IsSmall, originals_in}
 use Rattle.ndc_laws_cells.proofs.CountLemmas.{arrived-all, arrived-length, arrived-originals}
+use Rattle.ndc_model_cells.specs.Writing.{goes_on}
 
 -- nothing is kept where nothing passes
 pub filter-none : {X : Type 0} (p : X → Bool) (xs : List X) → ((x : X) → Among x xs → p x ≡ true → ⊥) → filter p xs ≡ []

@@ -16,7 +16,6 @@ use Rattle.ndc_domain.specs.declared.clusters.ClusterNo.{ClusterNo}
 use Rattle.ndc_event.specs.declared.batch.Batch.{Batch}
 use Rattle.ndc_model.specs.Facts.{IsReached}
 use Rattle.ndc_model.specs.Fair.{IsOwn, written_of}
-use Rattle.ndc_laws_cells.specs.Entries.{goes_on}
 use Rattle.ndc_model.specs.Moves.{all_written}
 use Rattle.ndc_model.specs.World.{World, all_clusters, cell_at, cluster_at}
 use Rattle.ndc_model.proofs.FairLemmas.{clusters-among}
@@ -26,6 +25,7 @@ use Rattle.ndc_model_sets.specs.Sound.{IsSound}
 use Rattle.ndc_model_sets.proofs.Lists.{Among, all-among, all-from, among-filter}
 use Rattle.ndc_model_sets.proofs.SoundLemmas.{faultless-back}
 use Rattle.ndc_laws_cells.proofs.FoundLemmas.{at-there, in_order-ordered, order-finds, there-among}
+use Rattle.ndc_model_cells.specs.Writing.{goes_on}
 
 -- what was put into order was there
 pub among-placed : (new x : Batch) (bs : List Batch) → Among x (placed new bs) → (x ≡ new) ⊎ Among x bs

@@ -20,8 +20,9 @@ use Rattle.ndc_laws_reached.proofs.JoinedLemmas.{CountsFit, joined-all, joined-c
 use Rattle.ndc_laws_reached.proofs.LandLemmas.{Write, are-new, behind, flat-found, flat-here, flat-there, here, here-ordered, written-cases}
 use Rattle.ndc_laws_cells.proofs.OrderLemmas.{IsMore}
 use Rattle.ndc_laws_cells.proofs.PairLemmas.{AreNew, joined, new-none, news, second-apart}
-use Rattle.ndc_laws_cells.specs.Entries.{IsSecond, goes_on, originals_in}
+use Rattle.ndc_laws_cells.specs.Entries.{IsSecond, originals_in}
 use Rattle.ndc_laws_cells.proofs.NamedLemmas.{either-way}
+use Rattle.ndc_model_cells.specs.Writing.{goes_on}
 
 -- something is found at the place of a batch that is there
 pub there-some : (bs : List Batch) (b : Batch) → Among b bs → batch_there bs (place_of b) ≡ None → ⊥

@@ -20,9 +20,10 @@ use Rattle.ndc_model_cells.specs.Places.{AreInOrder, batch_there, is_of, place_o
 use Rattle.ndc_model_cells.specs.Shards.{shard_of}
 use Rattle.ndc_model.specs.Moves.{all_written, messages_among}
 use Rattle.ndc_model.specs.Queues.{Lane, names_cluster, needs_nothing}
-use Rattle.ndc_laws_cells.specs.Entries.{goes_on, originals_in}
+use Rattle.ndc_laws_cells.specs.Entries.{originals_in}
 use Rattle.ndc_queue.specs.Levels.{AreLevels}
 use Rattle.ndc_model.specs.World.{Link, World, all_clusters, cell_at, cluster_at, is_late_in, lane_in, opening_world, queue_at, trimmed_at}
+use Rattle.ndc_model_cells.specs.Writing.{goes_on}
 
 -- the places of all that the clusters have written in a shard
 abbrev pub places_written : Header → ℕ → World → List Place

@@ -4,6 +4,7 @@ pub mod Cells
 pub mod Conditions
 pub mod Domains
 pub mod Jobs
+pub mod Keeping
 pub mod Laws
 pub mod Messages
 pub mod Places

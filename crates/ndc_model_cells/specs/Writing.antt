@@ -1,5 +1,5 @@
 -- What a cell writes: commands, reapplication, resets.
-use Rattle.std.specs.Prelude.{ℕ, ◌+◌, ◌-◌, max, Bool, false, not, nat_lt, ◌==◌, List, [], ◌∷◌, ◌++◌, length, codes, option_to_list, Option, Some, None, Result, Ok, Err, if◌then◌else◌}
+use Rattle.std.specs.Prelude.{ℕ, ◌+◌, ◌-◌, max, Bool, false, not, nat_lt, ◌==◌, List, [], ◌∷◌, ◌++◌, length, codes, option_to_list, Option, Some, None, Result, Ok, Err, if◌then◌else◌, map, is_some}
 use Rattle.ndc_command.specs.declared.command.Command.{Command}
 use Rattle.ndc_command.specs.declared.refusal.CommandError.{CommandError}
 use Rattle.ndc_command.specs.declared.refusal.CommandError.TheVariants.{Refused, Memory}
@@ -117,6 +117,10 @@ abbrev pub goes_on_as : List EventKind → Option Name
 goes_on_as [] = None
 goes_on_as (WorkflowExecutionContinuedAsNew run workflow_type ∷ []) = Some workflow_type
 goes_on_as (kind ∷ kinds) = goes_on_as kinds
+
+-- whether a batch ends by going on as another run
+abbrev pub goes_on : Batch → Bool
+goes_on b = is_some (goes_on_as (map (λ event. event.kind) b.events))
 
 -- what is written at once: a batch, and the one that it carries
 pub record Entry : Type 0 where

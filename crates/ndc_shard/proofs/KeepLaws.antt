@@ -6,7 +6,7 @@ use Rattle.ndc_command.specs.declared.refusal.CommandError.{CommandError}
 use Rattle.ndc_event.specs.declared.batch.Batch.{Batch}
 use Rattle.ndc_event.specs.declared.key.BatchKey.{BatchKey}
 use Rattle.ndc_event.specs.declared.name.Name.{Name}
-use Rattle.ndc_laws_cells.specs.Keeping.{HasRange, IsAuthor, IsAuthored, IsKept, IsMessageOf, IsWhole, set_behind, with_entries}
+use Rattle.ndc_model_cells.specs.Keeping.{HasRange, IsAuthor, IsAuthored, IsKept, IsMessageOf, IsWhole, set_behind, with_entries}
 use Rattle.ndc_laws_cells.proofs.AskLemmas.{IsFine, Takes, command-takes, reapplication-takes, reset-takes}
 use Rattle.ndc_laws_cells.proofs.KeptLemmas.{arrival-keeps-authors, arrival-keeps-sets}
 use Rattle.ndc_laws_cells.proofs.SentLemmas.{arrival-keeps-whole, found-is-of}

@@ -7,7 +7,7 @@ use Rattle.ndc_command.specs.declared.command.Command.{Command}
 use Rattle.ndc_event.specs.declared.batch.Batch.{Batch}
 use Rattle.ndc_event.specs.declared.key.BatchKey.{BatchKey}
 use Rattle.ndc_event.specs.declared.name.Name.{Name}
-use Rattle.ndc_laws_cells.specs.Keeping.{CanArrive, CanWrite, CanWriteEach, IsKept}
+use Rattle.ndc_model_cells.specs.Keeping.{CanArrive, CanWrite, CanWriteEach, IsKept}
 use Rattle.ndc_laws_cells.proofs.AskLemmas.{AllWait, IsFine, command-asked, has-room, reapply-asked, reset-asked}
 use Rattle.ndc_laws_cells.proofs.KeptLemmas.{HaveCarriers, may-arrive}
 use Rattle.ndc_laws_cells.proofs.NameLemmas.{names-of, workflows-apart}

@@ -47,7 +47,7 @@ impl Shard {
     ghost use Rattle.std.specs.Prelude.{◌≡◌, ◌≢◌, map, IfOk, IfErr, OnOk, OnErr};
     ghost use Rattle.ndc_cluster_rounds.specs.Homes.{desk_of};
     ghost use Rattle.ndc_event.specs.Outcome.{Gives};
-    ghost use Rattle.ndc_laws_cells.specs.Keeping.{CanArrive, CanWrite, CanWriteEach};
+    ghost use Rattle.ndc_model_cells.specs.Keeping.{CanArrive, CanWrite, CanWriteEach};
     ghost use Rattle.ndc_model_cells.specs.Arrival.{arrival_of, arrived_at};
     ghost use Rattle.ndc_model_cells.specs.Jobs.{reapplied_in, reapplied_now, workflows_of, written_at};
     ghost use Rattle.ndc_model_cells.specs.Writing.{command_of, reset_at};

@@ -6,7 +6,7 @@ ghost use Rattle.ndc_command.specs.declared.command.Command.{Command as Asked};
 ghost use Rattle.ndc_event.specs.declared.batch.Batch.{Batch as One};
 ghost use Rattle.ndc_event.specs.declared.key.BatchKey.{BatchKey as Key};
 ghost use Rattle.ndc_event.specs.declared.name.Name.{Name as Text};
-ghost use Rattle.ndc_laws_cells.specs.Keeping.{HasRange, IsAuthor, IsAuthored, IsKept, IsMessageOf, IsWhole, set_behind, with_entries};
+ghost use Rattle.ndc_model_cells.specs.Keeping.{HasRange, IsAuthor, IsAuthored, IsKept, IsMessageOf, IsWhole, set_behind, with_entries};
 ghost use Rattle.ndc_model_cells.specs.declared.message.Message.{Message as Sent};
 ghost use Rattle.ndc_model_cells.specs.Arrival.{arrived_at};
 ghost use Rattle.ndc_model_cells.specs.Cells.{Cell as CellValue, empty_cell, message_at};

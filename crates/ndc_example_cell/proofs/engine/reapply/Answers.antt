@@ -1,5 +1,5 @@
 use Rattle.std.proofs.Common.{arith, sym, subst}
-use Rattle.ndc_laws_cells.specs.Keeping.{CanWriteEach}
+use Rattle.ndc_model_cells.specs.Keeping.{CanWriteEach}
 use Rattle.ndc_model_cells.specs.Writing.{Desk}
 use Rattle.ndc_example_cell.proofs.SharedLemmas.{desk-is, shared-reapply}
 use Rattle.ndc_example_cell.proofs.engine.reapply.Goals as goal

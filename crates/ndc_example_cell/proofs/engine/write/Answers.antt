@@ -1,5 +1,5 @@
 use Rattle.std.proofs.Common.{rules, ◌≡◌, sym, subst, arith}
-use Rattle.ndc_laws_cells.specs.Keeping.{CanWrite}
+use Rattle.ndc_model_cells.specs.Keeping.{CanWrite}
 use Rattle.ndc_model_cells.specs.Writing.{Desk}
 use Rattle.ndc_example_cell.proofs.SharedLemmas.{desk-is, refuse-then, shared-flip, shared-write, write-then}
 use Rattle.ndc_example_cell.proofs.engine.write.Goals as goal

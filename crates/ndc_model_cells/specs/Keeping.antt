@@ -1,5 +1,5 @@
 -- What the caller of a cell vouches for: of each workflow a sound set of batches that holds all that has arrived there.
-use Rattle.std.specs.Prelude.{◌≡◌, ◌≤◌, ◌^◌, true, is_some, length, List, [], ◌∷◌, Some, None, IfSome, Result, Ok, Err}
+use Rattle.std.specs.Prelude.{◌≡◌, ℕ, ◌≤◌, ◌^◌, true, is_some, length, List, [], ◌∷◌, Some, None, IfSome, Result, Ok, Err}
 use Rattle.std.specs.List.{AllByRecursion, flat_map}
 use Rattle.ndc_command.specs.declared.refusal.CommandError.{CommandError}
 use Rattle.ndc_domain.specs.Clusters.{writer_of}
@@ -9,18 +9,21 @@ use Rattle.ndc_model_cells.specs.declared.message.Message.{Message}
 use Rattle.ndc_model_cells.specs.Cells.{Cell, arrived_of, learned_of}
 use Rattle.ndc_model_cells.specs.Laws.{arrived_second}
 use Rattle.ndc_model_cells.specs.Places.{is_of}
-use Rattle.ndc_model_cells.specs.Writing.{Desk, Entry}
+use Rattle.ndc_model_cells.specs.Writing.{Desk, Entry, goes_on}
 use Rattle.ndc_model_sets.specs.Learned.{IsPart}
 use Rattle.ndc_model_sets.specs.Paths.{events_to, versions_of}
 use Rattle.ndc_model_sets.specs.Sets.{Has, arrived}
 use Rattle.ndc_model_sets.specs.Sound.{CopiesNamed, IsSound}
-use Rattle.ndc_laws_cells.specs.Entries.{HaveTasksUpTo, goes_on}
 
 -- a sound set of batches of a workflow holds all that has arrived of it in a cell
 pub record IsKept (all : List Batch) (domain workflow : Name) (cell : Cell) : Type 0 where
   pub own : AllByRecursion (λ b. is_of domain workflow b ≡ true) all
   pub sound : IsSound all
   pub within : IsPart (arrived_of domain workflow cell) all
+
+-- no batch has a task above this one
+abbrev pub HaveTasksUpTo : ℕ → List Batch → Type 0
+HaveTasksUpTo most batches = (b : Batch) → Has batches b → b.key.task ≤ most
 
 -- a set of batches is in range: its events are at most 10^11 in all, and so are its tasks
 pub record HasRange (all : List Batch) : Type 0 where
