@@ -1,5 +1,5 @@
 -- The last of some events.
-use Rattle.std.proofs.Common.{◌≡◌, ℕ, ◌-◌, List, [], ◌∷◌, length, Some, slice_get, refl, sym, ap, ◌∙◌, arith}
+use Rattle.std.proofs.Common.{◌≡◌, ℕ, ◌-◌, List, [], ◌∷◌, length, Some, slice_get, refl, sym, ap, ◌∙◌}
 use Rattle.ndc_event.specs.declared.batch.Event.{Event}
 use Rattle.ndc_model_sets.specs.Paths.{last_event, last_from}
 use Rattle.ndc_model_sets.proofs.EventLemmas.{before-suc}

@@ -17,7 +17,6 @@ use Rattle.ndc_state.specs.Origins.{same_origin}
 use Rattle.ndc_dump_causes.specs.declared.originals.Signal.{Signal}
 use Rattle.ndc_dump_causes.specs.Causes.{has_unfit_copy, is_original, is_unfit_copy, misnames, names}
 use Rattle.ndc_dump_causes.specs.Originals.{both, has_unfit_among, is_unfit_among, is_unlike, joined, misfits, misfits_in, place_of, same_signal, signal_in, with_batches, with_event, with_events}
-use Rattle.ndc_model_sets.proofs.BranchLemmas.{run_id}
 
 -- ---- tests
 
@@ -91,6 +90,9 @@ kind-unlike name input _ = refl
 
 origin : RunId → ℕ → ℕ → Origin
 origin run event version = record { run = run; event = event; version = version }
+
+run_id : ℕ → RunId
+run_id value = record { value = value }
 
 parts-origin : (a b : ℕ) (e f v w : ℕ) → a ≡ b → e ≡ f → v ≡ w → origin (run_id a) e v ≡ origin (run_id b) f w
 unfolding origin run_id

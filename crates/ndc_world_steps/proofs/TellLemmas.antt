@@ -10,7 +10,6 @@ use Rattle.ndc_model.specs.Steps.{applied_by, arrived_by, known_by, learned_by, 
 use Rattle.ndc_world_replication.specs.Dones.{notes_in}
 use Rattle.ndc_world_replication.specs.declared.working.Done.{Done}
 use Rattle.ndc_world_steps.specs.Telling.{tally_of}
-use Rattle.ndc_world_answers.proofs.TallyLemmas.{tally, same-tally}
 
 map-both : (f : Note → ℕ) (one two : List Note) → map f (one ++ two) ≡ map f one ++ map f two
 map-both f [] two = refl
@@ -20,6 +19,12 @@ both : (f : Note → ℕ) (one two : List Note) (before : ℕ) → before + sum 
 both f one two before =
     let joined : sum (map f (one ++ two)) ≡ sum (map f one) + sum (map f two) = ap sum (map-both f one two) ∙ sum_by-append (λ n. n) (map f one) (map f two) in
     omega (arith, joined)
+
+tally : ℕ → ℕ → ℕ → ℕ → ℕ → Tally
+tally learned known put_off arrived applied = record { learned = learned; known = known; put_off = put_off; arrived = arrived; applied = applied }
+
+same-tally : (a b c d e v w x y z : ℕ) → a ≡ v → b ≡ w → c ≡ x → d ≡ y → e ≡ z → tally a b c d e ≡ tally v w x y z
+same-tally a b c d e v w x y z p q r s t = cc
 
 -- of jobs that were done, counted behind others
 pub counts_more : (done : Done) (dones : List Done) (t : Tally) → with_notes (flat_map notes_in (done ∷ dones)) t ≡ with_notes (flat_map notes_in dones) (with_notes (notes_in done) t)
