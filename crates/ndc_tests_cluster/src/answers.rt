@@ -4,13 +4,13 @@ use ndc_event::{BatchKey, Name, RunId};
 use ndc_history::Item;
 use ndc_resend::{Gap, GapOf};
 use ndc_world_answers::{
-    Tally, arrived, behind_number, brought, counted, gaps, refusal, settled, worked,
+    AnswerText, Tally, arrived, brought, counted, gaps, refusal, settled, worked,
 };
 use std::alloc::{AllocError, Global};
 use std::test::Fail;
 
 const ANSWERS: &str =
-    "ok 17\nok learned 3 known 1 putoff 2 reapplied 4\nok arrived 5 learned 3\nok domains 2 arrived 5 learned 3\nok learned 3 reapplied 4\n4 refused NotActive 12\nok 1\ngap alpha w1 2.5 after 4@1 before 9@2 missing 1.3\n";
+    "1 ok 17\n2 ok learned 3 known 1 putoff 2 reapplied 4\n3 ok arrived 5 learned 3\n4 ok domains 2 arrived 5 learned 3\n5 ok learned 3 reapplied 4\n6 refused NotActive 12\n7 ok 1\ngap alpha w1 2.5 after 4@1 before 9@2 missing 1.3\n";
 
 // Appends answers on numbers.
 fn push_numbers(alloc: Global, text: &mut Vec<u8>) -> Result<(), AllocError> {
@@ -21,15 +21,15 @@ fn push_numbers(alloc: Global, text: &mut Vec<u8>) -> Result<(), AllocError> {
         arrived: 5,
         applied: 4,
     };
-    text.extend_from_slice(counted(alloc, 17)?.as_slice())?;
-    text.extend_from_slice(worked(alloc, tally)?.as_slice())?;
-    text.extend_from_slice(arrived(alloc, tally)?.as_slice())?;
-    text.extend_from_slice(brought(alloc, 2, tally)?.as_slice())?;
-    text.extend_from_slice(settled(alloc, tally)?.as_slice())
+    counted(alloc, 17)?.push_behind_number(text, 1)?;
+    worked(alloc, tally)?.push_behind_number(text, 2)?;
+    arrived(alloc, tally)?.push_behind_number(text, 3)?;
+    brought(alloc, 2, tally)?.push_behind_number(text, 4)?;
+    settled(alloc, tally)?.push_behind_number(text, 5)
 }
 
 // The answer on one gap.
-fn one_gap(alloc: Global, domain: &Name, workflow: &Name) -> Result<Vec<u8>, AllocError> {
+fn one_gap(alloc: Global, domain: &Name, workflow: &Name) -> Result<AnswerText, AllocError> {
     let list = [GapOf {
         domain: domain.try_copy()?,
         workflow: workflow.try_copy()?,
@@ -55,9 +55,9 @@ fn answers(alloc: Global) -> Result<Vec<u8>, AllocError> {
     let mut text = Vec::new(alloc);
     push_numbers(alloc, &mut text)?;
     let refused = refusal(alloc, Refusal::NotActive { version: 12 })?;
-    text.extend_from_slice(behind_number(alloc, 4, refused.as_slice())?.as_slice())?;
+    refused.push_behind_number(&mut text, 6)?;
     let gap = one_gap(alloc, &name(alloc, "alpha")?, &name(alloc, "w1")?)?;
-    text.extend_from_slice(gap.as_slice())?;
+    gap.push_behind_number(&mut text, 7)?;
     Ok(text)
 }
 

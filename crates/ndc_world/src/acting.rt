@@ -11,9 +11,10 @@ ghost use Rattle.ndc_world.specs.Reading.{is_read};
 use ndc_cluster_reads::Reads;
 use ndc_port::Gate;
 use ndc_script_types::{Act, Header};
+use ndc_world_answers::AnswerText;
 use ndc_world_queries::{gaps, reading};
 use ndc_world_replication::Replication;
-use ndc_world_steps::{Answer, answered, domains, handovers, lanes, letters, moving, writing};
+use ndc_world_steps::{Told, answered, domains, handovers, lanes, letters, moving, writing};
 use std::alloc::{AllocError, Global};
 use std::thread::Threads;
 
@@ -28,7 +29,7 @@ pub(crate) fn act<R: Threads + Sync, G: Gate, C: Reads + Drop + Send>(
     header: &Header,
     lines: u64,
     act: &Act,
-) -> Result<Answer, AllocError>
+) -> Result<Told, AllocError>
     requires workers { 0 < workers }
     requires header { IsWellFormedHeader header.now }
     requires act { IsWellFormedAct header.now act.now }
@@ -171,12 +172,12 @@ fn read<C: Reads + Drop>(
     header: &Header,
     lines: u64,
     act: &Act,
-) -> Result<Vec<u8>, AllocError>
+) -> Result<AnswerText, AllocError>
     requires header { IsWellFormedHeader header.now }
     requires act { IsWellFormedAct header.now act.now }
     requires read { is_read act.now ≡ true }
     requires reached { IsReached header.now lines replication.now }
-    ensures { IfOk result (λ text. answered replication.now text.items ≡ act_step header.now act.now replication.now) }
+    ensures { IfOk result (λ text. answered replication.now text ≡ act_step header.now act.now replication.now) }
 {
     match act {
         Act::Domain { at, domain } => domains::domain(replication, alloc, header, *at, domain),

@@ -12,14 +12,14 @@ ghost use Rattle.ndc_model.specs.Conditions.{MayDoAll};
 ghost use Rattle.ndc_world.specs.Bursts.{burst_text};
 ghost use Rattle.ndc_world.specs.Counts.{refusals};
 
+use crate::answer::Answer;
 use ndc_cluster_reads::Reads;
 use ndc_domain::ClusterNo;
 use ndc_model_cells::{Job, JobReply, Outcome, ShardJob, shard_of};
 use ndc_port::Gate;
 use ndc_script_types::{BurstJob, Header};
-use ndc_world_answers::{add_seen, behind_number, outcome};
+use ndc_world_answers::{add_seen, outcome};
 use ndc_world_replication::Replication;
-use ndc_world_steps::Answer;
 use std::alloc::{AllocError, Global};
 use std::thread::Threads;
 
@@ -64,8 +64,7 @@ fn answers_of(
             return Ok(text);
         }
         let answer = outcome(alloc, &replies[place].outcome)?;
-        let line = behind_number(alloc, burst[place].number, answer.as_slice())?;
-        text.extend_from_slice(line.as_slice())?;
+        answer.push_behind_number(&mut text, burst[place].number)?;
     }
     Ok(text)
 }

@@ -2,6 +2,7 @@
 #![tactic(auto)]
 
 mod acting;
+mod answer;
 mod bursts;
 mod reporting;
 mod running;
@@ -9,7 +10,7 @@ mod settled;
 mod summary;
 mod world;
 
-pub use ndc_world_steps::Answer;
+pub use answer::Answer;
 pub use settled::Settled;
 pub use summary::Summary;
 pub use world::World;

@@ -16,7 +16,7 @@ use ndc_cluster_reads::Reads;
 use ndc_progress::Progress;
 use ndc_script_types::{Act, Header, clusters_below};
 use ndc_world_replication::Replication;
-use ndc_world_steps::{Answer, answered, reports};
+use ndc_world_steps::{Told, answered, reports};
 use std::alloc::{AllocError, Global};
 
 /// Whether a line tells of activities, takes reports over or shows one.
@@ -49,7 +49,7 @@ pub(crate) fn report<C: Reads + Drop>(
     alloc: Global,
     header: &Header,
     act: &Act,
-) -> Result<Answer, AllocError>
+) -> Result<Told, AllocError>
     requires header { IsWellFormedHeader header.now }
     requires act { IsWellFormedAct header.now act.now }
     requires on { is_on_reports act.now ≡ true }

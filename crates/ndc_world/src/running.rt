@@ -19,6 +19,7 @@ ghost use Rattle.ndc_world.specs.Running.{HaveRun};
 ghost use Rattle.ndc_world.specs.Standing.{IsBehind, IsStanding};
 
 use crate::acting::act;
+use crate::answer::Answer;
 use crate::bursts::burst;
 use crate::reporting::{is_on_reports, report};
 use ndc_cluster_reads::Reads;
@@ -26,9 +27,8 @@ use ndc_domain::ClusterNo;
 use ndc_port::Gate;
 use ndc_progress::Progress;
 use ndc_script_types::{Act, BurstJob, Header, Line};
-use ndc_world_answers::behind_number;
 use ndc_world_replication::Replication;
-use ndc_world_steps::Answer;
+use ndc_world_steps::Told;
 use std::alloc::{AllocError, Global};
 use std::thread::Threads;
 
@@ -43,14 +43,15 @@ pub(crate) fn line_count(asked: &Act) -> u64
 }
 
 /// The answer of a line that is no burst, behind its number; and how many answers are refusals, none or one.
-fn one_answer(alloc: Global, number: u64, answer: Answer) -> Result<(Answer, u64), AllocError>
-    ensures text { IfOk result (λ told. told.0.text ≡ decimal number ++ codes " " ++ answer.text) }
-    ensures seen { IfOk result (λ told. told.0.seen ≡ answer.seen) }
-    ensures refused { IfOk result (λ told. told.1 ≡ one_if (is_refusal answer.text)) }
+fn one_answer(alloc: Global, number: u64, told: Told) -> Result<(Answer, u64), AllocError>
+    ensures text { IfOk result (λ answer. answer.0.text ≡ decimal number ++ codes " " ++ told.text) }
+    ensures seen { IfOk result (λ answer. answer.0.seen ≡ told.seen) }
+    ensures refused { IfOk result (λ answer. answer.1 ≡ one_if (is_refusal told.text)) }
 {
-    let Answer { text, seen } = answer;
-    let refused = u64::from(text.as_slice().starts_with(b"refused"));
-    let text = behind_number(alloc, number, text.as_slice())?;
+    let Told { text: answer, seen } = told;
+    let refused = u64::from(answer.is_refusal());
+    let mut text = Vec::new(alloc);
+    answer.push_behind_number(&mut text, number)?;
     Ok((Answer { text, seen }, refused))
 }
 

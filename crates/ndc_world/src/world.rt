@@ -1,3 +1,4 @@
+use crate::answer::Answer;
 use crate::reporting::no_reports;
 use crate::running::{line_count, run_line};
 use crate::settled::Settled;
@@ -10,7 +11,6 @@ use ndc_progress::Progress;
 use ndc_script_types::{Header, Line};
 use ndc_world_replication::Replication;
 use ndc_world_replication::publishers::cluster_of;
-use ndc_world_steps::Answer;
 use ndc_world_steps::moving::{Telling, settlement};
 use ndc_world_summary::totals;
 use std::alloc::{AllocError, Global};

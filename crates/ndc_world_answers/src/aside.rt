@@ -4,23 +4,23 @@ ghost use Rattle.ndc_domain.specs.Clusters.{count_of};
 ghost use Rattle.ndc_model.specs.Letters.{letter_line, letters_answer};
 ghost use Rattle.ndc_model.specs.Texts.{ok};
 
-use crate::domains::counted;
-use crate::word::{Word, ok};
+use crate::text::AnswerText;
+use crate::word::{Word, count_line, ok};
 use ndc_dump_show::line::{push_key, push_number};
 use ndc_letters::Letter;
 use ndc_script_types::Header;
 use std::alloc::{AllocError, Global};
 
 /// What came was read as the batch that was sent.
-pub fn whole(alloc: Global) -> Result<Vec<u8>, AllocError>
-    ensures { IfOk result (λ text. text.items ≡ ok (codes "whole" ∷ [])) }
+pub fn whole(alloc: Global) -> Result<AnswerText, AllocError>
+    ensures { IfOk result (λ text. text ≡ ok (codes "whole" ∷ [])) }
 {
     ok(alloc, &[Word::Plain("whole")])
 }
 
 /// What came was set aside.
-pub fn set_aside(alloc: Global) -> Result<Vec<u8>, AllocError>
-    ensures { IfOk result (λ text. text.items ≡ ok (codes "aside" ∷ [])) }
+pub fn set_aside(alloc: Global) -> Result<AnswerText, AllocError>
+    ensures { IfOk result (λ text. text ≡ ok (codes "aside" ∷ [])) }
 {
     ok(alloc, &[Word::Plain("aside")])
 }
@@ -44,13 +44,13 @@ fn push_letter(text: &mut Vec<u8>, header: &Header, letter: &Letter) -> Result<(
 }
 
 /// How many letters there are, and a line for each.
-pub fn letters(alloc: Global, header: &Header, letters: &[Letter]) -> Result<Vec<u8>, AllocError>
+pub fn letters(alloc: Global, header: &Header, letters: &[Letter]) -> Result<AnswerText, AllocError>
     requires { AllByRecursion (λ letter. letter.source.number < count_of header.now.clusters) letters.now }
-    ensures { IfOk result (λ text. text.items ≡ letters_answer header.now letters.now) }
+    ensures { IfOk result (λ text. text ≡ letters_answer header.now letters.now) }
 {
-    let mut text = counted(alloc, letters.len() as u64)?;
+    let mut text = count_line(alloc, letters.len() as u64)?;
     for letter in letters {
         push_letter(&mut text, header, letter)?;
     }
-    Ok(text)
+    Ok(AnswerText::done(text))
 }

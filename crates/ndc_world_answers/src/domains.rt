@@ -4,28 +4,29 @@ ghost use Rattle.ndc_model.specs.Tables.{domain_answer, failover_words, join_wor
 ghost use Rattle.ndc_model.specs.Texts.{ok, refused};
 ghost use Rattle.ndc_world_answers.specs.Writers.{writer_name_in};
 
+use crate::text::AnswerText;
 use crate::word::{Word, ok, refused};
 use ndc_domain::{Clusters, DomainError, DomainRecord, FailoverError, JoinError, RetainError};
 use ndc_script_types::Header;
 use std::alloc::{AllocError, Global};
 
 /// A line was done, and there is nothing to say of it.
-pub fn done(alloc: Global) -> Result<Vec<u8>, AllocError>
-    ensures { IfOk result (λ text. text.items ≡ ok []) }
+pub fn done(alloc: Global) -> Result<AnswerText, AllocError>
+    ensures { IfOk result (λ text. text ≡ ok []) }
 {
     ok(alloc, &[])
 }
 
 /// A line was done, and answers a number.
-pub fn counted(alloc: Global, number: u64) -> Result<Vec<u8>, AllocError>
-    ensures { IfOk result (λ text. text.items ≡ ok (decimal number ∷ [])) }
+pub fn counted(alloc: Global, number: u64) -> Result<AnswerText, AllocError>
+    ensures { IfOk result (λ text. text ≡ ok (decimal number ∷ [])) }
 {
     ok(alloc, &[Word::Number(number)])
 }
 
 /// Why a domain is not registered; want of memory has no word.
-pub fn register_refused(alloc: Global, error: DomainError) -> Result<Vec<u8>, AllocError>
-    ensures { IfOk result (λ text. text.items ≡ refused (register_words error)) }
+pub fn register_refused(alloc: Global, error: DomainError) -> Result<AnswerText, AllocError>
+    ensures { IfOk result (λ text. text ≡ refused (register_words error)) }
 {
     match error {
         DomainError::NotPrimary => refused(alloc, &[Word::Plain("NotPrimary")]),
@@ -37,8 +38,8 @@ pub fn register_refused(alloc: Global, error: DomainError) -> Result<Vec<u8>, Al
 }
 
 /// Why the days of a domain are not changed.
-pub fn retain_refused(alloc: Global, error: RetainError) -> Result<Vec<u8>, AllocError>
-    ensures { IfOk result (λ text. text.items ≡ refused (retain_words error)) }
+pub fn retain_refused(alloc: Global, error: RetainError) -> Result<AnswerText, AllocError>
+    ensures { IfOk result (λ text. text ≡ refused (retain_words error)) }
 {
     match error {
         RetainError::NotPrimary => refused(alloc, &[Word::Plain("NotPrimary")]),
@@ -47,8 +48,8 @@ pub fn retain_refused(alloc: Global, error: RetainError) -> Result<Vec<u8>, Allo
 }
 
 /// Why a domain is not failed over.
-pub fn failover_refused(alloc: Global, error: FailoverError) -> Result<Vec<u8>, AllocError>
-    ensures { IfOk result (λ text. text.items ≡ refused (failover_words error)) }
+pub fn failover_refused(alloc: Global, error: FailoverError) -> Result<AnswerText, AllocError>
+    ensures { IfOk result (λ text. text ≡ refused (failover_words error)) }
 {
     match error {
         FailoverError::UnknownDomain => refused(alloc, &[Word::Plain("UnknownDomain")]),
@@ -59,8 +60,8 @@ pub fn failover_refused(alloc: Global, error: FailoverError) -> Result<Vec<u8>, 
 }
 
 /// Why a cluster does not join a domain.
-pub fn join_refused(alloc: Global, error: JoinError) -> Result<Vec<u8>, AllocError>
-    ensures { IfOk result (λ text. text.items ≡ refused (join_words error)) }
+pub fn join_refused(alloc: Global, error: JoinError) -> Result<AnswerText, AllocError>
+    ensures { IfOk result (λ text. text ≡ refused (join_words error)) }
 {
     match error {
         JoinError::NotPrimary => refused(alloc, &[Word::Plain("NotPrimary")]),
@@ -84,8 +85,8 @@ pub fn domain(
     alloc: Global,
     header: &Header,
     known: Option<&DomainRecord>,
-) -> Result<Vec<u8>, AllocError>
-    ensures { IfOk result (λ text. text.items ≡ domain_answer header.now (option_copied known.entry)) }
+) -> Result<AnswerText, AllocError>
+    ensures { IfOk result (λ text. text ≡ domain_answer header.now (option_copied known.entry)) }
 {
     match known {
         None => refused(alloc, &[Word::Plain("UnknownDomain")]),

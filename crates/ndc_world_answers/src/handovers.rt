@@ -3,27 +3,28 @@ ghost use Rattle.ndc_model.specs.Handovers.{begin_words};
 ghost use Rattle.ndc_model.specs.Texts.{ok, refused};
 ghost use Rattle.ndc_world_answers.specs.Handovers.{ready_words};
 
+use crate::text::AnswerText;
 use crate::word::{Word, refused};
 use ndc_graceful::{BeginError, ReadyError};
 use std::alloc::{AllocError, Global};
 
 /// A handover of the domain is open already.
-pub fn still_open(alloc: Global) -> Result<Vec<u8>, AllocError>
-    ensures { IfOk result (λ text. text.items ≡ refused (codes "HandoverOpen" ∷ [])) }
+pub fn still_open(alloc: Global) -> Result<AnswerText, AllocError>
+    ensures { IfOk result (λ text. text ≡ refused (codes "HandoverOpen" ∷ [])) }
 {
     refused(alloc, &[Word::Plain("HandoverOpen")])
 }
 
 /// No handover of the domain to the cluster is open.
-pub fn no_handover(alloc: Global) -> Result<Vec<u8>, AllocError>
-    ensures { IfOk result (λ text. text.items ≡ refused (codes "NoHandover" ∷ [])) }
+pub fn no_handover(alloc: Global) -> Result<AnswerText, AllocError>
+    ensures { IfOk result (λ text. text ≡ refused (codes "NoHandover" ∷ [])) }
 {
     refused(alloc, &[Word::Plain("NoHandover")])
 }
 
 /// Why a handover does not begin; want of memory has no word.
-pub fn begin_refused(alloc: Global, error: BeginError) -> Result<Vec<u8>, AllocError>
-    ensures { IfOk result (λ text. text.items ≡ refused (begin_words error)) }
+pub fn begin_refused(alloc: Global, error: BeginError) -> Result<AnswerText, AllocError>
+    ensures { IfOk result (λ text. text ≡ refused (begin_words error)) }
 {
     match error {
         BeginError::UnknownDomain => refused(alloc, &[Word::Plain("UnknownDomain")]),
@@ -37,8 +38,8 @@ pub fn begin_refused(alloc: Global, error: BeginError) -> Result<Vec<u8>, AllocE
 }
 
 /// What keeps a handover from its end.
-pub fn ready_refused(alloc: Global, error: ReadyError) -> Result<Vec<u8>, AllocError>
-    ensures { IfOk result (λ text. text.items ≡ refused (ready_words error)) }
+pub fn ready_refused(alloc: Global, error: ReadyError) -> Result<AnswerText, AllocError>
+    ensures { IfOk result (λ text. text ≡ refused (ready_words error)) }
 {
     match error {
         ReadyError::Overtaken { version } => {

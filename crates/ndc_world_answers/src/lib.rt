@@ -9,6 +9,7 @@ mod progress;
 mod queues;
 mod reading;
 mod tally;
+mod text;
 mod word;
 mod writing;
 
@@ -22,5 +23,5 @@ pub use progress::{beaten, report, stale};
 pub use queues::{arrived, brought, gaps, levels, no_place, settled, worked};
 pub use reading::{branches, compared, current, dump, history, no_workflow, state};
 pub use tally::{Tally, add_seen, sum};
-pub use word::behind_number;
+pub use text::AnswerText;
 pub use writing::{outcome, refusal};

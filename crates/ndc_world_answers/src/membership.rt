@@ -7,6 +7,7 @@ ghost use Rattle.ndc_model.specs.Tables.{members_answer};
 ghost use Rattle.ndc_text.specs.Views.{further, with_commas};
 ghost use Rattle.ndc_world_answers.specs.Writers.{names_at};
 
+use crate::text::AnswerText;
 use crate::word::{Word, ok, refused};
 use ndc_domain::{ClusterNo, Clusters, DomainRecord, Members};
 use ndc_event::Name;
@@ -75,9 +76,9 @@ pub fn members(
     alloc: Global,
     header: &Header,
     known: Option<&DomainRecord>,
-) -> Result<Vec<u8>, AllocError>
+) -> Result<AnswerText, AllocError>
     requires { IfSome (option_copied known) (λ one. AllByRecursion (λ number. number < count_of header.now.clusters) one.members) }
-    ensures { IfOk result (λ text. text.items ≡ members_answer header.now (option_copied known.entry)) }
+    ensures { IfOk result (λ text. text ≡ members_answer header.now (option_copied known.entry)) }
 {
     let Some(one) = known else {
         return refused(alloc, &[Word::Plain("UnknownDomain")]);

@@ -3,17 +3,17 @@ ghost use Rattle.std.specs.List.{flat_map};
 ghost use Rattle.ndc_model.specs.Texts.{ok, refused};
 ghost use Rattle.ndc_world_answers.specs.Gaps.{gap_ends, gap_head, gap_text};
 
-use crate::domains::counted;
 use crate::tally::Tally;
-use crate::word::{Word, ok, refused};
+use crate::text::AnswerText;
+use crate::word::{Word, count_line, ok, refused};
 use ndc_dump_show::line::{push_item, push_key};
 use ndc_queue::Levels;
 use ndc_resend::GapOf;
 use std::alloc::{AllocError, Global};
 
 /// No message is at the place.
-pub fn no_place(alloc: Global) -> Result<Vec<u8>, AllocError>
-    ensures { IfOk result (λ text. text.items ≡ refused (codes "NoSuchPlace" ∷ [])) }
+pub fn no_place(alloc: Global) -> Result<AnswerText, AllocError>
+    ensures { IfOk result (λ text. text ≡ refused (codes "NoSuchPlace" ∷ [])) }
 {
     refused(alloc, &[Word::Plain("NoSuchPlace")])
 }
@@ -25,8 +25,8 @@ pub fn levels(
     trimmed: u64,
     levels: Levels,
     flight: u64,
-) -> Result<Vec<u8>, AllocError>
-    ensures { IfOk result (λ text. text.items ≡ ok (codes "queue" ∷ decimal queue ∷ codes "trimmed" ∷ decimal trimmed
+) -> Result<AnswerText, AllocError>
+    ensures { IfOk result (λ text. text ≡ ok (codes "queue" ∷ decimal queue ∷ codes "trimmed" ∷ decimal trimmed
         ∷ codes "read" ∷ decimal levels.read ∷ codes "done" ∷ decimal levels.done ∷ codes "flight" ∷ decimal flight ∷ [])) }
 {
     ok(
@@ -47,8 +47,8 @@ pub fn levels(
 }
 
 /// What came of `work`.
-pub fn worked(alloc: Global, tally: Tally) -> Result<Vec<u8>, AllocError>
-    ensures { IfOk result (λ text. text.items ≡ ok (codes "learned" ∷ decimal tally.learned ∷ codes "known" ∷ decimal tally.known
+pub fn worked(alloc: Global, tally: Tally) -> Result<AnswerText, AllocError>
+    ensures { IfOk result (λ text. text ≡ ok (codes "learned" ∷ decimal tally.learned ∷ codes "known" ∷ decimal tally.known
         ∷ codes "putoff" ∷ decimal tally.put_off ∷ codes "reapplied" ∷ decimal tally.applied ∷ [])) }
 {
     ok(
@@ -67,8 +67,8 @@ pub fn worked(alloc: Global, tally: Tally) -> Result<Vec<u8>, AllocError>
 }
 
 /// What came of messages that arrived: `resend` and `mergeletters`.
-pub fn arrived(alloc: Global, tally: Tally) -> Result<Vec<u8>, AllocError>
-    ensures { IfOk result (λ text. text.items ≡ ok (codes "arrived" ∷ decimal tally.arrived ∷ codes "learned" ∷ decimal tally.learned ∷ [])) }
+pub fn arrived(alloc: Global, tally: Tally) -> Result<AnswerText, AllocError>
+    ensures { IfOk result (λ text. text ≡ ok (codes "arrived" ∷ decimal tally.arrived ∷ codes "learned" ∷ decimal tally.learned ∷ [])) }
 {
     ok(
         alloc,
@@ -82,8 +82,8 @@ pub fn arrived(alloc: Global, tally: Tally) -> Result<Vec<u8>, AllocError>
 }
 
 /// What came of `bootstrap`, of so many domains.
-pub fn brought(alloc: Global, domains: u64, tally: Tally) -> Result<Vec<u8>, AllocError>
-    ensures { IfOk result (λ text. text.items ≡ ok (codes "domains" ∷ decimal domains ∷ codes "arrived" ∷ decimal tally.arrived
+pub fn brought(alloc: Global, domains: u64, tally: Tally) -> Result<AnswerText, AllocError>
+    ensures { IfOk result (λ text. text ≡ ok (codes "domains" ∷ decimal domains ∷ codes "arrived" ∷ decimal tally.arrived
         ∷ codes "learned" ∷ decimal tally.learned ∷ [])) }
 {
     ok(
@@ -100,8 +100,8 @@ pub fn brought(alloc: Global, domains: u64, tally: Tally) -> Result<Vec<u8>, All
 }
 
 /// What came of `settle`.
-pub fn settled(alloc: Global, tally: Tally) -> Result<Vec<u8>, AllocError>
-    ensures { IfOk result (λ text. text.items ≡ ok (codes "learned" ∷ decimal tally.learned ∷ codes "reapplied" ∷ decimal tally.applied ∷ [])) }
+pub fn settled(alloc: Global, tally: Tally) -> Result<AnswerText, AllocError>
+    ensures { IfOk result (λ text. text ≡ ok (codes "learned" ∷ decimal tally.learned ∷ codes "reapplied" ∷ decimal tally.applied ∷ [])) }
 {
     ok(
         alloc,
@@ -148,12 +148,12 @@ fn push_gap(text: &mut Vec<u8>, gap: &GapOf) -> Result<(), AllocError>
 }
 
 /// How many batches are put off, and a line for each.
-pub fn gaps(alloc: Global, gaps: &[GapOf]) -> Result<Vec<u8>, AllocError>
-    ensures { IfOk result (λ text. text.items ≡ ok (decimal (length gaps.now) ∷ []) ++ flat_map gap_text gaps.now) }
+pub fn gaps(alloc: Global, gaps: &[GapOf]) -> Result<AnswerText, AllocError>
+    ensures { IfOk result (λ text. text ≡ ok (decimal (length gaps.now) ∷ []) ++ flat_map gap_text gaps.now) }
 {
-    let mut text = counted(alloc, gaps.len() as u64)?;
+    let mut text = count_line(alloc, gaps.len() as u64)?;
     for gap in gaps {
         push_gap(&mut text, gap)?;
     }
-    Ok(text)
+    Ok(AnswerText::done(text))
 }

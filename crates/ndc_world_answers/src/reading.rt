@@ -6,9 +6,9 @@ ghost use Rattle.ndc_state.specs.Replay.{history_of};
 ghost use Rattle.ndc_state.specs.Text.{state_text};
 ghost use Rattle.ndc_text.specs.Views.{branch_line, dump_text, key_text, run_lines, status_text};
 
-use crate::domains::counted;
 use crate::tally::sum;
-use crate::word::{Word, ok, refused};
+use crate::text::AnswerText;
+use crate::word::{Word, count_line, ok, refused};
 use ndc_dump_show::dump_text;
 use ndc_dump_show::line::{push_branch_line, push_item, push_run_line, status_word};
 use ndc_event::{Batch, BatchKey, Event, Name, RunId};
@@ -18,8 +18,8 @@ use ndc_state::{CloseKind, State};
 use std::alloc::{AllocError, Global};
 
 /// Nothing of the workflow is learned.
-pub fn no_workflow(alloc: Global) -> Result<Vec<u8>, AllocError>
-    ensures { IfOk result (λ text. text.items ≡ refused (codes "NoWorkflow" ∷ [])) }
+pub fn no_workflow(alloc: Global) -> Result<AnswerText, AllocError>
+    ensures { IfOk result (λ text. text ≡ refused (codes "NoWorkflow" ∷ [])) }
 {
     refused(alloc, &[Word::Plain("NoWorkflow")])
 }
@@ -62,15 +62,15 @@ fn count_events(path: &[&Batch]) -> Result<u64, AllocError>
 }
 
 /// How many events the batches of a path have, and a line for each event.
-pub fn history(alloc: Global, path: &[&Batch]) -> Result<Vec<u8>, AllocError>
-    ensures { IfOk result (λ text. text.items
+pub fn history(alloc: Global, path: &[&Batch]) -> Result<AnswerText, AllocError>
+    ensures { IfOk result (λ text. text
         ≡ ok (decimal (length (history_of (map (λ b. b.now) path.now))) ∷ []) ++ flat_map event_line (history_of (map (λ b. b.now) path.now))) }
 {
-    let mut text = counted(alloc, count_events(path)?)?;
+    let mut text = count_line(alloc, count_events(path)?)?;
     for batch in path {
         push_events(&mut text, batch.events.as_slice())?;
     }
-    Ok(text)
+    Ok(AnswerText::done(text))
 }
 
 /// Appends branches, one a line.
@@ -92,14 +92,14 @@ fn push_run(alloc: Global, text: &mut Vec<u8>, run: &RunView) -> Result<(), Allo
 }
 
 /// How many runs there are, and their lines with those of their branches.
-pub fn branches(alloc: Global, runs: &[RunView]) -> Result<Vec<u8>, AllocError>
-    ensures { IfOk result (λ text. text.items ≡ ok (decimal (length runs.now) ∷ []) ++ flat_map run_lines runs.now) }
+pub fn branches(alloc: Global, runs: &[RunView]) -> Result<AnswerText, AllocError>
+    ensures { IfOk result (λ text. text ≡ ok (decimal (length runs.now) ∷ []) ++ flat_map run_lines runs.now) }
 {
-    let mut text = counted(alloc, runs.len() as u64)?;
+    let mut text = count_line(alloc, runs.len() as u64)?;
     for run in runs {
         push_run(alloc, &mut text, run)?;
     }
-    Ok(text)
+    Ok(AnswerText::done(text))
 }
 
 /// The current run, the tip of its current branch, and its status.
@@ -109,8 +109,8 @@ pub fn current(
     tip: BatchKey,
     status: RunStatus,
     close: Option<CloseKind>,
-) -> Result<Vec<u8>, AllocError>
-    ensures { IfOk result (λ text. text.items ≡ ok (run_text run ∷ key_text tip ∷ status_text status close ∷ [])) }
+) -> Result<AnswerText, AllocError>
+    ensures { IfOk result (λ text. text ≡ ok (run_text run ∷ key_text tip ∷ status_text status close ∷ [])) }
 {
     let name = run.text(alloc)?;
     ok(
@@ -124,8 +124,8 @@ pub fn current(
 }
 
 /// A state in one line.
-pub fn state(alloc: Global, state: &State) -> Result<Vec<u8>, AllocError>
-    ensures { IfOk result (λ text. text.items ≡ ok (state_text state.now ∷ [])) }
+pub fn state(alloc: Global, state: &State) -> Result<AnswerText, AllocError>
+    ensures { IfOk result (λ text. text ≡ ok (state_text state.now ∷ [])) }
 {
     let shown = state.text()?;
     ok(alloc, &[Word::Bytes(shown.as_slice())])
@@ -137,17 +137,17 @@ pub fn dump(
     domain: &Name,
     workflow: &Name,
     view: &View,
-) -> Result<Vec<u8>, AllocError>
-    ensures { IfOk result (λ text. text.items ≡ ok (decimal (length view.now.batches) ∷ []) ++ dump_text domain.now workflow.now view.now) }
+) -> Result<AnswerText, AllocError>
+    ensures { IfOk result (λ text. text ≡ ok (decimal (length view.now.batches) ∷ []) ++ dump_text domain.now workflow.now view.now) }
 {
-    let mut text = counted(alloc, view.batches.as_slice().len() as u64)?;
+    let mut text = count_line(alloc, view.batches.as_slice().len() as u64)?;
     text.extend_from_slice(dump_text(alloc, domain, workflow, view)?.as_slice())?;
-    Ok(text)
+    Ok(AnswerText::done(text))
 }
 
 /// Whether two clusters show the same.
-pub fn compared(alloc: Global, is_same: bool) -> Result<Vec<u8>, AllocError>
-    ensures { IfOk result (λ text. text.items ≡ ok ((if is_same then codes "same" else codes "differ") ∷ [])) }
+pub fn compared(alloc: Global, is_same: bool) -> Result<AnswerText, AllocError>
+    ensures { IfOk result (λ text. text ≡ ok ((if is_same then codes "same" else codes "differ") ∷ [])) }
 {
     if is_same {
         ok(alloc, &[Word::Plain("same")])

@@ -1,7 +1,8 @@
-ghost use Rattle.std.specs.Prelude.{◌≡◌, ◌++◌, codes, decimal, map, IfOk, OnOk};
+ghost use Rattle.std.specs.Prelude.{◌≡◌, ◌++◌, [], ◌∷◌, codes, decimal, map, IfOk, OnOk};
 ghost use Rattle.ndc_model.specs.Texts.{ok, refused, spaced};
 ghost use Rattle.ndc_world_answers.specs.Words.{word_text};
 
+use crate::text::AnswerText;
 use ndc_dump_show::line::{push_key, push_number};
 use ndc_event::BatchKey;
 use std::alloc::{AllocError, Global};
@@ -42,35 +43,34 @@ fn push_words(text: &mut Vec<u8>, words: &[Word]) -> Result<(), AllocError>
     Ok(())
 }
 
-/// `ok`, and the words.
-pub(crate) fn ok(alloc: Global, words: &[Word]) -> Result<Vec<u8>, AllocError>
-    ensures { IfOk result (λ text. text.items ≡ ok (map word_text words.now)) }
+/// The first line of an answer: a word, and words behind it.
+fn line(alloc: Global, first: &'static str, words: &[Word]) -> Result<Vec<u8>, AllocError>
+    ensures { IfOk result (λ text. text.items ≡ first.now ++ spaced (map word_text words.now) ++ codes "\n") }
 {
     let mut text = Vec::new(alloc);
-    text.extend_from_slice(b"ok")?;
+    text.extend_from_slice(first.as_bytes())?;
     push_words(&mut text, words)?;
     text.extend_from_slice(b"\n")?;
     Ok(text)
+}
+
+/// `ok` and a number: the first line of an answer of so many lines more, or of lines on so many things.
+pub(crate) fn count_line(alloc: Global, number: u64) -> Result<Vec<u8>, AllocError>
+    ensures { IfOk result (λ text. text.items ≡ ok (decimal number ∷ [])) }
+{
+    line(alloc, "ok", &[Word::Number(number)])
+}
+
+/// `ok`, and the words.
+pub(crate) fn ok(alloc: Global, words: &[Word]) -> Result<AnswerText, AllocError>
+    ensures { IfOk result (λ text. text ≡ ok (map word_text words.now)) }
+{
+    Ok(AnswerText::done(line(alloc, "ok", words)?))
 }
 
 /// `refused`, and the words.
-pub(crate) fn refused(alloc: Global, words: &[Word]) -> Result<Vec<u8>, AllocError>
-    ensures { IfOk result (λ text. text.items ≡ refused (map word_text words.now)) }
+pub(crate) fn refused(alloc: Global, words: &[Word]) -> Result<AnswerText, AllocError>
+    ensures { IfOk result (λ text. text ≡ refused (map word_text words.now)) }
 {
-    let mut text = Vec::new(alloc);
-    text.extend_from_slice(b"refused")?;
-    push_words(&mut text, words)?;
-    text.extend_from_slice(b"\n")?;
-    Ok(text)
-}
-
-/// An answer behind the number of its line.
-pub fn behind_number(alloc: Global, number: u64, answer: &[u8]) -> Result<Vec<u8>, AllocError>
-    ensures { IfOk result (λ text. text.items ≡ decimal number ++ codes " " ++ answer.now) }
-{
-    let mut text = Vec::new(alloc);
-    push_number(&mut text, number)?;
-    text.extend_from_slice(b" ")?;
-    text.extend_from_slice(answer)?;
-    Ok(text)
+    Ok(AnswerText::refused(line(alloc, "refused", words)?))
 }

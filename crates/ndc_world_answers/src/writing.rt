@@ -3,6 +3,7 @@ ghost use Rattle.ndc_model.specs.Steps.{outcome_answer, written_words};
 ghost use Rattle.ndc_model.specs.Texts.{ok, refusal_words, refused};
 ghost use Rattle.ndc_world_answers.specs.Refusals.{carried_version, refusal_name_of};
 
+use crate::text::AnswerText;
 use crate::word::{Word, ok, refused};
 use ndc_command::Refusal;
 use ndc_model_cells::{Outcome, Written};
@@ -49,8 +50,8 @@ fn carried_version(refusal: Refusal) -> Option<u64>
 }
 
 /// Why a line that writes is refused.
-pub fn refusal(alloc: Global, refusal: Refusal) -> Result<Vec<u8>, AllocError>
-    ensures { IfOk result (λ text. text.items ≡ refused (refusal_words refusal)) }
+pub fn refusal(alloc: Global, refusal: Refusal) -> Result<AnswerText, AllocError>
+    ensures { IfOk result (λ text. text ≡ refused (refusal_words refusal)) }
 {
     let name = Word::Plain(refusal_name(refusal));
     match carried_version(refusal) {
@@ -60,8 +61,8 @@ pub fn refusal(alloc: Global, refusal: Refusal) -> Result<Vec<u8>, AllocError>
 }
 
 /// The keys of what was written.
-fn written(alloc: Global, written: Written) -> Result<Vec<u8>, AllocError>
-    ensures { IfOk result (λ text. text.items ≡ ok (written_words written)) }
+fn written(alloc: Global, written: Written) -> Result<AnswerText, AllocError>
+    ensures { IfOk result (λ text. text ≡ ok (written_words written)) }
 {
     match written.second {
         None => ok(alloc, &[Word::Key(written.key)]),
@@ -70,13 +71,13 @@ fn written(alloc: Global, written: Written) -> Result<Vec<u8>, AllocError>
 }
 
 /// What came of a line that writes; a job of another kind has no answer.
-pub fn outcome(alloc: Global, outcome: &Outcome) -> Result<Vec<u8>, AllocError>
-    ensures { IfOk result (λ text. text.items ≡ outcome_answer outcome.now) }
+pub fn outcome(alloc: Global, outcome: &Outcome) -> Result<AnswerText, AllocError>
+    ensures { IfOk result (λ text. text ≡ outcome_answer outcome.now) }
 {
     match outcome {
         Outcome::Written(keys) => written(alloc, *keys),
         Outcome::Refused(why) => refusal(alloc, *why),
-        Outcome::Arrived(_) => Ok(Vec::new(alloc)),
-        Outcome::Reapplied { .. } => Ok(Vec::new(alloc)),
+        Outcome::Arrived(_) => Ok(AnswerText::empty(alloc)),
+        Outcome::Reapplied { .. } => Ok(AnswerText::empty(alloc)),
     }
 }

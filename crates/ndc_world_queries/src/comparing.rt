@@ -7,6 +7,7 @@ ghost use Rattle.ndc_world_queries.specs.Learned.{last_key};
 
 use ndc_event::{Batch, BatchKey, Name};
 use ndc_shard_runs::Runs;
+use ndc_world_answers::AnswerText;
 use std::alloc::{AllocError, Global};
 
 /// Whether two lists of batches are one.
@@ -56,16 +57,16 @@ pub fn are_same(alloc: Global, one: Option<&Runs>, two: Option<&Runs>) -> Result
 
 /// What `compare` answers: whether two clusters show the same of a workflow. The numbers of the batches are in the
 /// ranges of batch texts.
-pub fn compare(
+pub(crate) fn compare(
     alloc: Global,
     domain: &Name,
     workflow: &Name,
     one: Option<&Runs>,
     two: Option<&Runs>,
-) -> Result<Vec<u8>, AllocError>
+) -> Result<AnswerText, AllocError>
     requires one { AllByRecursion InRange (batches_or_none (option_copied one)) }
     requires two { AllByRecursion InRange (batches_or_none (option_copied two)) }
-    ensures { IfOk result (λ text. text.items ≡ compare_answer domain.now workflow.now (batches_or_none (option_copied one.entry)) (batches_or_none (option_copied two.entry))) }
+    ensures { IfOk result (λ text. text ≡ compare_answer domain.now workflow.now (batches_or_none (option_copied one.entry)) (batches_or_none (option_copied two.entry))) }
 {
     let is_same = are_same(alloc, one, two)?;
     ndc_world_answers::compared(alloc, is_same)

@@ -11,6 +11,7 @@ use ndc_cluster_reads::Reads;
 use ndc_domain::ClusterNo;
 use ndc_resend::GapOf;
 use ndc_script_types::Header;
+use ndc_world_answers::AnswerText;
 use ndc_world_replication::Replication;
 use ndc_world_replication::publishers::cell_of;
 use std::alloc::{AllocError, Global};
@@ -59,10 +60,10 @@ pub fn gaps<C: Reads + Drop>(
     alloc: Global,
     header: &Header,
     cluster: ClusterNo,
-) -> Result<Vec<u8>, AllocError>
+) -> Result<AnswerText, AllocError>
     requires cluster { IsCluster header.now cluster }
     requires reached { IsReachedSometime header.now replication.now }
-    ensures { IfOk result (λ text. text.items ≡ gaps_answer header.now cluster replication.now) }
+    ensures { IfOk result (λ text. text ≡ gaps_answer header.now cluster replication.now) }
 {
     let gaps = all_gaps(replication, alloc, header, cluster)?;
     let text = ndc_world_answers::gaps(alloc, gaps.as_slice())?;

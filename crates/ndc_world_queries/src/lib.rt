@@ -6,5 +6,4 @@ pub mod gaps;
 mod queries;
 pub mod reading;
 
-pub use comparing::{are_same, compare};
-pub use queries::{branches, current, dump, history, state};
+pub use comparing::are_same;

@@ -6,11 +6,15 @@ use ndc_current::status;
 use ndc_event::{Batch, Name};
 use ndc_shard_runs::Runs;
 use ndc_state::{State, Steps};
+use ndc_world_answers::AnswerText;
 use std::alloc::{AllocError, Global};
 
+/// Steps of restoring states are counted under this name.
+struct Restoring;
+
 /// The answer of a line on the history, by the path to the tip, where there is one.
-fn history_text(alloc: Global, path: Option<Vec<&Batch>>) -> Result<Vec<u8>, AllocError>
-    ensures { IfOk result (λ text. text.items ≡ history_text (option_map (λ list. map (λ b. b.now) list.items) path.entry)) }
+fn history_text(alloc: Global, path: Option<Vec<&Batch>>) -> Result<AnswerText, AllocError>
+    ensures { IfOk result (λ text. text ≡ history_text (option_map (λ list. map (λ b. b.now) list.items) path.entry)) }
 {
     match path {
         Some(path) => ndc_world_answers::history(alloc, path.as_slice()),
@@ -20,22 +24,22 @@ fn history_text(alloc: Global, path: Option<Vec<&Batch>>) -> Result<Vec<u8>, All
 
 /// What `history` answers: the events of the current branch of the current run.
 #[tactic(auto, using(crate::proofs::TipLemmas::history_read))]
-pub fn history(alloc: Global, runs: &Runs) -> Result<Vec<u8>, AllocError>
-    ensures { IfOk result (λ text. text.items ≡ read_answer history_answer runs.now) }
+pub(crate) fn history(alloc: Global, runs: &Runs) -> Result<AnswerText, AllocError>
+    ensures { IfOk result (λ text. text ≡ read_answer history_answer runs.now) }
 {
     if runs.is_empty() {
         return ndc_world_answers::no_workflow(alloc);
     }
     let Some(tip) = runs.tip() else {
-        return Ok(Vec::new(alloc));
+        return Ok(AnswerText::empty(alloc));
     };
     let path = runs.path(alloc, tip.key)?;
     history_text(alloc, path)
 }
 
 /// The answer of a line on the current run, by the tip of its current branch and the state of it.
-fn current_text(alloc: Global, tip: &Batch, state: &State) -> Result<Vec<u8>, AllocError>
-    ensures { IfOk result (λ text. text.items ≡ current_text tip.now state.now) }
+fn current_text(alloc: Global, tip: &Batch, state: &State) -> Result<AnswerText, AllocError>
+    ensures { IfOk result (λ text. text ≡ current_text tip.now state.now) }
 {
     let status = status(state.is_running(), true);
     ndc_world_answers::current(alloc, tip.run, tip.key, status, state.close())
@@ -43,57 +47,58 @@ fn current_text(alloc: Global, tip: &Batch, state: &State) -> Result<Vec<u8>, Al
 
 /// What `current` answers: the current run, the tip of its current branch and its status.
 #[tactic(auto, using(crate::proofs::TipLemmas::current_read))]
-pub fn current(alloc: Global, runs: &Runs) -> Result<Vec<u8>, AllocError>
-    ensures { IfOk result (λ text. text.items ≡ read_answer current_answer runs.now) }
+pub(crate) fn current(alloc: Global, runs: &Runs) -> Result<AnswerText, AllocError>
+    ensures { IfOk result (λ text. text ≡ read_answer current_answer runs.now) }
 {
     if runs.is_empty() {
         return ndc_world_answers::no_workflow(alloc);
     }
     let Some(tip) = runs.tip() else {
-        return Ok(Vec::new(alloc));
+        return Ok(AnswerText::empty(alloc));
     };
     let Some(state) = runs.state() else {
-        return Ok(Vec::new(alloc));
+        return Ok(AnswerText::empty(alloc));
     };
     current_text(alloc, tip, state)
 }
 
 /// What `state` answers: the state of the current branch of the current run.
-pub fn state(alloc: Global, runs: &Runs) -> Result<Vec<u8>, AllocError>
-    ensures { IfOk result (λ text. text.items ≡ read_answer state_answer runs.now) }
+pub(crate) fn state(alloc: Global, runs: &Runs) -> Result<AnswerText, AllocError>
+    ensures { IfOk result (λ text. text ≡ read_answer state_answer runs.now) }
 {
     if runs.is_empty() {
         return ndc_world_answers::no_workflow(alloc);
     }
     match runs.state() {
         Some(state) => ndc_world_answers::state(alloc, state),
-        None => Ok(Vec::new(alloc)),
+        None => Ok(AnswerText::empty(alloc)),
     }
 }
 
 /// What `branches` answers: the runs with their branches. It looks at tips and version histories, not at all batches.
 #[tactic(auto, using(crate::proofs::TipLemmas::branches_read))]
-pub fn branches<L>(alloc: Global, runs: &Runs, steps: &mut Steps<L>) -> Result<Vec<u8>, AllocError>
-    ensures { IfOk result (λ text. text.items ≡ read_answer branches_answer runs.now) }
+pub(crate) fn branches(alloc: Global, runs: &Runs) -> Result<AnswerText, AllocError>
+    ensures { IfOk result (λ text. text ≡ read_answer branches_answer runs.now) }
 {
     if runs.is_empty() {
         return ndc_world_answers::no_workflow(alloc);
     }
-    let shown = runs.runs_shown(alloc, steps)?;
+    let mut steps: Steps<Restoring> = Steps::new();
+    let shown = runs.runs_shown(alloc, &mut steps)?;
     ndc_world_answers::branches(alloc, shown.as_slice())
 }
 
 /// What `dump` answers: how many batches are learned, and the dump.
-pub fn dump<L>(
+pub(crate) fn dump(
     alloc: Global,
     domain: &Name,
     workflow: &Name,
     runs: &Runs,
-    steps: &mut Steps<L>,
-) -> Result<Vec<u8>, AllocError>
-    ensures { IfOk result (λ text. text.items ≡ read_answer (dump_answer domain.now workflow.now) runs.now) }
+) -> Result<AnswerText, AllocError>
+    ensures { IfOk result (λ text. text ≡ read_answer (dump_answer domain.now workflow.now) runs.now) }
 {
-    match runs.view(alloc, steps)? {
+    let mut steps: Steps<Restoring> = Steps::new();
+    match runs.view(alloc, &mut steps)? {
         Some(view) => ndc_world_answers::dump(alloc, domain, workflow, &view),
         None => ndc_world_answers::no_workflow(alloc),
     }

@@ -9,13 +9,10 @@ use ndc_cluster_reads::Reads;
 use ndc_domain::ClusterNo;
 use ndc_event::Name;
 use ndc_script_types::Header;
-use ndc_state::Steps;
+use ndc_world_answers::AnswerText;
 use ndc_world_replication::Replication;
 use ndc_world_replication::publishers::runs_of;
 use std::alloc::{AllocError, Global};
-
-/// Steps of restoring states are counted under this name.
-struct Restoring;
 
 /// `history`.
 pub fn history<C: Reads + Drop>(
@@ -25,11 +22,11 @@ pub fn history<C: Reads + Drop>(
     cluster: ClusterNo,
     domain: &Name,
     workflow: &Name,
-) -> Result<Vec<u8>, AllocError>
+) -> Result<AnswerText, AllocError>
     requires shards { 0 < header.now.shards }
     requires cluster { IsCluster header.now cluster }
     requires shaped { IsShaped header.now replication.now }
-    ensures { IfOk result (λ text. text.items ≡ read_answer history_answer (learned_at header.now cluster domain.now workflow.now replication.now)) }
+    ensures { IfOk result (λ text. text ≡ read_answer history_answer (learned_at header.now cluster domain.now workflow.now replication.now)) }
 {
     match runs_of(replication, header, cluster, domain, workflow) {
         Some(runs) => crate::queries::history(alloc, runs),
@@ -45,15 +42,14 @@ pub fn branches<C: Reads + Drop>(
     cluster: ClusterNo,
     domain: &Name,
     workflow: &Name,
-) -> Result<Vec<u8>, AllocError>
+) -> Result<AnswerText, AllocError>
     requires shards { 0 < header.now.shards }
     requires cluster { IsCluster header.now cluster }
     requires shaped { IsShaped header.now replication.now }
-    ensures { IfOk result (λ text. text.items ≡ read_answer branches_answer (learned_at header.now cluster domain.now workflow.now replication.now)) }
+    ensures { IfOk result (λ text. text ≡ read_answer branches_answer (learned_at header.now cluster domain.now workflow.now replication.now)) }
 {
-    let mut steps: Steps<Restoring> = Steps::new();
     match runs_of(replication, header, cluster, domain, workflow) {
-        Some(runs) => crate::queries::branches(alloc, runs, &mut steps),
+        Some(runs) => crate::queries::branches(alloc, runs),
         None => ndc_world_answers::no_workflow(alloc),
     }
 }
@@ -66,11 +62,11 @@ pub fn current<C: Reads + Drop>(
     cluster: ClusterNo,
     domain: &Name,
     workflow: &Name,
-) -> Result<Vec<u8>, AllocError>
+) -> Result<AnswerText, AllocError>
     requires shards { 0 < header.now.shards }
     requires cluster { IsCluster header.now cluster }
     requires shaped { IsShaped header.now replication.now }
-    ensures { IfOk result (λ text. text.items ≡ read_answer current_answer (learned_at header.now cluster domain.now workflow.now replication.now)) }
+    ensures { IfOk result (λ text. text ≡ read_answer current_answer (learned_at header.now cluster domain.now workflow.now replication.now)) }
 {
     match runs_of(replication, header, cluster, domain, workflow) {
         Some(runs) => crate::queries::current(alloc, runs),
@@ -86,11 +82,11 @@ pub fn state<C: Reads + Drop>(
     cluster: ClusterNo,
     domain: &Name,
     workflow: &Name,
-) -> Result<Vec<u8>, AllocError>
+) -> Result<AnswerText, AllocError>
     requires shards { 0 < header.now.shards }
     requires cluster { IsCluster header.now cluster }
     requires shaped { IsShaped header.now replication.now }
-    ensures { IfOk result (λ text. text.items ≡ read_answer state_answer (learned_at header.now cluster domain.now workflow.now replication.now)) }
+    ensures { IfOk result (λ text. text ≡ read_answer state_answer (learned_at header.now cluster domain.now workflow.now replication.now)) }
 {
     match runs_of(replication, header, cluster, domain, workflow) {
         Some(runs) => crate::queries::state(alloc, runs),
@@ -106,15 +102,14 @@ pub fn dump<C: Reads + Drop>(
     cluster: ClusterNo,
     domain: &Name,
     workflow: &Name,
-) -> Result<Vec<u8>, AllocError>
+) -> Result<AnswerText, AllocError>
     requires shards { 0 < header.now.shards }
     requires cluster { IsCluster header.now cluster }
     requires shaped { IsShaped header.now replication.now }
-    ensures { IfOk result (λ text. text.items ≡ read_answer (dump_answer domain.now workflow.now) (learned_at header.now cluster domain.now workflow.now replication.now)) }
+    ensures { IfOk result (λ text. text ≡ read_answer (dump_answer domain.now workflow.now) (learned_at header.now cluster domain.now workflow.now replication.now)) }
 {
-    let mut steps: Steps<Restoring> = Steps::new();
     match runs_of(replication, header, cluster, domain, workflow) {
-        Some(runs) => crate::queries::dump(alloc, domain, workflow, runs, &mut steps),
+        Some(runs) => crate::queries::dump(alloc, domain, workflow, runs),
         None => ndc_world_answers::no_workflow(alloc),
     }
 }
@@ -128,14 +123,14 @@ pub fn compare<C: Reads + Drop>(
     two: ClusterNo,
     domain: &Name,
     workflow: &Name,
-) -> Result<Vec<u8>, AllocError>
+) -> Result<AnswerText, AllocError>
     requires shards { 0 < header.now.shards }
     requires one { IsCluster header.now one }
     requires two { IsCluster header.now two }
     requires shaped { IsShaped header.now replication.now }
     requires range_one { AllByRecursion InRange (learned_at header.now one domain.now workflow.now replication.now) }
     requires range_two { AllByRecursion InRange (learned_at header.now two domain.now workflow.now replication.now) }
-    ensures { IfOk result (λ text. text.items ≡ compare_answer domain.now workflow.now (learned_at header.now one domain.now workflow.now replication.now) (learned_at header.now two domain.now workflow.now replication.now)) }
+    ensures { IfOk result (λ text. text ≡ compare_answer domain.now workflow.now (learned_at header.now one domain.now workflow.now replication.now) (learned_at header.now two domain.now workflow.now replication.now)) }
 {
     let first = runs_of(replication, header, one, domain, workflow);
     let second = runs_of(replication, header, two, domain, workflow);

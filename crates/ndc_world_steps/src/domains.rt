@@ -6,11 +6,12 @@ ghost use Rattle.ndc_model.specs.Tables.{domain_answer, domains_step, failover_w
 ghost use Rattle.ndc_model.specs.World.{cluster_at};
 ghost use Rattle.ndc_world_steps.specs.Told.{leaving};
 
-use crate::answer::{Answer, answered};
+use crate::told::{Told, answered};
 use ndc_cluster_rounds::Cell;
 use ndc_domain::{ClusterNo, DomainError, Members};
 use ndc_event::Name;
 use ndc_script_types::Header;
+use ndc_world_answers::AnswerText;
 use ndc_world_replication::Replication;
 use ndc_world_replication::publishers::table_of;
 use std::alloc::{AllocError, Global};
@@ -25,7 +26,7 @@ pub fn register<C: Cell + Drop>(
     target: ClusterNo,
     days: u32,
     members: Members,
-) -> Result<Answer, AllocError>
+) -> Result<Told, AllocError>
     requires at { at.number < length replication.old.clusters }
     requires members { All (λ member. member < count_of header.now.clusters) members }
     ensures { IfOk result (λ answer. leaving replication.new answer
@@ -45,7 +46,7 @@ pub fn retain<C: Cell + Drop>(
     at: ClusterNo,
     domain: &Name,
     days: u32,
-) -> Result<Answer, AllocError>
+) -> Result<Told, AllocError>
     requires at { at.number < length replication.old.clusters }
     requires config { IfSome (record_of (cluster_at at replication.old).table domain.now) (λ old. old.config < 10 ^ 12) }
     ensures { IfOk result (λ answer. leaving replication.new answer ≡ table_step retain_words at replication.old (retain_of at domain.now days (cluster_at at replication.old).table)) }
@@ -64,7 +65,7 @@ pub fn failover<C: Cell + Drop>(
     at: ClusterNo,
     domain: &Name,
     target: ClusterNo,
-) -> Result<Answer, AllocError>
+) -> Result<Told, AllocError>
     requires at { at.number < length replication.old.clusters }
     ensures { IfOk result (λ answer. leaving replication.new answer ≡ table_step failover_words at replication.old (failover_of header.now.clusters domain.now target (cluster_at at replication.old).table)) }
 {
@@ -81,7 +82,7 @@ pub fn join<C: Cell + Drop>(
     at: ClusterNo,
     domain: &Name,
     member: ClusterNo,
-) -> Result<Answer, AllocError>
+) -> Result<Told, AllocError>
     requires at { at.number < length replication.old.clusters }
     requires member { member.number < 8 }
     ensures { IfOk result (λ answer. leaving replication.new answer ≡ join_step at replication.old (join_of at domain.now member (cluster_at at replication.old).table)) }
@@ -98,7 +99,7 @@ pub fn domains<C: Cell + Drop>(
     alloc: Global,
     to: ClusterNo,
     from: ClusterNo,
-) -> Result<Answer, AllocError>
+) -> Result<Told, AllocError>
     requires to { to.number < length replication.old.clusters }
     requires from { from.number < length replication.old.clusters }
     requires apart { to.number ≢ from.number }
@@ -115,9 +116,9 @@ pub fn domain<C: Cell + Drop>(
     header: &Header,
     at: ClusterNo,
     domain: &Name,
-) -> Result<Vec<u8>, AllocError>
+) -> Result<AnswerText, AllocError>
     requires at { at.number < length replication.now.clusters }
-    ensures { IfOk result (λ text. text.items ≡ domain_answer header.now (record_of (cluster_at at replication.now).table domain.now)) }
+    ensures { IfOk result (λ text. text ≡ domain_answer header.now (record_of (cluster_at at replication.now).table domain.now)) }
 {
     let known = table_of(replication, at).find(domain);
     ndc_world_answers::domain(alloc, header, known)
@@ -130,10 +131,10 @@ pub fn members<C: Cell + Drop>(
     header: &Header,
     at: ClusterNo,
     domain: &Name,
-) -> Result<Vec<u8>, AllocError>
+) -> Result<AnswerText, AllocError>
     requires at { at.number < length replication.now.clusters }
     requires members { IfSome (record_of (cluster_at at replication.now).table domain.now) (λ one. AllByRecursion (λ number. number < count_of header.now.clusters) one.members) }
-    ensures { IfOk result (λ text. text.items ≡ members_answer header.now (record_of (cluster_at at replication.now).table domain.now)) }
+    ensures { IfOk result (λ text. text ≡ members_answer header.now (record_of (cluster_at at replication.now).table domain.now)) }
 {
     let known = table_of(replication, at).find(domain);
     ndc_world_answers::members(alloc, header, known)

@@ -13,7 +13,7 @@ ghost use Rattle.ndc_model.specs.World.{cluster_at, link_at};
 ghost use Rattle.ndc_world_steps.specs.Links.{IsBetween, is_handover_to, is_late_by, levels_by};
 ghost use Rattle.ndc_world_steps.specs.Told.{leaving};
 
-use crate::answer::{Answer, answered};
+use crate::told::{Told, answered};
 use ndc_cluster_links::Link;
 use ndc_cluster_rounds::Cell;
 use ndc_domain::{ClusterNo, DomainTable};
@@ -66,7 +66,7 @@ fn begin<C: Cell + Drop>(
     at: ClusterNo,
     domain: &Name,
     target: ClusterNo,
-) -> Result<Answer, AllocError>
+) -> Result<Told, AllocError>
     requires at { IsCluster header.now at }
     requires shaped { IsShaped header.now replication.old }
     ensures { IfOk result (λ answer. leaving replication.new answer
@@ -85,7 +85,7 @@ fn open<C: Cell + Drop>(
     replication: &mut Replication<C>,
     alloc: Global,
     begun: Handover,
-) -> Result<Answer, AllocError>
+) -> Result<Told, AllocError>
     ensures { IfOk result (λ answer. leaving replication.new answer ≡ answered (with_handover begun replication.old) (ok (decimal begun.new ∷ []))) }
 {
     let new = begun.new;
@@ -101,7 +101,7 @@ pub fn handover<C: Cell + Drop>(
     at: ClusterNo,
     domain: &Name,
     target: ClusterNo,
-) -> Result<Answer, AllocError>
+) -> Result<Told, AllocError>
     requires at { IsCluster header.now at }
     requires shaped { IsShaped header.now replication.old }
     ensures { IfOk result (λ answer. leaving replication.new answer ≡ handover_step header.now at domain.now target replication.old) }
@@ -247,7 +247,7 @@ fn complete_by<C: Cell + Drop>(
     alloc: Global,
     handover: &Handover,
     ready: Result<(), ReadyError>,
-) -> Result<Answer, AllocError>
+) -> Result<Told, AllocError>
     requires to { handover.now.to.number < length replication.old.clusters }
     requires from { handover.now.from.number < length replication.old.clusters }
     ensures { IfOk result (λ answer. leaving replication.new answer ≡ complete_by handover.now replication.old ready) }
@@ -273,7 +273,7 @@ fn complete_one<C: Cell + Drop>(
     alloc: Global,
     header: &Header,
     handover: &Handover,
-) -> Result<Answer, AllocError>
+) -> Result<Told, AllocError>
     requires shaped { IsShaped header.now replication.old }
     requires few { header.now.shards ≤ 64 }
     requires fit { IsBetween header.now handover.now }
@@ -292,7 +292,7 @@ pub fn complete<C: Cell + Drop>(
     header: &Header,
     at: ClusterNo,
     domain: &Name,
-) -> Result<Answer, AllocError>
+) -> Result<Told, AllocError>
     requires shaped { IsShaped header.now replication.old }
     requires few { header.now.shards ≤ 64 }
     requires fit { AllByRecursion (IsBetween header.now) replication.old.handovers }

@@ -7,11 +7,12 @@ ghost use Rattle.ndc_model.specs.Texts.{ok};
 ghost use Rattle.ndc_world_replication.specs.Orderly.{IsOrderly};
 ghost use Rattle.ndc_world_steps.specs.Told.{leaving};
 
-use crate::answer::{Answer, answered};
+use crate::told::{Told, answered};
 use ndc_cluster_rounds::Cell;
 use ndc_domain::ClusterNo;
 use ndc_queue::FlightError;
 use ndc_script_types::Header;
+use ndc_world_answers::AnswerText;
 use ndc_world_replication::Replication;
 use ndc_world_replication::publishers::{flight_of, levels_of, queue_of};
 use std::alloc::{AllocError, Global};
@@ -23,7 +24,7 @@ pub fn pull<C: Cell + Drop>(
     header: &Header,
     reader: ClusterNo,
     source: ClusterNo,
-) -> Result<Answer, AllocError>
+) -> Result<Told, AllocError>
     requires source { IsCluster header.now source }
     requires orderly { IsOrderly header.now replication.old }
     ensures { IfOk result (λ answer. leaving replication.new answer ≡ pull_step reader source replication.old) }
@@ -41,7 +42,7 @@ pub fn pull_some<C: Cell + Drop>(
     source: ClusterNo,
     shard: u32,
     count: u64,
-) -> Result<Answer, AllocError>
+) -> Result<Told, AllocError>
     requires ends { AreTwoClusters header.now reader source }
     requires shard { shard < header.now.shards }
     requires orderly { IsOrderly header.now replication.old }
@@ -59,7 +60,7 @@ pub fn lose<C: Cell + Drop>(
     source: ClusterNo,
     shard: u32,
     place: usize,
-) -> Result<Answer, AllocError>
+) -> Result<Told, AllocError>
     ensures { IfOk result (λ answer. leaving replication.new answer ≡ lose_step reader source shard place replication.old) }
 {
     let answer = match replication.lose(reader, source, shard as usize, place) {
@@ -77,7 +78,7 @@ pub fn repeat<C: Cell + Drop>(
     source: ClusterNo,
     shard: u32,
     place: usize,
-) -> Result<Answer, AllocError>
+) -> Result<Told, AllocError>
     ensures { IfOk result (λ answer. leaving replication.new answer ≡ repeat_step reader source shard place replication.old) }
 {
     let answer = match replication.repeat(reader, source, shard as usize, place) {
@@ -97,7 +98,7 @@ pub fn move_to<C: Cell + Drop>(
     shard: u32,
     place: usize,
     to: usize,
-) -> Result<Answer, AllocError>
+) -> Result<Told, AllocError>
     ensures { IfOk result (λ answer. leaving replication.new answer ≡ move_step reader source shard place to replication.old) }
 {
     let answer = match replication.move_to(reader, source, shard as usize, place, to) {
@@ -113,7 +114,7 @@ pub fn rewind<C: Cell + Drop>(
     alloc: Global,
     reader: ClusterNo,
     source: ClusterNo,
-) -> Result<Answer, AllocError>
+) -> Result<Told, AllocError>
     ensures { IfOk result (λ answer. leaving replication.new answer ≡ answered (rewound reader source replication.old) (ok [])) }
 {
     replication.rewind(reader, source);
@@ -126,7 +127,7 @@ pub fn trim<C: Cell + Drop>(
     alloc: Global,
     header: &Header,
     source: ClusterNo,
-) -> Result<Answer, AllocError>
+) -> Result<Told, AllocError>
     requires source { IsCluster header.now source }
     requires orderly { IsOrderly header.now replication.old }
     ensures { IfOk result (λ answer. leaving replication.new answer ≡ trim_step header.now source replication.old) }
@@ -143,11 +144,11 @@ pub fn levels<C: Cell + Drop>(
     reader: ClusterNo,
     source: ClusterNo,
     shard: u32,
-) -> Result<Vec<u8>, AllocError>
+) -> Result<AnswerText, AllocError>
     requires source { IsCluster header.now source }
     requires shard { shard < header.now.shards }
     requires orderly { IsOrderly header.now replication.now }
-    ensures { IfOk result (λ text. text.items ≡ levels_answer reader source shard replication.now) }
+    ensures { IfOk result (λ text. text ≡ levels_answer reader source shard replication.now) }
 {
     let queue = queue_of(replication, source, shard);
     let levels = levels_of(replication, reader, source, shard);

@@ -14,8 +14,8 @@ ghost use Rattle.ndc_world_replication.specs.Dones.{notes_in};
 ghost use Rattle.ndc_world_replication.specs.Orderly.{IsOrderly};
 ghost use Rattle.ndc_world_steps.specs.Told.{leaving};
 
-use crate::answer::{Answer, answered};
 use crate::moving::{Telling, tell_all};
+use crate::told::{Told, answered};
 use ndc_cluster_reads::Reads;
 use ndc_cluster_rounds::Cell;
 use ndc_domain::ClusterNo;
@@ -25,6 +25,7 @@ use ndc_model_cells::{Job, ShardJob, shard_of};
 use ndc_port::Gate;
 use ndc_script_types::Header;
 use ndc_text::print_batch;
+use ndc_world_answers::AnswerText;
 use ndc_world_replication::publishers::{cell_of, flight_of, publisher_of};
 use ndc_world_replication::{Done, Replication};
 use std::alloc::{AllocError, Global};
@@ -36,10 +37,10 @@ pub fn letters<C: Cell + Drop>(
     alloc: Global,
     header: &Header,
     reader: ClusterNo,
-) -> Result<Vec<u8>, AllocError>
+) -> Result<AnswerText, AllocError>
     requires reader { reader.number < length replication.now.clusters }
     requires sources { AllByRecursion (λ letter. letter.source.number < count_of header.now.clusters) (cluster_at reader replication.now).letters }
-    ensures { IfOk result (λ text. text.items ≡ letters_answer header.now (cluster_at reader replication.now).letters) }
+    ensures { IfOk result (λ text. text ≡ letters_answer header.now (cluster_at reader replication.now).letters) }
 {
     let letters = publisher_of(replication, reader).letters();
     ndc_world_answers::letters(alloc, header, letters.list())
@@ -50,7 +51,7 @@ pub fn purge<C: Cell + Drop>(
     replication: &mut Replication<C>,
     alloc: Global,
     reader: ClusterNo,
-) -> Result<Answer, AllocError>
+) -> Result<Told, AllocError>
     requires reader { reader.number < length replication.old.clusters }
     ensures { IfOk result (λ answer. leaving replication.new answer ≡ purge_step reader replication.old) }
 {
@@ -124,7 +125,7 @@ fn set_aside<C: Cell + Drop>(
     shard: u32,
     place: usize,
     letter: Letter,
-) -> Result<Answer, AllocError>
+) -> Result<Told, AllocError>
     requires reader { reader.number < length replication.old.clusters }
     requires place { place < length (flight_at reader source shard replication.old) }
     ensures { IfOk result (λ answer. leaving replication.new answer ≡ damaged reader source shard place replication.old letter) }
@@ -147,7 +148,7 @@ pub fn damage<C: Cell + Drop>(
     shard: u32,
     place: usize,
     cut: usize,
-) -> Result<Answer, AllocError>
+) -> Result<Told, AllocError>
     requires { reader.number < length replication.old.clusters }
     ensures { IfOk result (λ answer. leaving replication.new answer ≡ damage_step reader source shard place cut replication.old) }
 {
@@ -266,7 +267,7 @@ pub fn merge<R: Threads + Sync, G: Gate, C: Reads + Drop + Send>(
     workers: u32,
     header: &Header,
     reader: ClusterNo,
-) -> Result<Answer, AllocError>
+) -> Result<Told, AllocError>
     requires workers { 0 < workers }
     requires reader { IsCluster header.now reader }
     requires shards { 0 < header.now.shards }
@@ -281,5 +282,5 @@ pub fn merge<R: Threads + Sync, G: Gate, C: Reads + Drop + Send>(
     dones.push(done)?;
     let Telling { tally, seen } = tell_all(alloc, dones)?;
     let answer = ndc_world_answers::arrived(alloc, tally)?;
-    Ok(Answer { text: answer, seen })
+    Ok(Told { text: answer, seen })
 }

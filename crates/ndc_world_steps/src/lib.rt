@@ -2,13 +2,13 @@
 #![tactic(auto)]
 
 mod activities;
-mod answer;
 pub mod domains;
 pub mod handovers;
 pub mod lanes;
 pub mod letters;
 pub mod moving;
 pub mod reports;
+mod told;
 pub mod writing;
 
-pub use answer::{Answer, answered};
+pub use told::{Told, answered};

@@ -13,7 +13,7 @@ ghost use Rattle.ndc_world_replication.specs.Dones.{notes_in};
 ghost use Rattle.ndc_world_replication.specs.Orderly.{IsOrderly};
 ghost use Rattle.ndc_world_steps.specs.Told.{leaving};
 
-use crate::answer::Answer;
+use crate::told::Told;
 use ndc_cluster_reads::Reads;
 use ndc_cluster_rounds::Cell;
 use ndc_domain::ClusterNo;
@@ -81,7 +81,7 @@ pub fn work<R: Threads + Sync, G: Gate, C: Cell + Drop + Send>(
     workers: u32,
     header: &Header,
     cluster: ClusterNo,
-) -> Result<Answer, AllocError>
+) -> Result<Told, AllocError>
     requires workers { 0 < workers }
     requires cluster { IsCluster header.now cluster }
     requires orderly { IsOrderly header.now replication.old }
@@ -94,7 +94,7 @@ pub fn work<R: Threads + Sync, G: Gate, C: Cell + Drop + Send>(
     let dones = in_turn(alloc, arrived, reapplied)?;
     let Telling { tally, seen } = tell_all(alloc, dones)?;
     let answer = ndc_world_answers::worked(alloc, tally)?;
-    Ok(Answer { text: answer, seen })
+    Ok(Told { text: answer, seen })
 }
 
 /// `resend`.
@@ -106,7 +106,7 @@ pub fn resend<R: Threads + Sync, G: Gate, C: Reads + Drop + Send>(
     workers: u32,
     header: &Header,
     reader: ClusterNo,
-) -> Result<Answer, AllocError>
+) -> Result<Told, AllocError>
     requires workers { 0 < workers }
     requires reader { IsCluster header.now reader }
     requires reached { IsReachedSometime header.now replication.old }
@@ -118,7 +118,7 @@ pub fn resend<R: Threads + Sync, G: Gate, C: Reads + Drop + Send>(
     dones.push(done)?;
     let Telling { tally, seen } = tell_all(alloc, dones)?;
     let answer = ndc_world_answers::arrived(alloc, tally)?;
-    Ok(Answer { text: answer, seen })
+    Ok(Told { text: answer, seen })
 }
 
 /// `bootstrap`.
@@ -131,7 +131,7 @@ pub fn bootstrap<R: Threads + Sync, G: Gate, C: Cell + Drop + Send>(
     header: &Header,
     reader: ClusterNo,
     source: ClusterNo,
-) -> Result<Answer, AllocError>
+) -> Result<Told, AllocError>
     requires workers { 0 < workers }
     requires clusters { AreTwoClusters header.now reader source }
     requires orderly { IsOrderly header.now replication.old }
@@ -144,7 +144,7 @@ pub fn bootstrap<R: Threads + Sync, G: Gate, C: Cell + Drop + Send>(
     dones.push(done)?;
     let Telling { tally, seen } = tell_all(alloc, dones)?;
     let answer = ndc_world_answers::brought(alloc, domains, tally)?;
-    Ok(Answer { text: answer, seen })
+    Ok(Told { text: answer, seen })
 }
 
 /// A settlement: what its jobs came to, and what they made learned.
@@ -176,7 +176,7 @@ pub fn settle<R: Threads + Sync, G: Gate, C: Cell + Drop + Send>(
     gate: &G,
     workers: u32,
     header: &Header,
-) -> Result<Answer, AllocError>
+) -> Result<Told, AllocError>
     requires workers { 0 < workers }
     requires orderly { IsOrderly header.now replication.old }
     requires allowed { MaySettle C.allows header.now replication.old }
@@ -184,7 +184,7 @@ pub fn settle<R: Threads + Sync, G: Gate, C: Cell + Drop + Send>(
 {
     let Telling { tally, seen } = settlement(replication, rt, alloc, gate, workers, header)?;
     let answer = ndc_world_answers::settled(alloc, tally)?;
-    Ok(Answer { text: answer, seen })
+    Ok(Told { text: answer, seen })
 }
 
 /// Of how many domains a reader is a member late, as to a source.

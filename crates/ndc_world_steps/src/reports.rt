@@ -16,7 +16,7 @@ ghost use Rattle.ndc_progress.specs.Reports.{merge_count, merged, stale_by};
 ghost use Rattle.ndc_world_steps.specs.Told.{only_answer};
 
 use crate::activities::{pending_activity, told_of};
-use crate::answer::{Answer, answered};
+use crate::told::{Told, answered};
 use ndc_cluster_reads::Reads;
 use ndc_command::CommandError;
 use ndc_domain::ClusterNo;
@@ -24,6 +24,7 @@ use ndc_event::Name;
 use ndc_progress::{ActivityRef, Progress, Report};
 use ndc_script_types::Header;
 use ndc_shard_runs::Runs;
+use ndc_world_answers::AnswerText;
 use ndc_world_replication::Replication;
 use ndc_world_replication::publishers::{runs_of, table_of};
 use std::alloc::{AllocError, Global};
@@ -46,7 +47,7 @@ fn tell(
     version: u64,
     activity: ActivityRef,
     details: &Name,
-) -> Result<Answer, AllocError>
+) -> Result<Told, AllocError>
     requires { AllByRecursion (λ report. report.beat < 10 ^ 12) own.old }
     ensures answer { IfOk result (λ answer. answer ≡ only_answer (told_by details.now own.old (Ok (version, activity))).answer) }
     ensures reports { OnOk result (own.new ≡ (told_by details.now own.old (Ok (version, activity))).reports) }
@@ -133,7 +134,7 @@ pub fn beat<C: Reads + Drop>(
     workflow: &Name,
     id: &Name,
     details: &Name,
-) -> Result<Answer, AllocError>
+) -> Result<Told, AllocError>
     requires shards { 0 < header.now.shards }
     requires cluster { IsCluster header.now cluster }
     requires shaped { IsShaped header.now replication.now }
@@ -163,7 +164,7 @@ pub fn sync<C: Reads + Drop>(
     alloc: Global,
     to: ClusterNo,
     from: ClusterNo,
-) -> Result<Answer, AllocError>
+) -> Result<Told, AllocError>
     requires to { to.number < length reports.old.items }
     requires from { from.number < length reports.old.items }
     requires differ { to.number ≢ from.number }
@@ -197,8 +198,8 @@ fn activity_shown(
     alloc: Global,
     own: &Progress,
     activity: Result<ActivityRef, CommandError>,
-) -> Result<Vec<u8>, AllocError>
-    ensures { IfOk result (λ text. (r : Result Reference CommandFault) → Gives Memory (λ a. a) activity r → text.items ≡ activity_answer own.now r) }
+) -> Result<AnswerText, AllocError>
+    ensures { IfOk result (λ text. (r : Result Reference CommandFault) → Gives Memory (λ a. a) activity r → text ≡ activity_answer own.now r) }
 {
     match activity {
         Ok(activity) => ndc_world_answers::report(alloc, own.find(&activity)),
@@ -215,18 +216,18 @@ fn shown(
     workflow: &Name,
     id: &Name,
     runs: &Runs,
-) -> Result<Vec<u8>, AllocError>
+) -> Result<AnswerText, AllocError>
     requires { IsSound runs.now }
-    ensures { IfOk result (λ text. text.items ≡ shown_of domain.now workflow.now id.now own.now runs.now) }
+    ensures { IfOk result (λ text. text ≡ shown_of domain.now workflow.now id.now own.now runs.now) }
 {
     if runs.is_empty() {
         return ndc_world_answers::no_workflow(alloc);
     }
     let Some(tip) = runs.tip() else {
-        return Ok(Vec::new(alloc));
+        return Ok(AnswerText::empty(alloc));
     };
     let Some(state) = runs.state() else {
-        return Ok(Vec::new(alloc));
+        return Ok(AnswerText::empty(alloc));
     };
     let activity = pending_activity(alloc, domain, workflow, id, runs, tip, state);
     activity_shown(alloc, own, activity)
@@ -242,12 +243,12 @@ fn shown_at<C: Reads + Drop>(
     domain: &Name,
     workflow: &Name,
     id: &Name,
-) -> Result<Vec<u8>, AllocError>
+) -> Result<AnswerText, AllocError>
     requires shards { 0 < header.now.shards }
     requires cluster { IsCluster header.now cluster }
     requires shaped { IsShaped header.now replication.now }
     requires sound { IsSound (learned_at header.now cluster domain.now workflow.now replication.now) }
-    ensures { IfOk result (λ text. text.items ≡ shown_of domain.now workflow.now id.now own.now (learned_at header.now cluster domain.now workflow.now replication.now)) }
+    ensures { IfOk result (λ text. text ≡ shown_of domain.now workflow.now id.now own.now (learned_at header.now cluster domain.now workflow.now replication.now)) }
 {
     match runs_of(replication, header, cluster, domain, workflow) {
         Some(runs) => shown(alloc, own, domain, workflow, id, runs),
@@ -265,13 +266,13 @@ pub fn progress<C: Reads + Drop>(
     domain: &Name,
     workflow: &Name,
     id: &Name,
-) -> Result<Vec<u8>, AllocError>
+) -> Result<AnswerText, AllocError>
     requires shards { 0 < header.now.shards }
     requires cluster { IsCluster header.now cluster }
     requires shaped { IsShaped header.now replication.now }
     requires sound { IsSound (learned_at header.now cluster domain.now workflow.now replication.now) }
     requires seat { cluster.number < length reports.now }
-    ensures { IfOk result (λ text. (w : World) → StandFor replication.now reports.now w → text.items ≡ progress_answer header.now cluster domain.now workflow.now id.now w) }
+    ensures { IfOk result (λ text. (w : World) → StandFor replication.now reports.now w → text ≡ progress_answer header.now cluster domain.now workflow.now id.now w) }
 {
     let own = &reports[cluster.number as usize];
     let text = shown_at(

@@ -7,7 +7,7 @@ ghost use Rattle.ndc_model.specs.Steps.{command_step, reset_step, writing_step};
 ghost use Rattle.ndc_model.specs.Conditions.{MayDoAll};
 ghost use Rattle.ndc_world_steps.specs.Told.{first_answer, leaving};
 
-use crate::answer::Answer;
+use crate::told::Told;
 use ndc_cluster_rounds::Cell;
 use ndc_command::Command;
 use ndc_domain::ClusterNo;
@@ -15,18 +15,18 @@ use ndc_event::Name;
 use ndc_model_cells::{Job, JobReply, ShardJob, shard_of};
 use ndc_port::Gate;
 use ndc_script_types::Header;
-use ndc_world_answers::add_seen;
+use ndc_world_answers::{AnswerText, add_seen};
 use ndc_world_replication::Replication;
 use std::alloc::{AllocError, Global};
 use std::thread::Threads;
 
 /// What the first of replies answers.
-fn first_answer(alloc: Global, replies: &[JobReply]) -> Result<Vec<u8>, AllocError>
-    ensures { IfOk result (λ text. text.items ≡ first_answer replies.now) }
+fn first_answer(alloc: Global, replies: &[JobReply]) -> Result<AnswerText, AllocError>
+    ensures { IfOk result (λ text. text ≡ first_answer replies.now) }
 {
     match replies {
         [reply, ..] => ndc_world_answers::outcome(alloc, &reply.outcome),
-        [] => Ok(Vec::new(alloc)),
+        [] => Ok(AnswerText::empty(alloc)),
     }
 }
 
@@ -40,7 +40,7 @@ fn ask<R: Threads + Sync, G: Gate, C: Cell + Drop + Send>(
     header: &Header,
     cluster: ClusterNo,
     asked: ShardJob,
-) -> Result<Answer, AllocError>
+) -> Result<Told, AllocError>
     requires workers { 0 < workers }
     requires cluster { IsCluster header.now cluster }
     requires shard { asked.shard < header.now.shards }
@@ -55,7 +55,7 @@ fn ask<R: Threads + Sync, G: Gate, C: Cell + Drop + Send>(
     let answer = first_answer(alloc, replies.as_slice())?;
     let mut seen = Vec::new(alloc);
     add_seen(&mut seen, cluster, jobs, replies)?;
-    Ok(Answer { text: answer, seen })
+    Ok(Told { text: answer, seen })
 }
 
 /// A command line.
@@ -70,7 +70,7 @@ pub fn command<R: Threads + Sync, G: Gate, C: Cell + Drop + Send>(
     domain: &Name,
     workflow: &Name,
     command: &Command,
-) -> Result<Answer, AllocError>
+) -> Result<Told, AllocError>
     requires workers { 0 < workers }
     requires cluster { IsCluster header.now cluster }
     requires shards { 0 < header.now.shards }
@@ -110,7 +110,7 @@ pub fn reset<R: Threads + Sync, G: Gate, C: Cell + Drop + Send>(
     domain: &Name,
     workflow: &Name,
     event: u64,
-) -> Result<Answer, AllocError>
+) -> Result<Told, AllocError>
     requires workers { 0 < workers }
     requires cluster { IsCluster header.now cluster }
     requires shards { 0 < header.now.shards }

@@ -7,6 +7,6 @@ use Rattle.ndc_world_queries.proofs.comparing.compare.Goals as goal
 
 pub returns : goal.returns
 returns c =
-    subst (λ (same : Bool). IfOk c.compared.result (λ text. text.items ≡ ok ((if same then codes "same" else codes "differ") ∷ [])))
+    subst (λ (same : Bool). IfOk c.compared.result (λ text. text ≡ ok ((if same then codes "same" else codes "differ") ∷ [])))
     (compared c.args.domain.now c.args.workflow.now (batches_or_none (option_copied c.args.one)) (batches_or_none (option_copied c.args.two)) c.in_ok-is_same.is_same c.requires.one c.requires.two c.in_ok-is_same.ensures)
     c.compared.ensures

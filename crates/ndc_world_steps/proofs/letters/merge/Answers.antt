@@ -14,7 +14,7 @@ renew-requires-clause-orderly g c =
 
 pub returns : goal.returns
 returns g c =
-    merged_is c.args.header.now c.args.reader c.args.replication.now c.serve.new.replication c.renew.new.self c.in_ok-done.done c.in_ok-tally.field-0.tally c.in_ok-answer.answer.items c.in_ok-tally.field-0.seen.items
+    merged_is c.args.header.now c.args.reader c.args.replication.now c.serve.new.replication c.renew.new.self c.in_ok-done.done c.in_ok-tally.field-0.tally c.in_ok-answer.answer c.in_ok-tally.field-0.seen.items
     c.in_ok-done.ensures.world c.renew.ensures c.in_ok-done.ensures.notes
     (c.in_ok-tally.ensures.tally ∙ ap (λ (l : List Done). tally_of (flat_map notes_in l)) (c.in_ok-push.ensures.items ∙ ap (λ (l : List Done). l ++ c.in_ok-done.done ∷ []) c.new-dones.ensures.items))
     (c.in_ok-tally.ensures.seen ∙ ap (λ (l : List Done). seen_of (flat_map notes_in l)) (c.in_ok-push.ensures.items ∙ ap (λ (l : List Done). l ++ c.in_ok-done.done ∷ []) c.new-dones.ensures.items))

@@ -9,7 +9,7 @@ use Rattle.ndc_world_steps.proofs.moving.work.Goals as goal
 
 pub returns : goal.returns
 returns g c =
-    worked_is c.args.header.now c.args.cluster c.args.replication.now c.work.new.self c.in_ok-arrived.field-0.arrived c.in_ok-arrived.field-0.reapplied c.in_ok-tally.field-0.tally c.in_ok-answer.answer.items
+    worked_is c.args.header.now c.args.cluster c.args.replication.now c.work.new.self c.in_ok-arrived.field-0.arrived c.in_ok-arrived.field-0.reapplied c.in_ok-tally.field-0.tally c.in_ok-answer.answer
     c.in_ok-tally.field-0.seen.items c.in_ok-arrived.ensures.worked c.in_ok-arrived.ensures.notes
     (c.in_ok-tally.ensures.tally ∙ ap (λ (l : List Done). tally_of (flat_map notes_in l)) c.in_ok-dones.ensures)
     (c.in_ok-tally.ensures.seen ∙ ap (λ (l : List Done). seen_of (flat_map notes_in l)) c.in_ok-dones.ensures) c.in_ok-answer.ensures

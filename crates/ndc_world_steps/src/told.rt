@@ -2,31 +2,32 @@ ghost use Rattle.std.specs.Prelude.{◌≡◌};
 ghost use Rattle.ndc_world_steps.specs.Told.{only_answer};
 
 use ndc_index::Seen;
+use ndc_world_answers::AnswerText;
 use std::alloc::Global;
 use std::marker::Model;
 
-/// What a line answers, and what it makes learned.
+/// What a line tells: what it answers, before its number is put before it, and what it makes learned.
 #[derive(Drop)]
-pub struct Answer {
+pub struct Told {
     /// The text of its answer.
-    pub text: Vec<u8>,
+    pub text: AnswerText,
     /// What became learned, in the order of being told.
     pub seen: Vec<Seen>,
 }
 
-impl Model for Answer {
+impl Model for Told {
     ghost use Rattle.ndc_world_steps.specs.Told.{AnswerValue};
 
     ghost Value = { AnswerValue };
 
-    ghost view = { λ answer. record { text = answer.text.items; seen = answer.seen.items } };
+    ghost view = { λ told. record { text = told.text; seen = told.seen.items } };
 }
 
 /// A line that makes nothing learned.
-pub fn answered(alloc: Global, text: Vec<u8>) -> Answer
-    ensures { result ≡ only_answer text.items }
+pub fn answered(alloc: Global, text: AnswerText) -> Told
+    ensures { result ≡ only_answer text }
 {
-    Answer {
+    Told {
         text,
         seen: Vec::new(alloc),
     }

@@ -1,0 +1,74 @@
+use ndc_dump_show::line::push_number;
+use std::alloc::{AllocError, Global};
+use std::marker::Model;
+
+/// The text of an answer, which knows whether it is a refusal. Seen as its bytes.
+#[derive(Drop)]
+pub struct AnswerText {
+    text: Vec<u8>,
+    is_refusal: bool,
+}
+
+impl Model for AnswerText {
+    ghost use Rattle.std.specs.Prelude.{◌≡◌, ℕ, List};
+    ghost use Rattle.ndc_model.specs.Laws.{is_refusal};
+
+    ghost Value = { List ℕ };
+
+    ghost view = { λ answer. answer.text.items };
+
+    ghost invariant = { λ answer. answer.is_refusal ≡ is_refusal answer.text.items };
+}
+
+impl AnswerText {
+    ghost use Rattle.std.specs.Prelude.{◌≡◌, ◌++◌, [], codes, decimal, false, true, OnOk};
+    ghost use Rattle.ndc_model.specs.Laws.{is_refusal};
+
+    /// No answer at all.
+    pub fn empty(alloc: Global) -> AnswerText
+        ensures { result ≡ [] }
+    {
+        AnswerText {
+            text: Vec::new(alloc),
+            is_refusal: false,
+        }
+    }
+
+    /// The answer of a line that was done.
+    pub(crate) fn done(text: Vec<u8>) -> AnswerText
+        requires { is_refusal text.items ≡ false }
+        ensures { result ≡ text.items }
+    {
+        AnswerText {
+            text,
+            is_refusal: false,
+        }
+    }
+
+    /// The answer of a line that was refused.
+    pub(crate) fn refused(text: Vec<u8>) -> AnswerText
+        requires { is_refusal text.items ≡ true }
+        ensures { result ≡ text.items }
+    {
+        AnswerText {
+            text,
+            is_refusal: true,
+        }
+    }
+
+    /// Whether the line was refused: whether its answer begins with `refused`. The text is not looked at.
+    pub fn is_refusal(&self) -> bool
+        ensures { result ≡ is_refusal self.now }
+    {
+        self.is_refusal
+    }
+
+    /// Appends the answer behind the number of its line.
+    pub fn push_behind_number(&self, text: &mut Vec<u8>, number: u64) -> Result<(), AllocError>
+        ensures { OnOk result (text.new.items ≡ text.old.items ++ (decimal number ++ codes " " ++ self.now)) }
+    {
+        push_number(text, number)?;
+        text.extend_from_slice(b" ")?;
+        text.extend_from_slice(self.text.as_slice())
+    }
+}
