@@ -6,7 +6,7 @@ use std::marker::Model;
 #[derive(Drop)]
 pub struct AnswerText {
     text: Vec<u8>,
-    is_refusal: bool,
+    refused: bool,
 }
 
 impl Model for AnswerText {
@@ -17,7 +17,7 @@ impl Model for AnswerText {
 
     ghost view = { λ answer. answer.text.items };
 
-    ghost invariant = { λ answer. answer.is_refusal ≡ is_refusal answer.text.items };
+    ghost invariant = { λ answer. answer.refused ≡ is_refusal answer.text.items };
 }
 
 impl AnswerText {
@@ -30,7 +30,7 @@ impl AnswerText {
     {
         AnswerText {
             text: Vec::new(alloc),
-            is_refusal: false,
+            refused: false,
         }
     }
 
@@ -41,7 +41,7 @@ impl AnswerText {
     {
         AnswerText {
             text,
-            is_refusal: false,
+            refused: false,
         }
     }
 
@@ -52,7 +52,7 @@ impl AnswerText {
     {
         AnswerText {
             text,
-            is_refusal: true,
+            refused: true,
         }
     }
 
@@ -60,7 +60,7 @@ impl AnswerText {
     pub fn is_refusal(&self) -> bool
         ensures { result ≡ is_refusal self.now }
     {
-        self.is_refusal
+        self.refused
     }
 
     /// Appends the answer behind the number of its line.
