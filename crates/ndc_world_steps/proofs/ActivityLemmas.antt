@@ -183,10 +183,10 @@ pub left_as : {step : Stepped} {v : World} {reports after : List (List Report)} 
 left_as {step} {v} left e f h = record { stands = subst (λ l. StandFor v l step.world) (sym e) left.stands; answer = f ∙ left.answer; seen = h ∙ left.seen }
 
 -- what is put back where it stands
-pub put_back : (xs : List (List Report)) (i : ℕ) → slice_set xs i (slice_index_or xs i []) ≡ xs
-put_back [] i = refl
-put_back (x ∷ xs) zero = refl
-put_back (x ∷ xs) (suc i) = ap (λ l. x ∷ l) (put_back xs i)
+put-back : (xs : List (List Report)) (i : ℕ) → slice_set xs i (slice_index_or xs i []) ≡ xs
+put-back [] i = refl
+put-back (x ∷ xs) zero = refl
+put-back (x ∷ xs) (suc i) = ap (λ l. x ∷ l) (put-back xs i)
 
 -- what may be told, by what is learned
 pub told_same : (header : Header) (cluster : ClusterNo) (domain workflow id : Name) (w : World) (batches : List Batch) (table : List DomainRecord) → table ≡ (cluster_at cluster w).table → batches ≡ learned_at header cluster domain workflow w
@@ -208,7 +208,7 @@ module _ (v : World) (reports : List (List Report)) (w : World) (stand : StandFo
   -- a beat that is refused changes nothing
   pub beat_refused : (error : CommandError) (answer : List ℕ) (seen : List Seen) → told_at header cluster domain workflow id v ≡ Err error → answer ≡ error_answer error → seen ≡ []
       → IsLeftBy (beat_step header cluster domain workflow id details w) v reports answer seen
-  beat_refused error answer seen e f h = left_as (beat-by (Err error) e) (sym (put_back reports cluster.number)) f h
+  beat_refused error answer seen e f h = left_as (beat-by (Err error) e) (sym (put-back reports cluster.number)) f h
 
   -- one that is told
   pub beat_told : (told : ℕ × ActivityRef) (own new : List Report) (answer : List ℕ) (seen : List Seen) → told_at header cluster domain workflow id v ≡ Ok told → own ≡ slice_index_or reports cluster.number []

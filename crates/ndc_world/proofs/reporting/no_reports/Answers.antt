@@ -10,7 +10,7 @@ length-below : (count : ℕ) → length (clusters_below count) ≡ count
 length-below zero = refl
 length-below (suc count) = length-append (clusters_below count) (cluster_no count ∷ []) ∙ omega (arith, length-below count)
 
-pub returns-in_ok-reports : goal.returns-in_ok-reports
-returns-in_ok-reports c =
+pub returns : goal.returns
+returns c =
     c.in_ok-reports.ensures ∙ ap (λ (count : ℕ). replicate {A = List Report} count []) c.count.ensures.count
     ∙ splat_is_map (clusters_below (length c.args.header.now.clusters.members)) (length c.args.header.now.clusters.members) [] (length-below (length c.args.header.now.clusters.members))
