@@ -6,7 +6,6 @@ pub mod BareStepLemmas
 pub mod BurstLemmas
 pub mod ComeLemmas
 pub mod EntryLemmas
-pub mod GreatestLemmas
 pub mod GroupLemmas
 pub mod KeepLemmas
 pub mod LawLemmas

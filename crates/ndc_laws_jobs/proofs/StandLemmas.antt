@@ -25,7 +25,7 @@ use Rattle.ndc_model_sets.specs.Branches.{workflow_tip}
 use Rattle.ndc_model.specs.Bare.{bare_cluster, bare_step, is_on_reports}
 use Rattle.ndc_model.specs.Reporting.{shown_of, told_at, told_by, told_unless}
 use Rattle.ndc_model.specs.Standing.{AreLeftBy, IsLeftBy, StandFor, reports_of}
-use Rattle.ndc_laws_jobs.proofs.GreatestLemmas.{all-greatest, count_greatest, greatest_joined, greatest_more, next_greatest}
+use Rattle.ndc_progress.proofs.GreatestLemmas.{all-greatest, count_greatest, greatest_joined, greatest_more, next_greatest}
 use Rattle.ndc_laws_jobs.proofs.KeepLemmas.{line-keeps}
 use Rattle.ndc_laws_jobs.proofs.MoveLemmas.{same-at}
 use Rattle.ndc_laws_jobs.proofs.BareStepLemmas.{line-bare}

@@ -1,13 +1,11 @@
 -- What is held of an activity, in a map of reports and in lists that grow.
-use Rattle.std.proofs.Common.{◌≡◌, ◌≢◌, ℕ, Bool, true, false, cond, not, ◌&&◌, List, [], ◌∷◌, ◌++◌, map, length, Option, Some, None, if◌then◌else◌, refl, sym, ap, subst, ◌∙◌, true≢false, eqb}
-use Rattle.std.specs.List.{filter, fold}
+use Rattle.std.proofs.Common.{◌≡◌, Bool, true, false, cond, ◌&&◌, List, [], ◌∷◌, ◌++◌, Option, Some, None, refl, sym, ap, subst, ◌∙◌, true≢false}
 use Rattle.std.specs.Map.{lookup, values_of}
-use Rattle.std.specs.Str.{bytes_eq}
 use Rattle.std.proofs.lemmas.Slice.Eq.{bytes_eq-Decides}
 use Rattle.std.proofs.lemmas.Bool.{eqb-true, eq-eqb}
 use Rattle.indexmap.specs.IndexMap.{insert_all, insert_entry}
 use Rattle.ndc_progress.specs.Keyed.{AreKeyed, keyed, news}
-use Rattle.ndc_progress.specs.Reports.{activities_of, greater_report, held, merge_count, merged, replaces, report_lt, same_activity, with_report}
+use Rattle.ndc_progress.specs.Reports.{greater_report, held, replaces, report_lt, same_activity, with_report}
 use Rattle.ndc_progress.specs.declared.report.ActivityRef.{ActivityRef}
 use Rattle.ndc_progress.specs.declared.report.Report.{Report}
 

@@ -1,3 +1,6 @@
+pub mod GreatestLemmas
 pub mod HeldLemmas
+pub mod HoldingLemmas
 pub mod MergeLemmas
+pub mod NewsLemmas
 pub mod OrderLemmas

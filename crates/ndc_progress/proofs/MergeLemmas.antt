@@ -1,7 +1,7 @@
 -- Merging: what is put are the reports that take the place of what is held, and the others change nothing.
-use Rattle.std.proofs.Common.{◌≡◌, ◌≢◌, ◌+◌, arith, ℕ, suc, Bool, true, false, cond, not, List, [], ◌∷◌, ◌++◌, map, length, Option, Some, None, if◌then◌else◌, refl, sym, ap, subst, ◌∙◌, true≢false, count_by, IfSome, ◌≤◌, ◌<◌, ◌^◌, ◌==◌, nat_lt}
-use Rattle.std.specs.List.{filter, fold, AllByRecursion}
-use Rattle.std.specs.Map.{lookup, values_of}
+use Rattle.std.proofs.Common.{◌≡◌, ◌+◌, arith, ℕ, Bool, true, false, cond, not, List, [], ◌∷◌, map, length, Option, Some, None, if◌then◌else◌, refl, sym, ap, subst, ◌∙◌, true≢false, count_by, IfSome, ◌≤◌, ◌<◌, ◌^◌, ◌==◌, nat_lt}
+use Rattle.std.specs.List.{filter, AllByRecursion}
+use Rattle.std.specs.Map.{values_of}
 use Rattle.std.proofs.lemmas.Bool.{eqb-false, lt-ltb, ltb-false}
 use Rattle.std.proofs.lemmas.List.Sums.{sum_by-cons}
 use Rattle.ndc_event.specs.declared.name.Name.{Name}
@@ -10,7 +10,7 @@ use Rattle.ndc_progress.specs.Keyed.{AreKeyed, AreOnce, keyed, news}
 use Rattle.ndc_progress.specs.Reports.{activities_of, greater_report, held, merge_count, merged, next_beat, replaces, report_lt, same_activity, with_report}
 use Rattle.ndc_progress.specs.declared.report.ActivityRef.{ActivityRef}
 use Rattle.ndc_progress.specs.declared.report.Report.{Report}
-use Rattle.ndc_progress.proofs.HeldLemmas.{held-cases, other_flip, put_joins, put_keyed, put_stays, same_is_one, self_same}
+use Rattle.ndc_progress.proofs.HeldLemmas.{other_flip, put_joins, put_keyed, put_stays, same_is_one, self_same}
 
 -- the reports of a map are of different activities
 pub once : (es : List (ActivityRef × Report)) → AreKeyed es → AreOnce (values_of es)
@@ -112,7 +112,7 @@ count_news own others (r ∷ rs) h =
     by false more = omega (arith, more)
 
 -- of reports of different activities each is held
-each_held : (rs : List Report) → AreOnce rs → AllByRecursion (λ r. held r.activity rs ≡ Some r) rs
+pub each_held : (rs : List Report) → AreOnce rs → AllByRecursion (λ r. held r.activity rs ≡ Some r) rs
 each_held [] h = tt
 each_held (r ∷ rs) h =
     (rw (self_same r.activity, h.0) refl, later rs (each_held rs h.1) (none_of r.activity rs h.0))
@@ -121,6 +121,11 @@ each_held (r ∷ rs) h =
         → AllByRecursion (λ other. held other.activity (r ∷ rs) ≡ Some other) list
     later [] found others = tt
     later (first ∷ list) found others = (rw (other_flip r.activity first.activity others.0) found.0, later list found.1 others.1)
+
+-- the reports that stand under their activities
+pub values_keyed : (rs : List Report) → map (λ (entry : ActivityRef × Report). entry.1) (keyed rs) ≡ rs
+values_keyed [] = refl
+values_keyed (r ∷ rs) = ap (λ rest. r ∷ rest) (values_keyed rs)
 
 -- as many activities come to have another held report as there are reports that take the place of what is held
 pub count_merged : (own others : List Report) → AreOnce others → length (keyed (news own others)) ≡ merge_count own others

@@ -2,6 +2,7 @@
 use Rattle.std.proofs.Common.{◌≡◌, ℕ, Bool, true, false, cond, not, List, [], ◌∷◌, Option, Some, None, IfSome, if◌then◌else◌, refl, sym, ap, subst, ◌∙◌, true≢false, nat_lt, ◌==◌, ◌||◌, ◌&&◌, arith}
 use Rattle.std.specs.List.{AllByRecursion}
 use Rattle.std.proofs.lemmas.Bool.Decides.{nat_tests}
+use Rattle.ndc_progress.specs.Holdings.{covers}
 use Rattle.ndc_progress.specs.Keyed.{AreOnce}
 use Rattle.ndc_progress.specs.Laws.{Agree, AllAgree}
 use Rattle.ndc_progress.specs.Reports.{greater_report, greatest_of, held, merged, report_lt, same_activity, with_report}
@@ -43,7 +44,7 @@ abbrev pub own : ActivityRef → Report → Option Report
 own a r = if same_activity a r.activity then Some r else None
 
 -- nothing is not greater
-joined-none : (one : Option Report) → joined one None ≡ one
+pub joined-none : (one : Option Report) → joined one None ≡ one
 joined-none None = refl
 joined-none (Some one) = refl
 
@@ -147,11 +148,6 @@ held_merged a list (r ∷ others) h =
 pub held_greatest : (a : ActivityRef) (reports : List Report) → held a (greatest_of reports) ≡ held a reports
 held_greatest a reports = held_merged a [] reports tt
 
--- whether a report that joins changes nothing: one of its activity is there that is not smaller
-abbrev covers : List Report → Report → Bool
-covers [] r = false
-covers (f ∷ list) r = if same_activity r.activity f.activity then not (report_lt f r) else covers list r
-
 -- a report that is covered changes nothing
 covered-joins : (list : List Report) (r : Report) → covers list r ≡ true → with_report list r ≡ list
 covered-joins [] r h = absurd (true≢false (sym h))
@@ -164,7 +160,7 @@ covered-joins (f ∷ list) r h = by (same_activity r.activity f.activity) refl (
     by false p l q more = rw p (ap (λ rest. f ∷ rest) (more (sym (ap (λ t. cond t (not (report_lt f r)) (covers list r)) p) ∙ h)))
 
 -- no report comes before itself
-not-itself : (r : Report) → report_lt r r ≡ false
+pub not-itself : (r : Report) → report_lt r r ≡ false
 not-itself r = itself r.version r.beat
   where
     itself : (v b : ℕ) → before v b v b ≡ false
@@ -208,17 +204,17 @@ still-covers (f ∷ list) r g h =
     by false p l e false q k u more = rw q (more (sym (ap (λ t. cond t (not (report_lt f r)) (covers list r)) q) ∙ h))
 
 -- the same behind a merge
-merged-covers : (list others : List Report) (r : Report) → covers list r ≡ true → covers (merged list others) r ≡ true
+pub merged-covers : (list others : List Report) (r : Report) → covers list r ≡ true → covers (merged list others) r ≡ true
 merged-covers list [] r h = h
 merged-covers list (g ∷ others) r h = merged-covers (with_report list g) others r (still-covers list r g h)
 
 -- what was merged is covered
-all-covered : (list others : List Report) → AllByRecursion (λ r. covers (merged list others) r ≡ true) others
+pub all-covered : (list others : List Report) → AllByRecursion (λ r. covers (merged list others) r ≡ true) others
 all-covered list [] = tt
 all-covered list (r ∷ others) = (merged-covers (with_report list r) others r (joined-covers list r), all-covered (with_report list r) others)
 
 -- merging what is covered changes nothing
-covered-merged : (list others : List Report) → AllByRecursion (λ r. covers list r ≡ true) others → merged list others ≡ list
+pub covered-merged : (list others : List Report) → AllByRecursion (λ r. covers list r ≡ true) others → merged list others ≡ list
 covered-merged list [] h = refl
 covered-merged list (r ∷ others) h = ap (λ start. merged start others) (covered-joins list r h.0) ∙ covered-merged list others h.1
 

@@ -1,4 +1,4 @@
-ghost use Rattle.std.specs.Prelude.{◌≡◌, ◌≤◌, ◌<◌, ◌^◌, length, option_copied, IfOk, IfSome, Some};
+ghost use Rattle.std.specs.Prelude.{◌≡◌, ◌≤◌, ◌<◌, ◌^◌, length, map, option_copied, IfOk, IfSome, Some};
 ghost use Rattle.std.specs.Map.{values_of};
 ghost use Rattle.indexmap.specs.IndexMap.{insert_all, spare};
 ghost use Rattle.ndc_progress.specs.Keyed.{AreKeyed, keyed, news};
@@ -98,6 +98,17 @@ fn news_among(
     Ok(taken)
 }
 
+/// Copies of these reports.
+fn reports_of(alloc: Global, taken: &[(ActivityRef, Report)]) -> Result<Vec<Report>, AllocError>
+    ensures { IfOk result (λ reports. reports.items ≡ map (λ entry. entry.1) taken.now) }
+{
+    let mut reports = Vec::new(alloc);
+    for entry in taken {
+        reports.push(entry.1.try_copy()?)?;
+    }
+    Ok(reports)
+}
+
 /// Puts reports under their activities, where there is room.
 fn put_all(reports: &mut IndexMap<ActivityRef, Report>, taken: Vec<(ActivityRef, Report)>)
     requires { length taken.items ≤ spare reports.old }
@@ -112,9 +123,9 @@ fn put_all(reports: &mut IndexMap<ActivityRef, Report>, taken: Vec<(ActivityRef,
 }
 
 impl Progress {
-    ghost use Rattle.std.specs.Prelude.{◌≡◌, ◌≤◌, ◌<◌, ◌^◌, [], option_copied, IfOk, IfSome, OnOk, OnErr};
-    ghost use Rattle.ndc_progress.specs.Keyed.{AreOnce};
-    ghost use Rattle.ndc_progress.specs.Reports.{held, next_beat, next_report, with_report, merged, merge_count};
+    ghost use Rattle.std.specs.Prelude.{◌≡◌, ◌≤◌, ◌<◌, ◌^◌, ◌++◌, [], option_copied, IfOk, IfSome, OnOk, OnErr};
+    ghost use Rattle.ndc_progress.specs.Keyed.{AreOnce, news};
+    ghost use Rattle.ndc_progress.specs.Reports.{greatest_of, held, next_beat, next_report, with_report, merged, merge_count};
 
     /// Nothing was told.
     pub fn new(alloc: Global) -> Progress
@@ -166,11 +177,56 @@ impl Progress {
         ensures merged { OnOk result (self.new ≡ merged self.old other.now) }
         ensures unchanged { OnErr result (self.new ≡ self.old) }
     {
+        let mut log = Vec::new(*self.reports.allocator());
+        self.merge_into(other, &mut log)
+    }
+
+    /// Takes over the reports of another one, as `merge` does, and appends to a log those that it then holds. Where memory
+    /// runs out, all stays as it was.
+    #[tactic(auto, using(crate::proofs::MergeLemmas::values_keyed))]
+    pub(crate) fn merge_into(
+        &mut self,
+        other: &Progress,
+        log: &mut Vec<Report>,
+    ) -> Result<u64, AllocError>
+        ensures count { IfOk result (λ count. count ≡ merge_count self.old other.now) }
+        ensures merged { OnOk result (self.new ≡ merged self.old other.now) }
+        ensures news { OnOk result (log.new.items ≡ log.old.items ++ news self.old other.now) }
+        ensures unchanged { OnErr result (self.new ≡ self.old) }
+        ensures unwritten { OnErr result (log.new.items ≡ log.old.items) }
+    {
         let alloc = *self.reports.allocator();
         let taken = news_among(&self.reports, &other.reports, alloc)?;
+        let mut copies = reports_of(alloc, taken.as_slice())?;
         let count = taken.len() as u64;
         self.reports.reserve(taken.len())?;
+        log.append(&mut copies)?;
         put_all(&mut self.reports, taken);
         Ok(count)
+    }
+
+    /// A report joins what is held. Where memory runs out, all stays as it was.
+    pub(crate) fn take(&mut self, report: &Report) -> Result<(), AllocError>
+        ensures taken { OnOk result (self.new ≡ with_report self.old report.now) }
+        ensures unchanged { OnErr result (self.new ≡ self.old) }
+    {
+        if !is_greater(report, self.reports.get(&report.activity)) {
+            return Ok(());
+        }
+        let key = report.activity.try_copy()?;
+        let copy = report.try_copy()?;
+        self.reports.insert(key, copy)?;
+        Ok(())
+    }
+
+    /// The greatest report of each activity among these.
+    pub(crate) fn greatest_of(alloc: Global, reports: &[Report]) -> Result<Progress, AllocError>
+        ensures { IfOk result (λ greatest. greatest ≡ greatest_of reports.now) }
+    {
+        let mut greatest = Progress::new(alloc);
+        for report in reports {
+            greatest.take(report)?;
+        }
+        Ok(greatest)
     }
 }

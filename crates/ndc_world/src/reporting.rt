@@ -13,8 +13,8 @@ ghost use Rattle.ndc_model.specs.World.{World, all_clusters};
 ghost use Rattle.ndc_model_sets.specs.Sound.{IsSound};
 
 use ndc_cluster_reads::Reads;
-use ndc_progress::Progress;
-use ndc_script_types::{Act, Header, clusters_below};
+use ndc_progress::Reports;
+use ndc_script_types::{Act, Header};
 use ndc_world_replication::Replication;
 use ndc_world_steps::{Told, answered, reports};
 use std::alloc::{AllocError, Global};
@@ -30,14 +30,10 @@ pub(crate) fn is_on_reports(act: &Act) -> bool
 }
 
 /// No cluster of a header holds a report.
-pub(crate) fn no_reports(alloc: Global, header: &Header) -> Result<Vec<Progress>, AllocError>
-    ensures { IfOk result (λ reports. reports.items ≡ map (λ _. []) (all_clusters header.now)) }
+pub(crate) fn no_reports(alloc: Global, header: &Header) -> Result<Reports, AllocError>
+    ensures { IfOk result (λ reports. reports ≡ map (λ _. []) (all_clusters header.now)) }
 {
-    let clusters = clusters_below(alloc, header.clusters.count())?;
-    let mut reports = Vec::new(alloc);
-    for _cluster in clusters.as_slice() {
-        reports.push(Progress::new(alloc))?;
-    }
+    let reports = Reports::new(alloc, header.clusters.count() as usize)?;
     Ok(reports)
 }
 
@@ -45,7 +41,7 @@ pub(crate) fn no_reports(alloc: Global, header: &Header) -> Result<Vec<Progress>
 #[tactic(auto, unfolding(ndc_model::specs::Lines::act_step))]
 pub(crate) fn report<C: Reads + Drop>(
     replication: &Replication<C>,
-    reports: &mut Vec<Progress>,
+    reports: &mut Reports,
     alloc: Global,
     header: &Header,
     act: &Act,
@@ -55,9 +51,9 @@ pub(crate) fn report<C: Reads + Drop>(
     requires on { is_on_reports act.now ≡ true }
     requires shaped { IsShaped header.now replication.now }
     requires sound { (cluster : Number) (domain workflow : Text) → IsCluster header.now cluster → IsSound (learned_at header.now cluster domain workflow replication.now) }
-    requires seats { length reports.old.items ≡ count_of header.now.clusters }
-    requires beats { (cluster : Number) → IsCluster header.now cluster → AllByRecursion (λ report. report.beat < 10 ^ 12) (slice_index_or reports.old.items cluster.number []) }
-    ensures { IfOk result (λ answer. (w : World) → StandFor replication.now reports.old.items w → IsLeftBy (act_step header.now act.now w) replication.now reports.new.items answer.text answer.seen) }
+    requires seats { length reports.old ≡ count_of header.now.clusters }
+    requires beats { (cluster : Number) → IsCluster header.now cluster → AllByRecursion (λ report. report.beat < 10 ^ 12) (slice_index_or reports.old cluster.number []) }
+    ensures { IfOk result (λ answer. (w : World) → StandFor replication.now reports.old w → IsLeftBy (act_step header.now act.now w) replication.now reports.new answer.text answer.seen) }
 {
     match act {
         Act::Beat {
@@ -84,10 +80,9 @@ pub(crate) fn report<C: Reads + Drop>(
             workflow,
             id,
         } => {
-            let held = reports.as_slice();
             let text = reports::progress(
                 replication,
-                held,
+                reports,
                 alloc,
                 header,
                 *cluster,

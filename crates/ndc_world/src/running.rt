@@ -25,7 +25,7 @@ use crate::reporting::{is_on_reports, report};
 use ndc_cluster_reads::Reads;
 use ndc_domain::ClusterNo;
 use ndc_port::Gate;
-use ndc_progress::Progress;
+use ndc_progress::Reports;
 use ndc_script_types::{Act, BurstJob, Header, Line};
 use ndc_world_replication::Replication;
 use ndc_world_steps::Told;
@@ -159,7 +159,7 @@ fn run_other<R: Threads + Sync, G: Gate, C: Reads + Drop + Send>(
 /// Runs a line on progress reports.
 fn run_report<C: Reads + Drop>(
     replication: &Replication<C>,
-    reports: &mut Vec<Progress>,
+    reports: &mut Reports,
     alloc: Global,
     header: &Header,
     number: u64,
@@ -170,10 +170,10 @@ fn run_report<C: Reads + Drop>(
     requires on { is_on_reports asked.now ≡ true }
     requires shaped { IsShaped header.now replication.now }
     requires sound { (cluster : Number) (domain workflow : Text) → IsCluster header.now cluster → IsSound (learned_at header.now cluster domain workflow replication.now) }
-    requires seats { length reports.old.items ≡ count_of header.now.clusters }
-    requires beats { (cluster : Number) → IsCluster header.now cluster → AllByRecursion (λ report. report.beat < 10 ^ 12) (slice_index_or reports.old.items cluster.number []) }
-    ensures { IfOk result (λ told. (w : World) → StandFor replication.now reports.old.items w
-        → IsBehind header.now (record { number = number; act = asked.now }) w replication.now reports.new.items told.0.text told.0.seen told.1) }
+    requires seats { length reports.old ≡ count_of header.now.clusters }
+    requires beats { (cluster : Number) → IsCluster header.now cluster → AllByRecursion (λ report. report.beat < 10 ^ 12) (slice_index_or reports.old cluster.number []) }
+    ensures { IfOk result (λ told. (w : World) → StandFor replication.now reports.old w
+        → IsBehind header.now (record { number = number; act = asked.now }) w replication.now reports.new told.0.text told.0.seen told.1) }
 {
     let answer = report(replication, reports, alloc, header, asked)?;
     let told = one_answer(alloc, number, answer)?;
@@ -184,7 +184,7 @@ fn run_report<C: Reads + Drop>(
 /// and reports stand, the line answers this and makes this learned, and behind it they stand for the world that it leaves.
 pub(crate) fn run_line<R: Threads + Sync, G: Gate, C: Reads + Drop + Send>(
     replication: &mut Replication<C>,
-    reports: &mut Vec<Progress>,
+    reports: &mut Reports,
     rt: &R,
     alloc: Global,
     gate: &G,
@@ -196,9 +196,9 @@ pub(crate) fn run_line<R: Threads + Sync, G: Gate, C: Reads + Drop + Send>(
     requires workers { 0 < workers }
     requires act { IsWellFormedAct header.now line.now.act }
     requires lines { lines + length (lines_of_act line.now.number line.now.act) ≤ 100000 }
-    requires standing { IsStanding header.now lines replication.old reports.old.items }
-    ensures { IfOk result (λ told. (w : World) → StandFor replication.old reports.old.items w
-        → IsBehind header.now line.now w replication.new reports.new.items told.0.text told.0.seen told.1) }
+    requires standing { IsStanding header.now lines replication.old reports.old }
+    ensures { IfOk result (λ told. (w : World) → StandFor replication.old reports.old w
+        → IsBehind header.now line.now w replication.new reports.new told.0.text told.0.seen told.1) }
 {
     if is_on_reports(&line.act) {
         let told = run_report(replication, reports, alloc, header, line.number, &line.act)?;

@@ -7,7 +7,7 @@ use ndc_cluster::Cluster;
 use ndc_cluster_reads::Reads;
 use ndc_domain::ClusterNo;
 use ndc_port::Gate;
-use ndc_progress::Progress;
+use ndc_progress::Reports;
 use ndc_script_types::{Header, Line};
 use ndc_world_replication::Replication;
 use ndc_world_replication::publishers::cluster_of;
@@ -27,7 +27,7 @@ const MOST_LINES: u64 = 100_000;
 pub struct World<'a, C: Reads + Drop> {
     header: &'a Header,
     replication: Replication<C>,
-    reports: Vec<Progress>,
+    reports: Reports,
     lines: u64,
     answers: u64,
     refused: u64,
@@ -40,10 +40,10 @@ impl<'a, C: Reads + Drop> Model for World<'a, C> {
 
     ghost Value = { WorldValue };
 
-    ghost view = { λ world. record { spent = world.spent; header = world.header.now; lines = world.lines; answers = world.answers; refused = world.refused; world = world.replication; reports = world.reports.items } };
+    ghost view = { λ world. record { spent = world.spent; header = world.header.now; lines = world.lines; answers = world.answers; refused = world.refused; world = world.replication; reports = world.reports } };
 
     ghost invariant = { λ world. world.spent ≡ false
-        → IsUnspent (record { spent = world.spent; header = world.header.now; lines = world.lines; answers = world.answers; refused = world.refused; world = world.replication; reports = world.reports.items }) };
+        → IsUnspent (record { spent = world.spent; header = world.header.now; lines = world.lines; answers = world.answers; refused = world.refused; world = world.replication; reports = world.reports }) };
 }
 
 impl<'a, C: Reads + Drop> Drop for World<'a, C> {

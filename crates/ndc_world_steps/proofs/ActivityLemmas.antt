@@ -1,5 +1,5 @@
 -- Activities that are told of, and versions of the events that scheduled them.
-use Rattle.std.proofs.Common.{◌≡◌, ◌≢◌, ◌==◌, ℕ, zero, suc, ◌<◌, ◌≤◌, ◌^◌, ◌+◌, Bool, true, false, List, [], ◌∷◌, get_or, length, nat_lt, slice_index_or, slice_set, Option, Some, None, Result, Ok, Err, refl, sym, ◌∙◌, ap, subst, arith, if◌then◌else◌}
+use Rattle.std.proofs.Common.{◌≡◌, ◌==◌, ℕ, zero, suc, ◌<◌, ◌≤◌, ◌^◌, ◌+◌, Bool, true, false, List, [], ◌∷◌, nat_lt, slice_index_or, slice_set, Option, Some, None, Result, Ok, Err, refl, sym, ◌∙◌, ap, subst, arith, if◌then◌else◌}
 use Rattle.std.specs.Prelude.{IfSome, option_map}
 use Rattle.std.specs.List.{AllByRecursion}
 use Rattle.std.proofs.lemmas.Bool.{and_parts, eqb-false, eqb-true, le-ltb, lt-ltb, ltb-false}
@@ -187,20 +187,6 @@ put-back : (xs : List (List Report)) (i : ℕ) → slice_set xs i (slice_index_o
 put-back [] i = refl
 put-back (x ∷ xs) zero = refl
 put-back (x ∷ xs) (suc i) = ap (λ l. x ∷ l) (put-back xs i)
-
--- what stands at a place that is there
-pub seat_is : (xs : List (List Report)) (i : ℕ) (own : List Report) → i < length xs → own ≡ get_or xs i own → own ≡ slice_index_or xs i []
-seat_is [] i own below is = absurd (omega (arith, below))
-seat_is (x ∷ xs) zero own below is = is
-seat_is (x ∷ xs) (suc i) own below is = seat_is xs i own (omega (arith, below)) is
-
--- the same where something was put elsewhere
-pub other_seat : (xs : List (List Report)) (i j : ℕ) (x own : List Report) → j < length xs → i ≢ j → own ≡ get_or (slice_set xs i x) j own → own ≡ slice_index_or xs j []
-other_seat [] i j x own below differ is = absurd (omega (arith, below))
-other_seat (y ∷ xs) zero zero x own below differ is = absurd (differ refl)
-other_seat (y ∷ xs) zero (suc j) x own below differ is = seat_is xs j own (omega (arith, below)) is
-other_seat (y ∷ xs) (suc i) zero x own below differ is = is
-other_seat (y ∷ xs) (suc i) (suc j) x own below differ is = other_seat xs i j x own (omega (arith, below)) (λ e. differ (ap (λ n. suc n) e)) is
 
 -- what may be told, by what is learned
 pub told_same : (header : Header) (cluster : ClusterNo) (domain workflow id : Name) (w : World) (batches : List Batch) (table : List DomainRecord) → table ≡ (cluster_at cluster w).table → batches ≡ learned_at header cluster domain workflow w

@@ -1,4 +1,4 @@
-ghost use Rattle.std.specs.Prelude.{◌≡◌, ◌≢◌, ◌<◌, ◌^◌, [], Ok, Result, slice_set, length, option_copied, slice_index_or, IfOk, OnOk};
+ghost use Rattle.std.specs.Prelude.{◌≡◌, ◌<◌, ◌^◌, [], Ok, Result, slice_set, length, option_copied, slice_index_or, IfOk, OnOk};
 ghost use Rattle.std.specs.List.{AllByRecursion};
 ghost use Rattle.ndc_script_types.specs.WellFormed.{IsCluster};
 ghost use Rattle.ndc_model.specs.Reporting.{shown_of, told_at, told_by};
@@ -12,7 +12,7 @@ ghost use Rattle.ndc_model.specs.Progress.{activity_answer, beat_step, progress_
 ghost use Rattle.ndc_model.specs.Reading.{learned_at};
 ghost use Rattle.ndc_model.specs.World.{World};
 ghost use Rattle.ndc_model_sets.specs.Sound.{IsSound};
-ghost use Rattle.ndc_progress.specs.Reports.{merge_count, merged, stale_by};
+ghost use Rattle.ndc_progress.specs.Reports.{stale_by};
 ghost use Rattle.ndc_world_steps.specs.Told.{only_answer};
 
 use crate::activities::{pending_activity, told_of};
@@ -21,14 +21,13 @@ use ndc_cluster_reads::Reads;
 use ndc_command::CommandError;
 use ndc_domain::ClusterNo;
 use ndc_event::Name;
-use ndc_progress::{ActivityRef, Progress, Report};
+use ndc_progress::{ActivityRef, Progress, Report, Reports};
 use ndc_script_types::Header;
 use ndc_shard_runs::Runs;
 use ndc_world_answers::AnswerText;
 use ndc_world_replication::Replication;
 use ndc_world_replication::publishers::{runs_of, table_of};
 use std::alloc::{AllocError, Global};
-use std::mem;
 
 /// The version of a held report that is above another one.
 fn stale_by(version: u64, held: Option<&Report>) -> Option<u64>
@@ -40,22 +39,24 @@ fn stale_by(version: u64, held: Option<&Report>) -> Option<u64>
     }
 }
 
-/// An activity is told of, where the held report has no greater version.
+/// A cluster is told of an activity, where the held report has no greater version.
 fn tell(
     alloc: Global,
-    own: &mut Progress,
+    reports: &mut Reports,
+    cluster: usize,
     version: u64,
     activity: ActivityRef,
     details: &Name,
 ) -> Result<Told, AllocError>
-    requires { AllByRecursion (λ report. report.beat < 10 ^ 12) own.old }
-    ensures answer { IfOk result (λ answer. answer ≡ only_answer (told_by details.now own.old (Ok (version, activity))).answer) }
-    ensures reports { OnOk result (own.new ≡ (told_by details.now own.old (Ok (version, activity))).reports) }
+    requires cluster { cluster < length reports.old }
+    requires beats { AllByRecursion (λ report. report.beat < 10 ^ 12) (slice_index_or reports.old cluster []) }
+    ensures answer { IfOk result (λ answer. answer ≡ only_answer (told_by details.now (slice_index_or reports.old cluster []) (Ok (version, activity))).answer) }
+    ensures reports { OnOk result (reports.new ≡ slice_set reports.old cluster (told_by details.now (slice_index_or reports.old cluster []) (Ok (version, activity))).reports) }
 {
-    if let Some(stale) = stale_by(version, own.find(&activity)) {
+    if let Some(stale) = stale_by(version, reports.of(cluster).find(&activity)) {
         return Ok(answered(alloc, ndc_world_answers::stale(alloc, stale)?));
     }
-    let beat = own.tell(activity, version, details.try_copy()?)?;
+    let beat = reports.tell(cluster, activity, version, details.try_copy()?)?;
     Ok(answered(alloc, ndc_world_answers::beaten(alloc, version, beat)?))
 }
 
@@ -126,7 +127,7 @@ fn told_at<C: Reads + Drop>(
 /// versions on the current branch.
 pub fn beat<C: Reads + Drop>(
     replication: &Replication<C>,
-    reports: &mut Vec<Progress>,
+    reports: &mut Reports,
     alloc: Global,
     header: &Header,
     cluster: ClusterNo,
@@ -139,15 +140,15 @@ pub fn beat<C: Reads + Drop>(
     requires cluster { IsCluster header.now cluster }
     requires shaped { IsShaped header.now replication.now }
     requires sound { IsSound (learned_at header.now cluster domain.now workflow.now replication.now) }
-    requires seat { cluster.number < length reports.old.items }
-    requires beats { AllByRecursion (λ report. report.beat < 10 ^ 12) (slice_index_or reports.old.items cluster.number []) }
-    ensures { IfOk result (λ answer. (w : World) → StandFor replication.now reports.old.items w
-        → IsLeftBy (beat_step header.now cluster domain.now workflow.now id.now details.now w) replication.now reports.new.items answer.text answer.seen) }
+    requires seat { cluster.number < length reports.old }
+    requires beats { AllByRecursion (λ report. report.beat < 10 ^ 12) (slice_index_or reports.old cluster.number []) }
+    ensures { IfOk result (λ answer. (w : World) → StandFor replication.now reports.old w
+        → IsLeftBy (beat_step header.now cluster domain.now workflow.now id.now details.now w) replication.now reports.new answer.text answer.seen) }
 {
     match told_at(replication, alloc, header, cluster, domain, workflow, id) {
         Ok((version, activity)) => {
-            let own = &mut reports[cluster.number as usize];
-            let answer = tell(alloc, own, version, activity, details)?;
+            let place = cluster.number as usize;
+            let answer = tell(alloc, reports, place, version, activity, details)?;
             Ok(answer)
         }
         Err(CommandError::Refused(why)) => {
@@ -160,37 +161,17 @@ pub fn beat<C: Reads + Drop>(
 /// `sync`.
 pub fn sync<C: Reads + Drop>(
     replication: &Replication<C>,
-    reports: &mut Vec<Progress>,
+    reports: &mut Reports,
     alloc: Global,
     to: ClusterNo,
     from: ClusterNo,
 ) -> Result<Told, AllocError>
-    requires to { to.number < length reports.old.items }
-    requires from { from.number < length reports.old.items }
-    requires differ { to.number ≢ from.number }
-    ensures { IfOk result (λ answer. (w : World) → StandFor replication.now reports.old.items w → IsLeftBy (sync_step to from w) replication.now reports.new.items answer.text answer.seen) }
+    requires to { to.number < length reports.old }
+    requires from { from.number < length reports.old }
+    ensures { IfOk result (λ answer. (w : World) → StandFor replication.now reports.old w → IsLeftBy (sync_step to from w) replication.now reports.new answer.text answer.seen) }
 {
-    let count = take_over(alloc, reports, to.number as usize, from.number as usize)?;
+    let count = reports.take_over(to.number as usize, from.number as usize)?;
     Ok(answered(alloc, ndc_world_answers::counted(alloc, count)?))
-}
-
-/// The reports at one place take over those at another, and it is counted of how many activities they then hold another.
-fn take_over(
-    alloc: Global,
-    reports: &mut Vec<Progress>,
-    to: usize,
-    from: usize,
-) -> Result<u64, AllocError>
-    requires to { to < length reports.old.items }
-    requires from { from < length reports.old.items }
-    requires differ { to ≢ from }
-    ensures count { IfOk result (λ count. count ≡ merge_count (slice_index_or reports.old.items to []) (slice_index_or reports.old.items from [])) }
-    ensures reports { OnOk result (reports.new.items ≡ slice_set reports.old.items to (merged (slice_index_or reports.old.items to []) (slice_index_or reports.old.items from []))) }
-{
-    let mut own = mem::replace(&mut reports[to], Progress::new(alloc));
-    let count = own.merge(&reports[from])?;
-    reports[to] = own;
-    Ok(count)
 }
 
 /// What is held of a pending activity, or why there is none.
@@ -259,7 +240,7 @@ fn shown_at<C: Reads + Drop>(
 /// `progress`. What is learned of the workflow is sound. In time of the versions on the current branch.
 pub fn progress<C: Reads + Drop>(
     replication: &Replication<C>,
-    reports: &[Progress],
+    reports: &Reports,
     alloc: Global,
     header: &Header,
     cluster: ClusterNo,
@@ -274,7 +255,7 @@ pub fn progress<C: Reads + Drop>(
     requires seat { cluster.number < length reports.now }
     ensures { IfOk result (λ text. (w : World) → StandFor replication.now reports.now w → text ≡ progress_answer header.now cluster domain.now workflow.now id.now w) }
 {
-    let own = &reports[cluster.number as usize];
+    let own = reports.of(cluster.number as usize);
     let text = shown_at(
         replication,
         alloc,

@@ -1,7 +1,16 @@
-use Rattle.std.proofs.Common.{[]}
-use Rattle.ndc_world_replication.proofs.AlikeLemmas.{one_more_alike}
+use Rattle.std.proofs.Common.{◌≡◌, ℕ, zero, suc, List, [], ◌∷◌, arith, ap, length, length-append, refl, replicate, ◌∙◌}
+use Rattle.std.proofs.lemmas.Simd.{splat_is_map}
+use Rattle.ndc_domain.specs.Clusters.{cluster_no}
+use Rattle.ndc_progress.specs.declared.report.Report.{Report}
+use Rattle.ndc_script_types.specs.Below.{clusters_below}
 use Rattle.ndc_world.proofs.reporting.no_reports.Goals as goal
 
-pub loop-cluster-preserved : goal.loop-cluster-preserved
-loop-cluster-preserved c =
-    one_more_alike [] c.new.result c.loop-cluster.reports.items c.push.new.self.items c.as_slice-cluster-items.result.now c.loop-cluster._cluster-index c.loop-cluster-test.true c.in_ok-push.ensures.items c.new.ensures c.loop-cluster.invariant
+-- how many the first clusters are
+length-below : (count : ℕ) → length (clusters_below count) ≡ count
+length-below zero = refl
+length-below (suc count) = length-append (clusters_below count) (cluster_no count ∷ []) ∙ omega (arith, length-below count)
+
+pub returns : goal.returns
+returns c =
+    c.in_ok-reports.ensures ∙ ap (λ (count : ℕ). replicate {A = List Report} count []) c.count.ensures.count
+    ∙ splat_is_map (clusters_below (length c.args.header.now.clusters.members)) (length c.args.header.now.clusters.members) [] (length-below (length c.args.header.now.clusters.members))

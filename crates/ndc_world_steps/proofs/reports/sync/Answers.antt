@@ -7,5 +7,5 @@ use Rattle.ndc_world_steps.proofs.reports.sync.Goals as goal
 
 pub returns : goal.returns
 returns g c =
-    λ w stand. left_as (sync-left c.args.replication.now c.args.reports.now.items w stand c.args.to c.args.from) c.in_ok-count.ensures.reports
+    λ w stand. left_as (sync-left c.args.replication.now c.args.reports.now w stand c.args.to c.args.from) c.in_ok-count.ensures.taken
     (ap (λ (t : AnswerValue). t.text) c.answered.ensures ∙ c.in_ok-counted.ensures ∙ ap (λ (n : ℕ). ok (decimal n ∷ [])) c.in_ok-count.ensures.count) (ap (λ (t : AnswerValue). t.seen) c.answered.ensures)

@@ -1,5 +1,4 @@
-use Rattle.std.proofs.Common.{◌≡◌, ◌≤◌, ◌<◌, ◌^◌, true, Some, IfSome, ap, sym, subst, ◌∙◌}
-use Rattle.std.specs.Option.{option_copied}
+use Rattle.std.proofs.Common.{◌≡◌, ◌<◌, ◌^◌, true, Some, IfSome, ap, sym, subst, ◌∙◌}
 use Rattle.std.specs.Map.{values_of}
 use Rattle.ndc_progress.proofs.HeldLemmas.{lookup_held, put_joins, put_keyed}
 use Rattle.ndc_progress.proofs.MergeLemmas.{held_beat, next_replaces}

@@ -10,27 +10,27 @@ run_line-requires-clause-standing g c κs within = (c.self.invariant (ap (λ (v 
 
 pub overflow_add-self-3 : goal.overflow_add-self-3
 overflow_add-self-3 g c =
-    let own : WorldValue = record { spent = c.self.inside.spent; header = c.self.inside.header.now; lines = c.self.inside.lines; answers = c.self.inside.answers; refused = c.self.inside.refused; world = c.self.inside.replication; reports = c.self.inside.reports.items } in
+    let own : WorldValue = record { spent = c.self.inside.spent; header = c.self.inside.header.now; lines = c.self.inside.lines; answers = c.self.inside.answers; refused = c.self.inside.refused; world = c.self.inside.replication; reports = c.self.inside.reports } in
     let is = c.self.invariant (ap (λ (v : WorldValue). v.spent) c.self.view_is ∙ c.requires.unspent) in
     let room = subst (λ (v : WorldValue). v.lines + length (lines_of_act c.args.line.now.number c.args.line.now.act) ≤ 100000) (sym c.self.view_is) c.requires.lines in
     let fits : own.refused + c.in_ok-answer.refused ≤ 100000 =
-    refused_fit own is c.args.line.now room c.run_line.new.replication c.run_line.new.reports.items c.in_ok-answer.answer.text c.in_ok-answer.answer.seen c.in_ok-answer.refused c.in_ok-answer.ensures in
+    refused_fit own is c.args.line.now room c.run_line.new.replication c.run_line.new.reports c.in_ok-answer.answer.text c.in_ok-answer.answer.seen c.in_ok-answer.refused c.in_ok-answer.ensures in
     omega (arith, fits)
 
 pub invariant_of-self-2 : goal.invariant_of-self-2
 invariant_of-self-2 g c = λ unspent.
-    let own : WorldValue = record { spent = c.self.inside.spent; header = c.self.inside.header.now; lines = c.self.inside.lines; answers = c.self.inside.answers; refused = c.self.inside.refused; world = c.self.inside.replication; reports = c.self.inside.reports.items } in
+    let own : WorldValue = record { spent = c.self.inside.spent; header = c.self.inside.header.now; lines = c.self.inside.lines; answers = c.self.inside.answers; refused = c.self.inside.refused; world = c.self.inside.replication; reports = c.self.inside.reports } in
     let is = c.self.invariant (ap (λ (v : WorldValue). v.spent) c.self.view_is ∙ c.requires.unspent) in
     let act = subst (λ (v : WorldValue). IsWellFormedAct v.header c.args.line.now.act) (sym c.self.view_is) c.requires.act in
     let room = subst (λ (v : WorldValue). v.lines + length (lines_of_act c.args.line.now.number c.args.line.now.act) ≤ 100000) (sym c.self.view_is) c.requires.lines in
-    unspent_behind own is c.args.line.now act room c.run_line.new.replication c.run_line.new.reports.items c.in_ok-answer.answer.text c.in_ok-answer.answer.seen c.in_ok-answer.refused c.line_count-count.result
+    unspent_behind own is c.args.line.now act room c.run_line.new.replication c.run_line.new.reports c.in_ok-answer.answer.text c.in_ok-answer.answer.seen c.in_ok-answer.refused c.line_count-count.result
     c.in_ok-answer.ensures (c.line_count-count.ensures c.args.line.now.number)
 
 pub returns-clause-steps : goal.returns-clause-steps
 returns-clause-steps g c =
-    let own : WorldValue = record { spent = c.self.inside.spent; header = c.self.inside.header.now; lines = c.self.inside.lines; answers = c.self.inside.answers; refused = c.self.inside.refused; world = c.self.inside.replication; reports = c.self.inside.reports.items } in
+    let own : WorldValue = record { spent = c.self.inside.spent; header = c.self.inside.header.now; lines = c.self.inside.lines; answers = c.self.inside.answers; refused = c.self.inside.refused; world = c.self.inside.replication; reports = c.self.inside.reports } in
     let count = c.line_count-count.result in
-    let after : WorldValue = record { spent = false; header = own.header; lines = own.lines + count; answers = own.answers + count; refused = own.refused + c.in_ok-answer.refused; world = c.run_line.new.replication; reports = c.run_line.new.reports.items } in
+    let after : WorldValue = record { spent = false; header = own.header; lines = own.lines + count; answers = own.answers + count; refused = own.refused + c.in_ok-answer.refused; world = c.run_line.new.replication; reports = c.run_line.new.reports } in
     subst (λ (before : WorldValue). IsStepped before c.args.line.now after c.in_ok-answer.answer.text c.in_ok-answer.answer.seen) c.self.view_is (record {
       unspent = refl;
       header = refl;

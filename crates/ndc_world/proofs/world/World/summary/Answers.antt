@@ -5,5 +5,5 @@ use Rattle.ndc_world.proofs.world.World.summary.Goals as goal
 
 pub totals-requires : goal.totals-requires
 totals-requires g c =
-    (clusters_reached c.self.inside.header.now c.self.inside.lines c.self.inside.replication c.self.inside.reports.items
+    (clusters_reached c.self.inside.header.now c.self.inside.lines c.self.inside.replication c.self.inside.reports
     (c.self.invariant (ap (λ (v : WorldValue). v.spent) c.self.view_is ∙ c.requires)).standing).shaped

@@ -1,10 +1,10 @@
-use Rattle.std.proofs.Common.{◌≡◌, ap, sym, subst, ◌∙◌, length}
+use Rattle.std.proofs.Common.{ap, sym, subst, ◌∙◌, length}
 use Rattle.std.specs.Map.{values_of}
 use Rattle.indexmap.specs.IndexMap.{insert_all}
-use Rattle.ndc_progress.specs.Keyed.{AreKeyed, AreOnce, keyed, news}
+use Rattle.ndc_progress.specs.Keyed.{AreKeyed, news}
 use Rattle.ndc_progress.specs.Reports.{merge_count, merged, same_activity}
 use Rattle.ndc_progress.proofs.MergeLemmas.{all_keyed, count_merged, once, put_merges}
-use Rattle.ndc_progress.proofs.progress.Progress.merge.Goals as goal
+use Rattle.ndc_progress.proofs.progress.Progress.merge_into.Goals as goal
 
 pub invariant_of-self-2 : goal.invariant_of-self-2
 invariant_of-self-2 c =

@@ -7,7 +7,7 @@ use Rattle.ndc_progress.specs.Reports.{activities_of, greater_report, greatest_o
 use Rattle.ndc_progress.specs.declared.report.ActivityRef.{ActivityRef}
 use Rattle.ndc_progress.specs.declared.report.Report.{Report}
 use Rattle.ndc_progress.proofs.HeldLemmas.{other_flip, same_is_one, self_same}
-use Rattle.ndc_progress.proofs.OrderLemmas.{held_greatest, merged_once, with_once, greater-of_three, before}
+use Rattle.ndc_progress.proofs.OrderLemmas.{held_greatest, merged_once, with_once, greater-of_three}
 
 -- the greater of two reports of an activity is of it
 of-both : (a : ActivityRef) (x y : Report) → a ≡ x.activity → a ≡ y.activity → a ≡ (greater_report x (Some y)).activity
@@ -158,17 +158,18 @@ merged-merged list g (r ∷ others) once = merged-merged list (with_report g r) 
 pub merged_greatest : (list others : List Report) → merged list (greatest_of others) ≡ merged list others
 merged_greatest list others = merged-merged list [] others tt
 
-merged-joined : (list one two : List Report) → merged list (one ++ two) ≡ merged (merged list one) two
-merged-joined list [] two = refl
-merged-joined list (r ∷ one) two = merged-joined (with_report list r) one two
+-- taking over reports and then others
+pub merged_joined : (list one two : List Report) → merged list (one ++ two) ≡ merged (merged list one) two
+merged_joined list [] two = refl
+merged_joined list (r ∷ one) two = merged_joined (with_report list r) one two
 
 -- the greatest of reports behind others
 pub greatest_joined : (one two : List Report) → greatest_of (one ++ two) ≡ merged (greatest_of one) (greatest_of two)
-greatest_joined one two = merged-joined [] one two ∙ sym (merged_greatest (greatest_of one) two)
+greatest_joined one two = merged_joined [] one two ∙ sym (merged_greatest (greatest_of one) two)
 
 -- one report more
 pub greatest_more : (reports : List Report) (r : Report) → greatest_of (reports ++ r ∷ []) ≡ with_report (greatest_of reports) r
-greatest_more reports r = merged-joined [] reports (r ∷ [])
+greatest_more reports r = merged_joined [] reports (r ∷ [])
 
 -- the next report goes by what is held
 pub next_greatest : (activity : ActivityRef) (version : ℕ) (details : Name) (reports : List Report) → next_report activity version details (greatest_of reports) ≡ next_report activity version details reports
