@@ -1,7 +1,7 @@
 ghost use Rattle.std.specs.Prelude.{◌≡◌, map, replicate, IfOk};
 ghost use Rattle.ndc_model_cells.specs.Cells.{empty_cell};
 
-use ndc_cluster_rounds::{Cell, Desk, Home, round};
+use ndc_cluster_rounds::{Cell, Desk, Fresh, Home, round};
 use ndc_domain::DomainTable;
 use ndc_model_cells::{JobReply, ShardJob};
 use ndc_port::Gate;
@@ -34,6 +34,14 @@ impl<C: Cell + Drop> Drop for Cluster<C> {
     }
 }
 
+/// What the jobs of a round come to: the reply to each, in order, and where they were done in pieces, for each cell what it has
+/// written from some place on.
+#[derive(Drop)]
+pub struct Replied {
+    pub replies: Vec<JobReply>,
+    pub fresh: Option<Vec<Fresh>>,
+}
+
 /// So many cells in which nothing has happened.
 fn empty_cells<C: Cell + Drop>(
     alloc: Global,
@@ -51,11 +59,12 @@ fn empty_cells<C: Cell + Drop>(
 
 impl<C: Cell + Drop> Cluster<C> {
     ghost use Rattle.std.specs.Borrow.{sem};
-    ghost use Rattle.std.specs.Prelude.{◌≡◌, ◌<◌, length, map, IfOk, OnOk};
+    ghost use Rattle.std.specs.Prelude.{◌≡◌, ◌<◌, length, map, IfOk, IfSome, OnOk};
     ghost use Rattle.std.specs.List.{AllByRecursion};
     ghost use Rattle.ndc_cluster.specs.Clusters.{new_cluster, with_cells};
     ghost use Rattle.ndc_cluster.specs.Lending.{LendsRecords};
     ghost use Rattle.ndc_cluster_rounds.specs.Homes.{desk_of};
+    ghost use Rattle.ndc_cluster_rounds.specs.Rounds.{AreFresh};
     ghost use Rattle.ndc_model_cells.specs.Conditions.{AreAllowed};
     ghost use Rattle.ndc_model_cells.specs.Jobs.{cell_for, cells_after, replies_to};
 
@@ -112,19 +121,23 @@ impl<C: Cell + Drop> Cluster<C> {
         workers: u32,
         home: &Home,
         jobs: &[ShardJob],
-    ) -> Result<Vec<JobReply>, AllocError>
+    ) -> Result<Replied, AllocError>
     where
         C: Send,
         requires workers { 0 < workers }
         requires shards { AllByRecursion (λ asked. asked.shard < length self.old.cells) jobs.now }
         requires allowed { AreAllowed C.allows (desk_of home.now self.old.table) jobs.now self.old.cells }
         ensures cells { OnOk result (self.new ≡ with_cells (cells_after (desk_of home.now self.old.table) jobs.now self.old.cells) self.old) }
-        ensures replies { IfOk result (λ replies. replies.items ≡ replies_to (desk_of home.now self.old.table) jobs.now self.old.cells) }
+        ensures replies { IfOk result (λ replied. replied.replies.items ≡ replies_to (desk_of home.now self.old.table) jobs.now self.old.cells) }
+        ensures fresh { IfOk result (λ replied. IfSome replied.fresh (λ fresh. AreFresh fresh.items self.new.cells)) }
     {
         let cells = mem::replace(&mut self.cells, Vec::new(alloc));
         let desk = Desk::new(home.clusters, home.me, home.limit, &self.table);
         let rounded = round(rt, alloc, gate, workers, &desk, cells, jobs)?;
         self.cells = rounded.cells;
-        Ok(rounded.replies)
+        Ok(Replied {
+            replies: rounded.replies,
+            fresh: rounded.fresh,
+        })
     }
 }

@@ -3,4 +3,4 @@
 
 mod cluster;
 
-pub use cluster::Cluster;
+pub use cluster::{Cluster, Replied};
