@@ -18,7 +18,8 @@ pub(crate) fn fresh_from<C: Cell>(alloc: Global, cell: &C, from: u64) -> Result<
     let len = cell.written_len();
     let mut messages = Vec::with_capacity(alloc, len.saturating_sub(from) as usize)?;
     for place in from..len {
-        messages.push(cell.written_at(place)?)?;
+        let message = cell.written_at(place)?;
+        messages.push(message)?;
     }
     Ok(Fresh { from, messages })
 }

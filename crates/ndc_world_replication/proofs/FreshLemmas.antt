@@ -1,6 +1,5 @@
 -- What is at hand of what cells have written, cell by cell.
-use Rattle.std.proofs.Common.{◌≡◌, ◌<◌, ◌≤◌, ◌+◌, ℕ, zero, suc, List, [], ◌∷◌, Option, Some, None, drop, length, sym, subst, arith}
-use Rattle.std.specs.Prelude.{IfSome}
+use Rattle.std.proofs.Common.{◌≡◌, ◌<◌, ◌≤◌, ◌+◌, ℕ, zero, suc, List, [], ◌∷◌, drop, length, sym, subst, arith}
 use Rattle.std.proofs.Math.Seq.{drop-nil}
 use Rattle.ndc_model_cells.specs.Cells.{Cell}
 use Rattle.ndc_model_cells.specs.Jobs.{cell_for}
@@ -22,8 +21,3 @@ pub fresh_end : (cells : List Cell) (shard : ℕ) → AreFresh [] (drop shard ce
 fresh_end [] shard it = omega arith
 fresh_end (cell ∷ cells) zero it = absurd it
 fresh_end (cell ∷ cells) (suc shard) it = omega (arith, fresh_end cells shard it)
-
--- what follows from what holds, where there is something
-pub if_some : {X : Type 0} (found : Option X) (P Q : X → Type 0) → ((x : X) → P x → Q x) → IfSome found P → IfSome found Q
-if_some (Some x) P Q by it = by x it
-if_some None P Q by it = it

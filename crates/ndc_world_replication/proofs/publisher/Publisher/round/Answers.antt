@@ -2,7 +2,9 @@ use Rattle.std.proofs.Common.{◌≡◌, List, length, map, ap, sym, subst, ◌�
 use Rattle.std.proofs.lemmas.List.{length-map}
 use Rattle.ndc_cluster.specs.Clusters.{ClusterValue}
 use Rattle.ndc_cluster_links.specs.Rest.{AreFronts, AreRests}
+use Rattle.std.specs.Prelude.{IfSome}
 use Rattle.ndc_cluster_rounds.specs.Homes.{desk_of}
+use Rattle.ndc_cluster_rounds.specs.Rounds.{AreFresh}
 use Rattle.ndc_model_cells.specs.Cells.{Cell}
 use Rattle.ndc_model_cells.specs.Jobs.{cell_for, cells_after}
 use Rattle.ndc_queue.specs.Queues.{QueueValue}
@@ -52,4 +54,4 @@ invariant_of-self-2 g c =
 
 pub extend_queues-requires-clause-fresh : goal.extend_queues-requires-clause-fresh
 extend_queues-requires-clause-fresh g c =
-    if_some _ c.in_ok-replied.replied.fresh _ _ (λ fresh it. subst (AreFresh fresh.items) (sym c.cells.ensures) it) c.in_ok-replied.ensures.fresh
+    subst (λ (cells : List Cell). IfSome c.in_ok-replied.replied.fresh (λ fresh. AreFresh fresh.items cells)) (sym c.cells.ensures) c.in_ok-replied.ensures.fresh
