@@ -1,6 +1,7 @@
 ghost use Rattle.std.specs.Prelude.{◌≡◌, map, replicate, IfOk};
 ghost use Rattle.ndc_model_cells.specs.Cells.{empty_cell};
 
+use crate::cells::Cells;
 use ndc_cluster_rounds::{Cell, Desk, Fresh, Home, round};
 use ndc_domain::DomainTable;
 use ndc_model_cells::{JobReply, ShardJob};
@@ -13,16 +14,15 @@ use std::thread::Threads;
 /// A cluster: its domain records, and its cells by shard. Nothing but [`Cluster::round`] changes a cell.
 pub struct Cluster<C: Cell + Drop> {
     table: DomainTable,
-    cells: Vec<C>,
+    cells: Cells<C>,
 }
 
 impl<C: Cell + Drop> Model for Cluster<C> {
-    ghost use Rattle.std.specs.Prelude.{map};
     ghost use Rattle.ndc_cluster.specs.Clusters.{ClusterValue};
 
     ghost Value = { ClusterValue };
 
-    ghost view = { λ cluster. record { table = cluster.table; cells = map C.cell cluster.cells.items } };
+    ghost view = { λ cluster. record { table = cluster.table; cells = cluster.cells } };
 }
 
 impl<C: Cell + Drop> Drop for Cluster<C> {
@@ -32,14 +32,6 @@ impl<C: Cell + Drop> Drop for Cluster<C> {
             cells: _cells,
         } = self;
     }
-}
-
-/// What the jobs of a round come to: the reply to each, in order, and where they were done in pieces, for each cell what it has
-/// written from some place on.
-#[derive(Drop)]
-pub struct Replied {
-    pub replies: Vec<JobReply>,
-    pub fresh: Option<Vec<Fresh>>,
 }
 
 /// So many cells in which nothing has happened.
@@ -75,7 +67,7 @@ impl<C: Cell + Drop> Cluster<C> {
         let cells = empty_cells(alloc, home, shards)?;
         Ok(Cluster {
             table: DomainTable::new(alloc),
-            cells,
+            cells: Cells::new(cells, None),
         })
     }
 
@@ -121,23 +113,29 @@ impl<C: Cell + Drop> Cluster<C> {
         workers: u32,
         home: &Home,
         jobs: &[ShardJob],
-    ) -> Result<Replied, AllocError>
+    ) -> Result<Vec<JobReply>, AllocError>
     where
         C: Send,
         requires workers { 0 < workers }
         requires shards { AllByRecursion (λ asked. asked.shard < length self.old.cells) jobs.now }
         requires allowed { AreAllowed C.allows (desk_of home.now self.old.table) jobs.now self.old.cells }
         ensures cells { OnOk result (self.new ≡ with_cells (cells_after (desk_of home.now self.old.table) jobs.now self.old.cells) self.old) }
-        ensures replies { IfOk result (λ replied. replied.replies.items ≡ replies_to (desk_of home.now self.old.table) jobs.now self.old.cells) }
-        ensures fresh { IfOk result (λ replied. IfSome replied.fresh (λ fresh. AreFresh fresh.items self.new.cells)) }
+        ensures replies { IfOk result (λ replies. replies.items ≡ replies_to (desk_of home.now self.old.table) jobs.now self.old.cells) }
     {
-        let cells = mem::replace(&mut self.cells, Vec::new(alloc));
+        let no_cells = Cells::new(Vec::new(alloc), None);
+        let cells = mem::replace(&mut self.cells, no_cells).into_vec();
         let desk = Desk::new(home.clusters, home.me, home.limit, &self.table);
         let rounded = round(rt, alloc, gate, workers, &desk, cells, jobs)?;
-        self.cells = rounded.cells;
-        Ok(Replied {
-            replies: rounded.replies,
-            fresh: rounded.fresh,
-        })
+        self.cells = Cells::new(rounded.cells, rounded.fresh);
+        Ok(rounded.replies)
+    }
+
+    /// For each cell messages that it has written, from some place on, where the last round was done in pieces: they are at
+    /// hand until they are taken. Takes no memory.
+    pub fn take_fresh(&mut self) -> Option<Vec<Fresh>>
+        ensures fresh { IfSome result (λ fresh. AreFresh fresh.items self.old.cells) }
+        ensures same { self.new ≡ self.old }
+    {
+        self.cells.take_fresh()
     }
 }

@@ -39,7 +39,7 @@ fn a_round_without_a_job_has_no_reply(rt: HostRuntime) -> Result<(), Fail> {
     };
     let mut cluster = Cluster::<ListCell>::new(alloc, &home, 1)?;
     let jobs: Vec<ShardJob> = Vec::new(alloc);
-    let replied = cluster.round(&rt, alloc, &OpenGate {}, 2, &home, jobs.as_slice())?;
-    assert!(rt; replied.replies.is_empty() && cluster.cells().len() == 1);
+    let replies = cluster.round(&rt, alloc, &OpenGate {}, 2, &home, jobs.as_slice())?;
+    assert!(rt; replies.is_empty() && cluster.cells().len() == 1);
     Ok(())
 }

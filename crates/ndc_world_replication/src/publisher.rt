@@ -364,10 +364,11 @@ impl<C: Cell + Drop> Publisher<C> {
         let no_queues = Queues::new(alloc, 0)?;
         let mut cluster = mem::replace(&mut self.cluster, no_cluster);
         let mut queues = mem::replace(&mut self.queues, no_queues);
-        let replied = cluster.round(rt, alloc, gate, workers, home, jobs)?;
-        extend_queues(&mut queues, cluster.cells(), jobs, replied.fresh)?;
+        let replies = cluster.round(rt, alloc, gate, workers, home, jobs)?;
+        let fresh = cluster.take_fresh();
+        extend_queues(&mut queues, cluster.cells(), jobs, fresh)?;
         self.cluster = cluster;
         self.queues = queues;
-        Ok(replied.replies)
+        Ok(replies)
     }
 }
