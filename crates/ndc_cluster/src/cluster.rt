@@ -1,7 +1,8 @@
 ghost use Rattle.std.specs.Prelude.{◌≡◌, map, replicate, IfOk};
 ghost use Rattle.ndc_model_cells.specs.Cells.{empty_cell};
 
-use ndc_cluster_rounds::{Cell, Desk, Home, round};
+use crate::cells::Cells;
+use ndc_cluster_rounds::{Cell, Desk, Fresh, Home, round};
 use ndc_domain::DomainTable;
 use ndc_model_cells::{JobReply, ShardJob};
 use ndc_port::Gate;
@@ -13,16 +14,15 @@ use std::thread::Threads;
 /// A cluster: its domain records, and its cells by shard. Nothing but [`Cluster::round`] changes a cell.
 pub struct Cluster<C: Cell + Drop> {
     table: DomainTable,
-    cells: Vec<C>,
+    cells: Cells<C>,
 }
 
 impl<C: Cell + Drop> Model for Cluster<C> {
-    ghost use Rattle.std.specs.Prelude.{map};
     ghost use Rattle.ndc_cluster.specs.Clusters.{ClusterValue};
 
     ghost Value = { ClusterValue };
 
-    ghost view = { λ cluster. record { table = cluster.table; cells = map C.cell cluster.cells.items } };
+    ghost view = { λ cluster. record { table = cluster.table; cells = cluster.cells } };
 }
 
 impl<C: Cell + Drop> Drop for Cluster<C> {
@@ -51,11 +51,12 @@ fn empty_cells<C: Cell + Drop>(
 
 impl<C: Cell + Drop> Cluster<C> {
     ghost use Rattle.std.specs.Borrow.{sem};
-    ghost use Rattle.std.specs.Prelude.{◌≡◌, ◌<◌, length, map, IfOk, OnOk};
+    ghost use Rattle.std.specs.Prelude.{◌≡◌, ◌<◌, length, map, IfOk, IfSome, OnOk};
     ghost use Rattle.std.specs.List.{AllByRecursion};
     ghost use Rattle.ndc_cluster.specs.Clusters.{new_cluster, with_cells};
     ghost use Rattle.ndc_cluster.specs.Lending.{LendsRecords};
     ghost use Rattle.ndc_cluster_rounds.specs.Homes.{desk_of};
+    ghost use Rattle.ndc_cluster_rounds.specs.Rounds.{AreFresh};
     ghost use Rattle.ndc_model_cells.specs.Conditions.{AreAllowed};
     ghost use Rattle.ndc_model_cells.specs.Jobs.{cell_for, cells_after, replies_to};
 
@@ -66,7 +67,7 @@ impl<C: Cell + Drop> Cluster<C> {
         let cells = empty_cells(alloc, home, shards)?;
         Ok(Cluster {
             table: DomainTable::new(alloc),
-            cells,
+            cells: Cells::new(cells, None),
         })
     }
 
@@ -121,10 +122,20 @@ impl<C: Cell + Drop> Cluster<C> {
         ensures cells { OnOk result (self.new ≡ with_cells (cells_after (desk_of home.now self.old.table) jobs.now self.old.cells) self.old) }
         ensures replies { IfOk result (λ replies. replies.items ≡ replies_to (desk_of home.now self.old.table) jobs.now self.old.cells) }
     {
-        let cells = mem::replace(&mut self.cells, Vec::new(alloc));
+        let no_cells = Cells::new(Vec::new(alloc), None);
+        let cells = mem::replace(&mut self.cells, no_cells).into_vec();
         let desk = Desk::new(home.clusters, home.me, home.limit, &self.table);
         let rounded = round(rt, alloc, gate, workers, &desk, cells, jobs)?;
-        self.cells = rounded.cells;
+        self.cells = Cells::new(rounded.cells, rounded.fresh);
         Ok(rounded.replies)
+    }
+
+    /// For each cell messages that it has written, from some place on, where the last round was done in pieces: they are at
+    /// hand until they are taken. Takes no memory.
+    pub fn take_fresh(&mut self) -> Option<Vec<Fresh>>
+        ensures fresh { IfSome result (λ fresh. AreFresh fresh.items self.old.cells) }
+        ensures same { self.new ≡ self.old }
+    {
+        self.cells.take_fresh()
     }
 }

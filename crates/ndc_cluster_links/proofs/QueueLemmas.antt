@@ -1,6 +1,6 @@
 -- Queues that grow with what a cell has written.
 use Rattle.std.proofs.Common.{◌≡◌, ◌≢◌, ◌≤◌, ◌<◌, ◌+◌, ◌-◌, ◌*◌, ◌^◌, ℕ, zero, suc, List, [], ◌∷◌, ◌++◌, Some, take, drop, length, get_or, replicate, set, slice_get, sum, sum_by, refl, ap, sym, subst, ◌∙◌, arith, length-drop, length-append}
-use Rattle.std.proofs.Math.Seq.{map-set_same}
+use Rattle.std.proofs.Math.Seq.{drop-cons, map-set_same}
 use Rattle.std.proofs.lemmas.List.{drop-append-le, get_or-set_other, take_all, take_more}
 use Rattle.std.proofs.lemmas.List.Sums.{sum-map, sum_by-cons, sum_by-set}
 use Rattle.std.proofs.lemmas.Option.{get_or_from_slice_get}
@@ -12,17 +12,30 @@ use Rattle.ndc_cluster_links.proofs.RestLemmas.{len_kept}
 use Rattle.ndc_cluster_links.specs.Rest.{IsFrontOf, IsRestOf, queue_at}
 
 -- with the next message, what is kept is the front of one more
-pub front_more : (kept : QueueValue) (whole : List Message) (sent : Message) → queue_len kept < length whole → IsFrontOf kept whole → slice_get whole (queue_len kept) ≡ Some sent
+pub front_step : (kept : QueueValue) (whole : List Message) (sent : Message) → queue_len kept < length whole → IsFrontOf kept whole → get_or whole (queue_len kept) sent ≡ sent
     → IsFrontOf (pushed sent kept) whole
-front_more kept whole sent below it got =
+front_step kept whole sent below it got =
     let n : ℕ = queue_len kept in
     let more : queue_len (pushed sent kept) ≡ n + 1 = omega (arith, length-append kept.kept (sent ∷ [])) in
-    let next : take (n + 1) whole ≡ take n whole ++ sent ∷ [] = take_more whole n sent below ∙ ap (λ x. take n whole ++ x ∷ []) (get_or_from_slice_get whole n sent sent got) in
+    let next : take (n + 1) whole ≡ take n whole ++ sent ∷ [] = take_more whole n sent below ∙ ap (λ x. take n whole ++ x ∷ []) got in
     let grown : take (queue_len (pushed sent kept)) whole ≡ take n whole ++ sent ∷ [] = ap (λ m. take m whole) more ∙ next in
     record {
       rest = ap (λ xs. xs ++ sent ∷ []) it.rest ∙ sym (drop-append-le kept.first (take n whole) (sent ∷ []) it.first_most) ∙ ap (drop kept.first) (sym grown);
       first_most = let e = ap length grown in omega (arith, e, length-append (take n whole) (sent ∷ []), it.first_most);
     }
+
+-- the same, of the message that is looked up
+pub front_more : (kept : QueueValue) (whole : List Message) (sent : Message) → queue_len kept < length whole → IsFrontOf kept whole → slice_get whole (queue_len kept) ≡ Some sent
+    → IsFrontOf (pushed sent kept) whole
+front_more kept whole sent below it got = front_step kept whole sent below it (get_or_from_slice_get whole (queue_len kept) sent sent got)
+
+-- where a list goes on with an item, it is there, and the rest behind it
+pub next_there : {X : Type 0} (xs : List X) (n : ℕ) (x : X) (rest : List X) → drop n xs ≡ x ∷ rest → (n < length xs) × (get_or xs n x ≡ x) × (drop (n + 1) xs ≡ rest)
+next_there xs n x rest is =
+    let below : n < length xs = omega (arith, ap length is, length-drop n xs) in
+    let cons : get_or xs n x ∷ drop (suc n) xs ≡ x ∷ rest = sym (drop-cons xs n x below) ∙ is in
+    let one : suc n ≡ n + 1 = omega arith in
+    (below, ap (λ ys. get_or ys 0 x) cons, ap (λ k. drop k xs) (sym one) ∙ ap (drop 1) cons)
 
 -- a queue with one more entry
 pub len_pushed : (sent : Message) (kept : QueueValue) → queue_len (pushed sent kept) ≡ queue_len kept + 1

@@ -1,8 +1,9 @@
-ghost use Rattle.std.specs.Prelude.{◌≡◌, ◌≤◌, OnOk};
+ghost use Rattle.std.specs.Prelude.{◌≡◌, ◌≤◌, IfSome, OnOk};
 ghost use Rattle.ndc_cluster_links.specs.Rest.{IsFrontOf, IsRestOf};
+ghost use Rattle.ndc_cluster_rounds.specs.Rounds.{IsFresh};
 ghost use Rattle.ndc_queue.specs.Queues.{queue_len};
 
-use ndc_cluster_rounds::Cell;
+use ndc_cluster_rounds::{Cell, Fresh};
 use ndc_queue::Queue;
 use std::alloc::{AllocError, Global};
 use std::marker::Model;
@@ -28,6 +29,42 @@ impl Model for Queues {
     ghost invariant = { IsQueuesInside };
 }
 
+/// Puts the messages last that a cell has written from a place on, where this is the end of its queue; else the queue stays as
+/// it was. Where memory runs out, some of them are there.
+fn push_fresh<C: Cell>(queue: &mut Queue, cell: &C, fresh: Fresh) -> Result<(), AllocError>
+    requires front { IsFrontOf queue.old (C.cell cell.now).written }
+    requires fresh { IsFresh fresh (C.cell cell.now) }
+    ensures front { IsFrontOf queue.new (C.cell cell.now).written }
+    ensures first { queue.new.first ≡ queue.old.first }
+    ensures grown { queue_len queue.old ≤ queue_len queue.new }
+{
+    if queue.len() != fresh.from {
+        return Ok(());
+    }
+    for message in fresh.messages {
+        queue.push(message)?;
+    }
+    Ok(())
+}
+
+/// Puts the messages last that a cell has written behind those of its queue, some of which may be at hand. Where memory runs
+/// out, some of them are there.
+fn push_all<C: Cell>(queue: &mut Queue, cell: &C, fresh: Option<Fresh>) -> Result<(), AllocError>
+    requires front { IsFrontOf queue.old (C.cell cell.now).written }
+    requires fresh { IfSome fresh (λ fresh. IsFresh fresh (C.cell cell.now)) }
+    ensures rest { OnOk result (IsRestOf queue.new (C.cell cell.now).written) }
+    ensures first { queue.new.first ≡ queue.old.first }
+    ensures grown { queue_len queue.old ≤ queue_len queue.new }
+{
+    match fresh {
+        Some(fresh) => {
+            push_fresh(queue, cell, fresh)?;
+            push_written(queue, cell)
+        }
+        None => push_written(queue, cell),
+    }
+}
+
 /// Puts the messages last that a cell has written behind those of its queue. Where memory runs out, some of them are there.
 fn push_written<C: Cell>(queue: &mut Queue, cell: &C) -> Result<(), AllocError>
     requires { IsFrontOf queue.old (C.cell cell.now).written }
@@ -43,8 +80,9 @@ fn push_written<C: Cell>(queue: &mut Queue, cell: &C) -> Result<(), AllocError>
 }
 
 impl Queues {
-    ghost use Rattle.std.specs.Prelude.{◌≡◌, ◌<◌, ◌≤◌, ◌-◌, length, max, replicate, slice_set, IfOk, OnOk};
+    ghost use Rattle.std.specs.Prelude.{◌≡◌, ◌<◌, ◌≤◌, ◌-◌, length, max, replicate, slice_set, IfOk, IfSome, OnOk};
     ghost use Rattle.std.specs.List.{sum_by};
+    ghost use Rattle.ndc_cluster_rounds.specs.Rounds.{IsFresh};
     ghost use Rattle.ndc_cluster_links.specs.Rest.{IsFrontOf, IsRestOf, queue_at};
     ghost use Rattle.ndc_queue.specs.Queues.{new_queue, queue_len, trimmed};
 
@@ -96,18 +134,24 @@ impl Queues {
         queue.first() - first
     }
 
-    /// Puts the messages last in the queue of a shard that its cell has written behind those that are there. Where memory
-    /// runs out, some of them are there.
-    pub fn extend<C: Cell>(&mut self, shard: usize, cell: &C) -> Result<(), AllocError>
+    /// Puts the messages last in the queue of a shard that its cell has written behind those that are there. Messages that it
+    /// has written from a place on may be at hand: they are not made again. Where memory runs out, some of them are there.
+    pub fn extend<C: Cell>(
+        &mut self,
+        shard: usize,
+        cell: &C,
+        fresh: Option<Fresh>,
+    ) -> Result<(), AllocError>
         requires shard { shard < length self.old }
         requires front { IsFrontOf (queue_at self.old shard) (C.cell cell.now).written }
+        requires fresh { IfSome fresh (λ fresh. IsFresh fresh (C.cell cell.now)) }
         ensures rest { OnOk result (IsRestOf (queue_at self.new shard) (C.cell cell.now).written) }
         ensures others { self.new ≡ slice_set self.old shard (queue_at self.new shard) }
         ensures first { (queue_at self.new shard).first ≡ (queue_at self.old shard).first }
     {
         let queue = &mut self.items[shard];
         let before = queue.len();
-        let pushed = push_written(queue, cell);
+        let pushed = push_all(queue, cell, fresh);
         let grown = queue.len() - before;
         self.written += grown;
         pushed

@@ -18,7 +18,7 @@ use Rattle.ndc_cluster_rounds.proofs.ShardLemmas.{allowed-by-itself, behind-othe
 
 -- a slot with further jobs
 slot-more : SlotValue → List Job → SlotValue
-slot-more slot jobs = slot_of slot.cell (slot.jobs ++ jobs) slot.replies
+slot-more slot jobs = slot_of slot.cell (slot.jobs ++ jobs) slot.replies slot.from slot.sent
 
 -- as many slots as before
 pub dealt_many : (jobs : List ShardJob) (slots : List SlotValue) → length (dealt jobs slots) ≡ length slots
@@ -29,7 +29,7 @@ dealt_many (asked ∷ jobs) slots =
 -- the slot of a shard has its jobs behind those that it had
 dealt-there : (jobs : List ShardJob) (slots : List SlotValue) (shard : ℕ) → shard < length slots → get_or (dealt jobs slots) shard (fresh_slot empty_cell) ≡ slot-more (get_or slots shard (fresh_slot empty_cell)) (jobs_of shard jobs)
 unfolding slot-more
-dealt-there [] slots shard below = let slot : SlotValue = get_or slots shard (fresh_slot empty_cell) in ap (λ js. slot_of slot.cell js slot.replies) (sym (append-nil slot.jobs))
+dealt-there [] slots shard below = let slot : SlotValue = get_or slots shard (fresh_slot empty_cell) in ap (λ js. slot_of slot.cell js slot.replies slot.from slot.sent) (sym (append-nil slot.jobs))
 dealt-there (asked ∷ jobs) slots shard below = by (asked.shard == shard) refl (dealt-there jobs (set slots asked.shard (with_job asked.job (get_or slots asked.shard (fresh_slot empty_cell)))) shard inside)
   where
     inside : shard < length (set slots asked.shard (with_job asked.job (get_or slots asked.shard (fresh_slot empty_cell))))
@@ -46,13 +46,13 @@ dealt-there (asked ∷ jobs) slots shard below = by (asked.shard == shard) refl 
         (get_or-set_same slots asked.shard (with_job asked.job (get_or slots asked.shard (fresh_slot empty_cell))) (fresh_slot empty_cell) (subst (λ s. s < length slots) (sym same) below)) in
         let its : jobs_of shard (asked ∷ jobs) ≡ asked.job ∷ jobs_of shard jobs = rw own refl in
         rest ∙ ap (λ (s : SlotValue). slot-more s (jobs_of shard jobs)) put
-        ∙ ap (λ js. slot_of slot.cell js slot.replies) (append_assoc slot.jobs (asked.job ∷ []) (jobs_of shard jobs) ∙ ap (λ js. slot.jobs ++ js) (sym its))
+        ∙ ap (λ js. slot_of slot.cell js slot.replies slot.from slot.sent) (append_assoc slot.jobs (asked.job ∷ []) (jobs_of shard jobs) ∙ ap (λ js. slot.jobs ++ js) (sym its))
     by false other rest =
         let differ : shard ≢ asked.shard = λ same. eqb-false asked.shard shard other (sym same) in
         let its : jobs_of shard (asked ∷ jobs) ≡ jobs_of shard jobs = rw other refl in
         let slot : SlotValue = get_or slots shard (fresh_slot empty_cell) in
         rest ∙ ap (λ (s : SlotValue). slot-more s (jobs_of shard jobs)) (get_or-set_other slots asked.shard shard (with_job asked.job (get_or slots asked.shard (fresh_slot empty_cell))) (fresh_slot empty_cell) differ)
-        ∙ ap (λ js. slot_of slot.cell (slot.jobs ++ js) slot.replies) (sym its)
+        ∙ ap (λ js. slot_of slot.cell (slot.jobs ++ js) slot.replies slot.from slot.sent) (sym its)
 
 -- jobs that are for one of so many shards
 abbrev pub AreBelow : ℕ → List ShardJob → Type 0
@@ -72,7 +72,7 @@ module _ (home : Desk) (jobs : List ShardJob) (cells : List Cell) where
   slots-many = dealt_many jobs (map fresh_slot cells) ∙ length-map cells fresh_slot
 
   -- the slot of a shard
-  slot-there : (shard : ℕ) → shard < length cells → get_or slots-dealt shard (fresh_slot empty_cell) ≡ slot_of (cell_for shard cells) (jobs_of shard jobs) []
+  slot-there : (shard : ℕ) → shard < length cells → get_or slots-dealt shard (fresh_slot empty_cell) ≡ slot_of (cell_for shard cells) (jobs_of shard jobs) [] 0 []
   unfolding slot-more
   slot-there shard below =
       dealt-there jobs (map fresh_slot cells) shard (let e = length-map cells fresh_slot in omega (arith, e, below))
@@ -80,7 +80,7 @@ module _ (home : Desk) (jobs : List ShardJob) (cells : List Cell) where
 
   -- the slot of a shard behind its jobs
   slot-behind : (shard : ℕ) → shard < length cells
-      → get_or (map (slot_done home) slots-dealt) shard (slot_done home (fresh_slot empty_cell)) ≡ slot_done home (slot_of (cell_for shard cells) (jobs_of shard jobs) [])
+      → get_or (map (slot_done home) slots-dealt) shard (slot_done home (fresh_slot empty_cell)) ≡ slot_done home (slot_of (cell_for shard cells) (jobs_of shard jobs) [] 0 [])
   slot-behind shard below = get_or-map (slot_done home) slots-dealt shard (fresh_slot empty_cell) ∙ ap (slot_done home) (slot-there shard below)
 
   -- the cells are those behind the jobs done one after the other

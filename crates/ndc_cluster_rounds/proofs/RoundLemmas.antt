@@ -1,11 +1,13 @@
 -- Loops of a round: jobs that are dealt one by one, and replies that are taken one by one.
-use Rattle.std.proofs.Common.{◌≡◌, ℕ, suc, ◌+◌, ◌<◌, List, [], ◌∷◌, ◌++◌, ◌-◌, ◌/◌, map, take, drop, length, get_or, set, Option, Some, None, arith, refl, sym, ap, subst, ◌∙◌}
+use Rattle.std.proofs.Common.{◌≡◌, ℕ, suc, ◌+◌, ◌<◌, List, [], ◌∷◌, ◌++◌, ◌-◌, ◌/◌, map, take, drop, length, get_or, set, slice_get, Option, Some, None, arith, refl, sym, ap, subst, ◌∙◌}
 use Rattle.std.proofs.Math.Seq.{drop-cons}
 use Rattle.std.specs.List.{AllByRecursion}
 use Rattle.std.specs.Option.{option_map}
 use Rattle.std.proofs.lemmas.List.{append_assoc, append-nil, get_or-map, map-append, map-set, take-append-drop}
+use Rattle.std.proofs.lemmas.Option.{get_or_from_slice_get}
 use Rattle.ndc_model_cells.specs.declared.job.JobReply.{JobReply}
 use Rattle.ndc_model_cells.specs.declared.job.ShardJob.{ShardJob}
+use Rattle.ndc_model_cells.specs.declared.message.Message.{Message}
 use Rattle.ndc_model_cells.specs.Cells.{empty_cell}
 use Rattle.ndc_cluster_rounds.proofs.EachLemmas.{all_there}
 use Rattle.ndc_cluster_rounds.specs.Rounds.{SlotValue, dealt, fresh_slot, joined, taken, with_first, with_job}
@@ -15,6 +17,13 @@ pub drop-next : {X : Type 0} (xs : List X) (i : ℕ) (x : X) → i < length xs �
 drop-next xs i x below is =
     let next : i + 1 ≡ suc i = omega arith in
     drop-cons xs i x below ∙ ap (λ z. z ∷ drop (suc i) xs) (sym is) ∙ ap (λ n. x ∷ drop n xs) (sym next)
+
+-- one message more is taken from a place on
+pub sent_more : (whole list more : List Message) (n : ℕ) (sent : Message) (wanted : List Message) → n < length whole → slice_get whole n ≡ Some sent → more ≡ list ++ sent ∷ []
+    → list ++ drop n whole ≡ wanted → more ++ drop (n + 1) whole ≡ wanted
+sent_more whole list more n sent wanted below got longer done =
+    let next : drop n whole ≡ sent ∷ drop (n + 1) whole = drop-next whole n sent below (sym (get_or_from_slice_get whole n sent sent got)) in
+    ap (λ xs. xs ++ drop (n + 1) whole) longer ∙ append_assoc list (sent ∷ []) (drop (n + 1) whole) ∙ ap (λ xs. list ++ xs) (sym next) ∙ done
 
 -- one job more is dealt
 pub deal_more : {X : Type 0} (view : X → SlotValue) (jobs : List ShardJob) (i : ℕ) (asked : ShardJob) (now : List X) (one new : X) (slots : List SlotValue) → i < length jobs → asked ≡ get_or jobs i asked → asked.shard < length now

@@ -1,5 +1,5 @@
 -- A round as a whole: pieces that were worked, and what comes of their slots.
-use Rattle.std.proofs.Common.{◌≡◌, Bool, false, List, [], ◌∷◌, ◌++◌, map, length, Option, Some, None, refl, sym, ap, subst, ◌∙◌}
+use Rattle.std.proofs.Common.{◌≡◌, Bool, false, List, [], ◌∷◌, ◌++◌, map, drop, length, Option, Some, None, refl, sym, ap, subst, ◌∙◌}
 use Rattle.std.specs.List.{AllByRecursion}
 use Rattle.std.specs.Option.{option_map}
 use Rattle.std.proofs.lemmas.List.{length-map, map-append}
@@ -9,7 +9,8 @@ use Rattle.ndc_model_cells.specs.Jobs.{cells_after, replies_to}
 use Rattle.ndc_model_cells.specs.Writing.{Desk}
 use Rattle.ndc_cluster_rounds.specs.Each.{Each}
 use Rattle.ndc_model_cells.specs.Conditions.{Condition}
-use Rattle.ndc_cluster_rounds.specs.Rounds.{SlotMay, SlotValue, dealt, fresh_slot, joined, slot_done, taken}
+use Rattle.ndc_cluster_rounds.specs.Rounds.{AreFresh, LeftValue, SlotMay, SlotValue, dealt, fresh_slot, joined, slot_done, taken}
+use Rattle.ndc_cluster_rounds.specs.declared.fresh.Fresh.{Fresh}
 use Rattle.ndc_cluster_rounds.proofs.DealLemmas.{AreBelow, cells_dealt, dealt_many, replies_dealt}
 
 -- a list that is seen is as long as what is seen
@@ -52,6 +53,29 @@ pub whole_done : {P X : Type 0} (view : X → SlotValue) (held : P → List Slot
 whole_done view held desk spent home before lent after dealt_slots slots cut same desks worked whole seen =
     seen ∙ worked_joined held desk spent home before after (subst (λ ps. Each (λ p q. spent q ≡ false → held q ≡ map (slot_done (desk p)) (held p)) ps after) same worked) desks whole ∙ ap (map (slot_done home)) cut
 
+-- what a slot holds beside its cell is what that has written from a place on
+abbrev pub HoldsFresh : SlotValue → Type 0
+HoldsFresh slot = slot.sent ≡ drop slot.from slot.cell.written
+
+-- so it is in slots that are done
+done-fresh : (home : Desk) (slots : List SlotValue) → AllByRecursion HoldsFresh (map (slot_done home) slots)
+done-fresh home [] = tt
+done-fresh home (slot ∷ slots) = (refl, done-fresh home slots)
+
+-- and where it is so in all slots, it is so of what is taken from them
+fresh-each : {X : Type 0} (view : X → SlotValue) (fresh : X → Fresh) → ((x : X) → (view x).from ≡ (fresh x).from) → ((x : X) → (view x).sent ≡ (fresh x).messages.items) → (xs : List X)
+    → AllByRecursion HoldsFresh (map view xs) → AreFresh (map fresh xs) (map (λ x. (view x).cell) xs)
+fresh-each view fresh from sent [] all = tt
+fresh-each view fresh from sent (x ∷ xs) all = (sym (sent x) ∙ all.0 ∙ ap (λ n. drop n (view x).cell.written) (from x), fresh-each view fresh from sent xs all.1)
+
+-- the same lists under other names
+pub fresh_moved : (made fresh : List Fresh) (now cells : List Cell) → made ≡ fresh → now ≡ cells → AreFresh fresh cells → AreFresh made now
+fresh_moved made fresh now cells one two it = subst (λ fs. AreFresh fs now) (sym one) (subst (AreFresh fresh) (sym two) it)
+
+-- a part of what slots leave, where that is the same
+pub left_part : {X Y : Type 0} (left : X → LeftValue) (part : LeftValue → Y) (after before : List X) → map left after ≡ map left before → map (λ x. part (left x)) after ≡ map (λ x. part (left x)) before
+left_part left part after before same = seen_twice left part after ∙ ap (map part) same ∙ sym (seen_twice left part before)
+
 -- what comes of slots that are done
 module _ {X : Type 0} (view : X → SlotValue) (home : Desk) (jobs : List ShardJob) (cells : List Cell) (slots : List X) (done : map view slots ≡ map (slot_done home) (dealt jobs (map fresh_slot cells))) where
   -- as many slots as cells
@@ -66,6 +90,10 @@ module _ {X : Type 0} (view : X → SlotValue) (home : Desk) (jobs : List ShardJ
   -- their replies
   pub slots_replies : AreBelow (length cells) jobs → taken jobs (map (λ x. (view x).replies) slots) ≡ Some (replies_to home jobs cells)
   slots_replies below = ap (taken jobs) (seen_twice view (λ (s : SlotValue). s.replies) slots ∙ ap (map (λ (s : SlotValue). s.replies)) done) ∙ replies_dealt home jobs cells below
+
+  -- and what each cell has written from a place on
+  pub slots_fresh : (fresh : X → Fresh) → ((x : X) → (view x).from ≡ (fresh x).from) → ((x : X) → (view x).sent ≡ (fresh x).messages.items) → AreFresh (map fresh slots) (map (λ x. (view x).cell) slots)
+  slots_fresh fresh from sent = fresh-each view fresh from sent slots (subst (AllByRecursion HoldsFresh) (sym done) (done-fresh home (dealt jobs (map fresh_slot cells))))
 
 -- what is found, where what is found is known
 pub found_is : {X : Type 0} (x y : X) → Some x ≡ Some y → x ≡ y

@@ -2,6 +2,7 @@
 #![tactic(auto)]
 
 mod cell;
+mod fresh;
 mod halves;
 mod home;
 mod in_turn;
@@ -10,6 +11,7 @@ pub mod round_laws;
 mod rounds;
 
 pub use cell::Cell;
+pub use fresh::Fresh;
 pub use halves::{Work, work_all};
 pub use home::{Desk, Home};
 pub use rounds::{Rounded, round};

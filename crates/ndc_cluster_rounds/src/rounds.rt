@@ -1,11 +1,12 @@
-ghost use Rattle.std.specs.Prelude.{◌≡◌, ◌<◌, false, length, map, IfOk, OnOk};
+ghost use Rattle.std.specs.Prelude.{◌≡◌, ◌<◌, false, length, map, IfOk, IfSome, OnOk};
 ghost use Rattle.std.specs.List.{AllByRecursion};
 ghost use Rattle.std.specs.Option.{option_map};
 ghost use Rattle.ndc_model_cells.specs.Jobs.{cells_after, replies_to};
 ghost use Rattle.ndc_model_cells.specs.Conditions.{AreAllowed};
-ghost use Rattle.ndc_cluster_rounds.specs.Rounds.{dealt, fresh_slot, joined, slot_of, taken};
+ghost use Rattle.ndc_cluster_rounds.specs.Rounds.{AreFresh, dealt, fresh_slot, joined, left_of, slot_of, taken};
 
 use crate::cell::Cell;
+use crate::fresh::Fresh;
 use crate::halves::work_list;
 use crate::home::Desk;
 use crate::in_turn::{do_in_turn, enter_all};
@@ -21,15 +22,19 @@ fn slots_of<'a, C: Cell + Drop>(
     alloc: Global,
     cells: Vec<C>,
 ) -> Result<Vec<Slot<'a, C>>, AllocError>
-    ensures { IfOk result (λ slots. map (λ slot. slot_of (C.cell slot.cell) (map (λ job. job.now) slot.jobs.items) slot.replies.items) slots.items
+    ensures { IfOk result (λ slots. map (λ slot. slot_of (C.cell slot.cell) (map (λ job. job.now) slot.jobs.items) slot.replies.items slot.fresh.from slot.fresh.messages.items) slots.items
         ≡ map fresh_slot (map C.cell cells.items)) }
 {
-    let mut slots = Vec::new(alloc);
+    let mut slots = Vec::with_capacity(alloc, cells.len())?;
     for cell in cells {
         slots.push(Slot {
             cell,
             jobs: Vec::new(alloc),
             replies: VecDeque::new(alloc),
+            fresh: Fresh {
+                from: 0,
+                messages: Vec::new(alloc),
+            },
         })?;
     }
     Ok(slots)
@@ -41,8 +46,8 @@ fn deal<'a, C: Cell + Drop>(
     jobs: &'a [ShardJob],
 ) -> Result<(), AllocError>
     requires { AllByRecursion (λ asked. asked.shard < length slots.old.items) jobs.now }
-    ensures { OnOk result (map (λ slot. slot_of (C.cell slot.cell) (map (λ job. job.now) slot.jobs.items) slot.replies.items) slots.new.items
-        ≡ dealt jobs.now (map (λ slot. slot_of (C.cell slot.cell) (map (λ job. job.now) slot.jobs.items) slot.replies.items) slots.old.items)) }
+    ensures { OnOk result (map (λ slot. slot_of (C.cell slot.cell) (map (λ job. job.now) slot.jobs.items) slot.replies.items slot.fresh.from slot.fresh.messages.items) slots.new.items
+        ≡ dealt jobs.now (map (λ slot. slot_of (C.cell slot.cell) (map (λ job. job.now) slot.jobs.items) slot.replies.items slot.fresh.from slot.fresh.messages.items) slots.old.items)) }
 {
     for asked in jobs {
         slots[asked.shard as usize].jobs.push(&asked.job)?;
@@ -60,8 +65,8 @@ fn cut<'a, G: Gate, C: Cell + Drop>(
     desk: &'a Desk<'a>,
 ) -> Result<Vec<Piece<'a, G, C>>, AllocError>
     requires { 0 < count }
-    ensures slots { IfOk result (λ pieces. joined (map (λ piece. map (λ slot. slot_of (C.cell slot.cell) (map (λ job. job.now) slot.jobs.items) slot.replies.items) piece.slots.items) pieces.items)
-        ≡ map (λ slot. slot_of (C.cell slot.cell) (map (λ job. job.now) slot.jobs.items) slot.replies.items) slots.entry.items) }
+    ensures slots { IfOk result (λ pieces. joined (map (λ piece. map (λ slot. slot_of (C.cell slot.cell) (map (λ job. job.now) slot.jobs.items) slot.replies.items slot.fresh.from slot.fresh.messages.items) piece.slots.items) pieces.items)
+        ≡ map (λ slot. slot_of (C.cell slot.cell) (map (λ job. job.now) slot.jobs.items) slot.replies.items slot.fresh.from slot.fresh.messages.items) slots.entry.items) }
     ensures desks { IfOk result (λ pieces. AllByRecursion (λ piece. piece.desk.now ≡ desk.now) pieces.items) }
 {
     let mut left = slots;
@@ -86,8 +91,8 @@ fn join<'a, G: Gate, C: Cell + Drop>(
     alloc: Global,
     pieces: Vec<Piece<'a, G, C>>,
 ) -> Result<Vec<Slot<'a, C>>, AllocError>
-    ensures slots { IfOk result (λ slots. map (λ slot. slot_of (C.cell slot.cell) (map (λ job. job.now) slot.jobs.items) slot.replies.items) slots.items
-        ≡ joined (map (λ piece. map (λ slot. slot_of (C.cell slot.cell) (map (λ job. job.now) slot.jobs.items) slot.replies.items) piece.slots.items) pieces.entry.items)) }
+    ensures slots { IfOk result (λ slots. map (λ slot. slot_of (C.cell slot.cell) (map (λ job. job.now) slot.jobs.items) slot.replies.items slot.fresh.from slot.fresh.messages.items) slots.items
+        ≡ joined (map (λ piece. map (λ slot. slot_of (C.cell slot.cell) (map (λ job. job.now) slot.jobs.items) slot.replies.items slot.fresh.from slot.fresh.messages.items) piece.slots.items) pieces.entry.items)) }
     ensures whole { IfOk result (λ _. AllByRecursion (λ piece. piece.is_spent ≡ false) pieces.entry.items) }
 {
     let mut left = pieces;
@@ -109,10 +114,10 @@ fn collect<C: Cell + Drop>(
     jobs: &[ShardJob],
 ) -> Result<Option<Vec<JobReply>>, AllocError>
     requires { AllByRecursion (λ asked. asked.shard < length slots.old.items) jobs.now }
-    ensures cells { OnOk result (map (λ slot. C.cell slot.cell) slots.new.items ≡ map (λ slot. C.cell slot.cell) slots.old.items) }
+    ensures cells { OnOk result (map (λ slot. left_of (C.cell slot.cell) slot.fresh) slots.new.items ≡ map (λ slot. left_of (C.cell slot.cell) slot.fresh) slots.old.items) }
     ensures replies { IfOk result (λ found. option_map (λ replies. replies.items) found ≡ taken jobs.now (map (λ slot. slot.replies.items) slots.old.items)) }
 {
-    let mut replies = Vec::new(alloc);
+    let mut replies = Vec::with_capacity(alloc, jobs.len())?;
     for asked in jobs {
         let Some(reply) = slots[asked.shard as usize].replies.pop_front() else {
             return Ok(None);
@@ -122,15 +127,25 @@ fn collect<C: Cell + Drop>(
     Ok(Some(replies))
 }
 
-/// The cells of slots.
-fn cells_of<C: Cell + Drop>(alloc: Global, slots: Vec<Slot<C>>) -> Result<Vec<C>, AllocError>
-    ensures { IfOk result (λ cells. map C.cell cells.items ≡ map (λ slot. C.cell slot.cell) slots.entry.items) }
+/// What slots leave: their cells, and beside each what it has written.
+#[derive(Drop)]
+struct Left<C: Drop> {
+    cells: Vec<C>,
+    fresh: Vec<Fresh>,
+}
+
+/// The cells of slots, and beside each what it has written.
+fn left_by<C: Cell + Drop>(alloc: Global, slots: Vec<Slot<C>>) -> Result<Left<C>, AllocError>
+    ensures cells { IfOk result (λ left. map C.cell left.cells.items ≡ map (λ slot. C.cell slot.cell) slots.entry.items) }
+    ensures fresh { IfOk result (λ left. left.fresh.items ≡ map (λ slot. slot.fresh) slots.entry.items) }
 {
-    let mut cells = Vec::new(alloc);
+    let mut cells = Vec::with_capacity(alloc, slots.len())?;
+    let mut fresh = Vec::with_capacity(alloc, slots.len())?;
     for slot in slots {
         cells.push(slot.cell)?;
+        fresh.push(slot.fresh)?;
     }
-    Ok(cells)
+    Ok(Left { cells, fresh })
 }
 
 /// How many jobs a piece of the cells needs so that they pay for a thread.
@@ -149,11 +164,13 @@ fn pay_for_threads<G: Gate, C: Cell + Drop>(pieces: &[Piece<G, C>]) -> bool {
     false
 }
 
-/// What a round leaves: the cells, in order, and the replies in the order of the jobs.
+/// What a round leaves: the cells, in order, the replies in the order of the jobs, and where the jobs were done in pieces, for
+/// each cell what it has written from some place on.
 #[derive(Drop)]
 pub struct Rounded<C: Drop> {
     pub cells: Vec<C>,
     pub replies: Vec<JobReply>,
+    pub fresh: Option<Vec<Fresh>>,
 }
 
 /// Cells do jobs in so many pieces of neighbouring ones: side by side, or one piece after the other where the gate holds
@@ -172,6 +189,7 @@ fn in_pieces<R: Threads + Sync, G: Gate, C: Cell + Drop + Send>(
     requires allowed { AreAllowed C.allows desk.now jobs.now (map C.cell cells.items) }
     ensures cells { IfOk result (λ rounded. map C.cell rounded.cells.items ≡ cells_after desk.now jobs.now (map C.cell cells.items)) }
     ensures replies { IfOk result (λ rounded. rounded.replies.items ≡ replies_to desk.now jobs.now (map C.cell cells.items)) }
+    ensures fresh { IfOk result (λ rounded. IfSome rounded.fresh (λ fresh. AreFresh fresh.items (map C.cell rounded.cells.items))) }
 {
     let mut slots = slots_of(alloc, cells)?;
     deal(&mut slots, jobs)?;
@@ -182,8 +200,12 @@ fn in_pieces<R: Threads + Sync, G: Gate, C: Cell + Drop + Send>(
     let Some(replies) = collect(alloc, &mut slots, jobs)? else {
         unreachable!()
     };
-    let cells = cells_of(alloc, slots)?;
-    Ok(Rounded { cells, replies })
+    let left = left_by(alloc, slots)?;
+    Ok(Rounded {
+        cells: left.cells,
+        replies,
+        fresh: Some(left.fresh),
+    })
 }
 
 /// Cells do jobs on so many workers at most, each worker on neighbouring cells. Each worker first enters the gate with its
@@ -205,6 +227,7 @@ pub fn round<R: Threads + Sync, G: Gate, C: Cell + Drop + Send>(
     requires allowed { AreAllowed C.allows desk.now jobs.now (map C.cell cells.items) }
     ensures cells { IfOk result (λ rounded. map C.cell rounded.cells.items ≡ cells_after desk.now jobs.now (map C.cell cells.items)) }
     ensures replies { IfOk result (λ rounded. rounded.replies.items ≡ replies_to desk.now jobs.now (map C.cell cells.items)) }
+    ensures fresh { IfOk result (λ rounded. IfSome rounded.fresh (λ fresh. AreFresh fresh.items (map C.cell rounded.cells.items))) }
 {
     let count = workers
         .min(cells.len().try_into().unwrap_or(workers))
@@ -213,7 +236,11 @@ pub fn round<R: Threads + Sync, G: Gate, C: Cell + Drop + Send>(
         enter_all(gate, count);
         let mut cells = cells;
         let replies = do_in_turn(alloc, desk, &mut cells, jobs)?;
-        return Ok(Rounded { cells, replies });
+        return Ok(Rounded {
+            cells,
+            replies,
+            fresh: None,
+        });
     }
     let rounded = in_pieces(rt, alloc, gate, count, desk, cells, jobs)?;
     Ok(rounded)

@@ -57,7 +57,7 @@ fn queues_grow_with_their_cells(rt: HostRuntime) -> Result<(), Fail> {
     let mut cells = Vec::new(alloc);
     cells.push(ListCell { written })?;
     let mut queues = Queues::new(alloc, 1)?;
-    queues.extend(0, &cells[0])?;
+    queues.extend(0, &cells[0], None)?;
     assert_eq!(rt; queues.written(), 1);
     Ok(())
 }

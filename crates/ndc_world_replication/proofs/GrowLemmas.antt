@@ -140,6 +140,14 @@ module _ (queues new : List QueueValue) (at : ℕ) (whole : ℕ → List Message
           subst (λ (queue : QueueValue). IsRestOf queue (whole k)) (sym (elsewhere k (λ same. eqb-false asked.shard k apart (is ∙ sym same))))
           (but k (omega (arith, below, many)) (rw apart none))
 
+  -- and the rest for each shard up to this one
+  pub rests_front : ((k : ℕ) → k < at → IsRestOf (queue_at queues k) (whole k)) → (k : ℕ) → k < at + 1 → IsRestOf (queue_at new k) (whole k)
+  rests_front rests k below = by (k == at) refl
+    where
+      by : (b : Bool) → (k == at) ≡ b → IsRestOf (queue_at new k) (whole k)
+      by true same = rest-here k (eqb-true k at same)
+      by false apart = subst (λ (queue : QueueValue). IsRestOf queue (whole k)) (sym (elsewhere k (eqb-false k at apart))) (rests k (omega (arith, below, eqb-false k at apart)))
+
 -- and there is a queue for each cell
 pub alike_after : (home : Desk) (jobs : List ShardJob) (cells : List Cell) (queues : List QueueValue) → AreTied cells queues → length (cells_after home jobs cells) ≡ length queues
 alike_after home jobs cells queues tied = cells-many home jobs cells ∙ sym tied.alike

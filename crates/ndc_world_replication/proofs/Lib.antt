@@ -4,6 +4,7 @@ pub mod BroughtLemmas
 pub mod ChosenLemmas
 pub mod FindLemmas
 pub mod FlightLemmas
+pub mod FreshLemmas
 pub mod LinkLemmas
 pub mod OnTimeLemmas
 pub mod OpeningLemmas

@@ -1,13 +1,14 @@
-ghost use Rattle.std.specs.Prelude.{◌≡◌, ◌<◌, length, map, OnOk};
+ghost use Rattle.std.specs.Prelude.{◌≡◌, ◌<◌, length, map, IfSome, OnOk};
 ghost use Rattle.std.specs.List.{AllByRecursion};
 ghost use Rattle.ndc_cluster_links.specs.Rest.{AreFronts, AreRests};
+ghost use Rattle.ndc_cluster_rounds.specs.Rounds.{AreFresh};
 ghost use Rattle.ndc_model_cells.specs.Jobs.{cell_for};
 ghost use Rattle.ndc_queue.specs.Queues.{QueueValue};
 ghost use Rattle.ndc_world_replication.specs.Publishers.{AreRestsBut};
 
 use ndc_cluster::Cluster;
 use ndc_cluster_links::Queues;
-use ndc_cluster_rounds::{Cell, Desk, Home};
+use ndc_cluster_rounds::{Cell, Desk, Fresh, Home};
 use ndc_domain::{
     ClusterNo, Clusters, DomainError, DomainTable, FailoverError, JoinError, Members, RetainError,
 };
@@ -81,9 +82,51 @@ fn extend_asked<C: Cell>(
 {
     for asked in jobs {
         let shard = asked.shard as usize;
-        queues.extend(shard, &cells[shard])?;
+        queues.extend(shard, &cells[shard], None)?;
     }
     Ok(())
+}
+
+/// The same of the cells of all shards, where for each cell what it has written from some place on is at hand.
+fn extend_all<C: Cell>(
+    queues: &mut Queues,
+    cells: &[C],
+    fresh: Vec<Fresh>,
+) -> Result<(), AllocError>
+    requires alike { length cells.now ≡ length queues.old }
+    requires fresh { AreFresh fresh.items (map C.cell cells.now) }
+    requires fronts { AreFronts queues.old (λ shard. (cell_for shard (map C.cell cells.now)).written) }
+    ensures rests { OnOk result (AreRests queues.new (λ shard. (cell_for shard (map C.cell cells.now)).written)) }
+    ensures first { OnOk result (map (λ (queue : QueueValue). queue.first) queues.new ≡ map (λ (queue : QueueValue). queue.first) queues.old) }
+{
+    let mut shard = 0;
+    for one in fresh {
+        queues.extend(shard, &cells[shard], Some(one))?;
+        shard += 1;
+    }
+    Ok(())
+}
+
+/// Puts what cells have written in a round into their queues: that which is at hand, or what the cells of the shards of jobs
+/// have written. Where memory runs out, some of it is there.
+fn extend_queues<C: Cell>(
+    queues: &mut Queues,
+    cells: &[C],
+    jobs: &[ShardJob],
+    fresh: Option<Vec<Fresh>>,
+) -> Result<(), AllocError>
+    requires alike { length cells.now ≡ length queues.old }
+    requires shards { AllByRecursion (λ asked. asked.shard < length queues.old) jobs.now }
+    requires fronts { AreFronts queues.old (λ shard. (cell_for shard (map C.cell cells.now)).written) }
+    requires others { AreRestsBut jobs.now queues.old (λ shard. (cell_for shard (map C.cell cells.now)).written) }
+    requires fresh { IfSome fresh (λ fresh. AreFresh fresh.items (map C.cell cells.now)) }
+    ensures rests { OnOk result (AreRests queues.new (λ shard. (cell_for shard (map C.cell cells.now)).written)) }
+    ensures first { OnOk result (map (λ (queue : QueueValue). queue.first) queues.new ≡ map (λ (queue : QueueValue). queue.first) queues.old) }
+{
+    match fresh {
+        Some(fresh) => extend_all(queues, cells, fresh),
+        None => extend_asked(queues, cells, jobs),
+    }
 }
 
 impl<C: Cell + Drop> Publisher<C> {
@@ -322,7 +365,8 @@ impl<C: Cell + Drop> Publisher<C> {
         let mut cluster = mem::replace(&mut self.cluster, no_cluster);
         let mut queues = mem::replace(&mut self.queues, no_queues);
         let replies = cluster.round(rt, alloc, gate, workers, home, jobs)?;
-        extend_asked(&mut queues, cluster.cells(), jobs)?;
+        let fresh = cluster.take_fresh();
+        extend_queues(&mut queues, cluster.cells(), jobs, fresh)?;
         self.cluster = cluster;
         self.queues = queues;
         Ok(replies)

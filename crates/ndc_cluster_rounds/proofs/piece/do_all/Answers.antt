@@ -7,7 +7,7 @@ use Rattle.ndc_cluster_rounds.proofs.piece.do_all.Goals as goal
 pub do_jobs-requires : goal.do_jobs-requires
 do_jobs-requires g c =
     next_still _ (slot_done c.args.desk.now) c.deref_mut-slot-items.result.now c.loop-slot.slot-items c.loop-slot.slot-index c.loop-slot.invariant c.loop-slot-test.true (SlotMay g.C.Cell.allows c.args.desk.now) c.slot-item.result
-    (subst (λ xs. AllByRecursion (SlotMay g.C.Cell.allows c.args.desk.now) (map (λ slot. slot_of (g.C.Cell.cell slot.cell) (map (λ job. job.now) slot.jobs.items) slot.replies.items) xs)) (sym c.deref_mut-slot-items.ensures.value) c.requires)
+    (subst (λ xs. AllByRecursion (SlotMay g.C.Cell.allows c.args.desk.now) (map (λ slot. slot_of (g.C.Cell.cell slot.cell) (map (λ job. job.now) slot.jobs.items) slot.replies.items slot.fresh.from slot.fresh.messages.items) xs)) (sym c.deref_mut-slot-items.ensures.value) c.requires)
 
 pub loop-slot-preserved : goal.loop-slot-preserved
 loop-slot-preserved g c =

@@ -5,9 +5,9 @@ use Rattle.ndc_cluster_rounds.proofs.rounds.join.Given as goal
 
 abbrev pub invariant-loop-piece : goal.invariant-loop-piece
 invariant-loop-piece g l =
-    (map (λ slot. slot_of (g.C.Cell.cell slot.cell) (map (λ job. job.now) slot.jobs.items) slot.replies.items) l.slots.items
-    ++ joined (map (λ piece. map (λ slot. slot_of (g.C.Cell.cell slot.cell) (map (λ job. job.now) slot.jobs.items) slot.replies.items) piece.slots.items) l.left.items)
-    ≡ joined (map (λ piece. map (λ slot. slot_of (g.C.Cell.cell slot.cell) (map (λ job. job.now) slot.jobs.items) slot.replies.items) piece.slots.items) l.fn.pieces.items))
+    (map (λ slot. slot_of (g.C.Cell.cell slot.cell) (map (λ job. job.now) slot.jobs.items) slot.replies.items slot.fresh.from slot.fresh.messages.items) l.slots.items
+    ++ joined (map (λ piece. map (λ slot. slot_of (g.C.Cell.cell slot.cell) (map (λ job. job.now) slot.jobs.items) slot.replies.items slot.fresh.from slot.fresh.messages.items) piece.slots.items) l.left.items)
+    ≡ joined (map (λ piece. map (λ slot. slot_of (g.C.Cell.cell slot.cell) (map (λ job. job.now) slot.jobs.items) slot.replies.items slot.fresh.from slot.fresh.messages.items) piece.slots.items) l.fn.pieces.items))
     × (AllByRecursion (λ piece. piece.is_spent ≡ false) l.left.items → AllByRecursion (λ piece. piece.is_spent ≡ false) l.fn.pieces.items)
 
 abbrev pub decreases-loop-piece : goal.decreases-loop-piece

@@ -1,7 +1,7 @@
 use Rattle.std.proofs.Common.{◌≡◌, ◌++◌, map, drop}
 use Rattle.ndc_model_cells.specs.Conditions.{MayDo}
 use Rattle.ndc_cluster_rounds.specs.Rounds.{cell_after, cell_replies}
-use Rattle.ndc_cluster_rounds.proofs.piece.do_jobs.Given as goal
+use Rattle.ndc_cluster_rounds.proofs.piece.do_each.Given as goal
 
 abbrev pub invariant-loop-place : goal.invariant-loop-place
 invariant-loop-place g l =
