@@ -4,18 +4,32 @@ use Rattle.ndc_model_cells.specs.Cells.{Cell}
 use Rattle.ndc_model_cells.specs.Jobs.{cell_for}
 use Rattle.ndc_model_cells.specs.declared.message.Message.{Message}
 use Rattle.ndc_cluster_links.proofs.RestLemmas.{cell_there}
-use Rattle.ndc_cluster_links.specs.Rest.{IsRestOf, queue_at}
+use Rattle.ndc_cluster_links.specs.Rest.{IsFrontOf, IsRestOf, queue_at}
 use Rattle.ndc_cluster_rounds.specs.Rounds.{AreFresh, IsFresh}
 use Rattle.ndc_cluster_rounds.specs.declared.fresh.Fresh.{Fresh}
 use Rattle.ndc_world_replication.proofs.FreshLemmas.{fresh_end, fresh_next}
 use Rattle.ndc_world_replication.proofs.GrowLemmas.{firsts_then, fronts_then, rests_front}
 use Rattle.ndc_world_replication.proofs.publisher.extend_all.Goals as goal
 
-pub index-cells-shard-requires : goal.index-cells-shard-requires
-index-cells-shard-requires g c =
+pub bounds-cells-shard : goal.bounds-cells-shard
+bounds-cells-shard g c =
     let cells : List Cell = map g.C.Cell.cell c.args.cells.now in
     let next = fresh_next c.in-Some.one c.next.new.self.rest.items cells c.loop-one.shard (subst (λ (left : List Fresh). AreFresh left (drop c.loop-one.shard cells)) c.in-Some.ensures.steps.0 c.loop-one.invariant.fresh) in
     omega (arith, next.0, length-map c.args.cells.now g.C.Cell.cell)
+
+pub extend-requires-clause-shard : goal.extend-requires-clause-shard
+extend-requires-clause-shard g c =
+    let cells : List Cell = map g.C.Cell.cell c.args.cells.now in
+    let next = fresh_next c.in-Some.one c.next.new.self.rest.items cells c.loop-one.shard (subst (λ (left : List Fresh). AreFresh left (drop c.loop-one.shard cells)) c.in-Some.ensures.steps.0 c.loop-one.invariant.fresh) in
+    omega (arith, next.0, length-map c.args.cells.now g.C.Cell.cell, c.loop-one.invariant.len, c.requires.alike)
+
+pub extend-requires-clause-front : goal.extend-requires-clause-front
+extend-requires-clause-front g c =
+    let cells : List Cell = map g.C.Cell.cell c.args.cells.now in
+    let next = fresh_next c.in-Some.one c.next.new.self.rest.items cells c.loop-one.shard (subst (λ (left : List Fresh). AreFresh left (drop c.loop-one.shard cells)) c.in-Some.ensures.steps.0 c.loop-one.invariant.fresh) in
+    subst (λ (cell : Cell). IsFrontOf (queue_at c.loop-one.queues c.loop-one.shard) cell.written)
+    (sym (cell_there g.C.Cell.cell c.args.cells.now c.loop-one.shard c.index-cells-shard.result (omega (arith, next.0, length-map c.args.cells.now g.C.Cell.cell)) c.index-cells-shard.is))
+    (c.loop-one.invariant.fronts c.loop-one.shard (omega (arith, next.0, length-map c.args.cells.now g.C.Cell.cell, c.loop-one.invariant.len, c.requires.alike)))
 
 pub extend-requires-clause-fresh : goal.extend-requires-clause-fresh
 extend-requires-clause-fresh g c =
