@@ -99,6 +99,7 @@ fn extend_all<C: Cell>(
     ensures rests { OnOk result (AreRests queues.new (λ shard. (cell_for shard (map C.cell cells.now)).written)) }
     ensures first { OnOk result (map (λ (queue : QueueValue). queue.first) queues.new ≡ map (λ (queue : QueueValue). queue.first) queues.old) }
 {
+    // There are at most 64 of them, so that they can be counted.
     let _few = queues.len();
     let mut shard = 0;
     for one in fresh {
