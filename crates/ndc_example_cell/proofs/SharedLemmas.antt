@@ -97,6 +97,7 @@ pub shared-new : (clusters : ClusterList) (me them : ClusterNo) (domain workflow
 shared-new clusters me them domain workflow differ = record {
   all = [];
   differ = differ;
+  few = omega arith;
   small = record { events_most = omega arith; tasks_most = λ b has. absurd (cc) };
   mine_is = nothing me;
   theirs_is = nothing them;
@@ -128,6 +129,7 @@ pub shared-flip : (clusters : ClusterList) (me them : ClusterNo) (most : ℕ) (d
 shared-flip clusters me them most domain workflow mine theirs s = record {
   all = s.all;
   differ = λ e. s.differ (sym e);
+  few = s.few;
   small = s.small;
   mine_is = s.theirs_is;
   theirs_is = s.mine_is;
@@ -135,11 +137,18 @@ shared-flip clusters me them most domain workflow mine theirs s = record {
   theirs_only = s.mine_only;
 }
 
+-- seen from the other cell
+pub flip-then : (clusters : ClusterList) (me them : ClusterNo) (most : ℕ) (domain workflow : Name) (mine theirs first second : Cell) → AreShared clusters me them most domain workflow mine theirs → first ≡ theirs → second ≡ mine
+    → AreShared clusters them me most domain workflow first second
+flip-then clusters me them most domain workflow mine theirs first second s e f =
+    subst (λ (c : Cell). AreShared clusters them me most domain workflow c second) (sym e) (subst (λ (c : Cell). AreShared clusters them me most domain workflow theirs c) (sym f) (shared-flip clusters me them most domain workflow mine theirs s))
+
 -- what is small is so with more room
-pub shared-more : (clusters : ClusterList) (me them : ClusterNo) (most more : ℕ) (domain workflow : Name) (mine theirs : Cell) → most ≤ more → AreShared clusters me them most domain workflow mine theirs → AreShared clusters me them more domain workflow mine theirs
-shared-more clusters me them most more domain workflow mine theirs l s = record {
+pub shared-more : (clusters : ClusterList) (me them : ClusterNo) (most more : ℕ) (domain workflow : Name) (mine theirs : Cell) → most ≤ more → more ≤ 10 ^ 10 → AreShared clusters me them most domain workflow mine theirs → AreShared clusters me them more domain workflow mine theirs
+shared-more clusters me them most more domain workflow mine theirs l few s = record {
   all = s.all;
   differ = s.differ;
+  few = few;
   small = record { events_most = (let e = s.small.events_most in omega (arith, e, l)); tasks_most = λ b has. let t = s.small.tasks_most b has in omega (arith, t, l) };
   mine_is = s.mine_is;
   theirs_is = s.theirs_is;
@@ -152,7 +161,10 @@ with-table : (clusters : ClusterList) (me : ClusterNo) (before after : List Doma
     → IsAuthored (standing clusters me before) all domain workflow cell → IsAuthored (standing clusters me after) all domain workflow cell
 with-table clusters me before after all domain workflow cell a = record { kept = a.kept; author = record { named = a.author.named; own = a.author.own }; whole = a.whole }
 
-module _ (clusters : ClusterList) (me them : ClusterNo) (most : ℕ) (domain workflow : Name) (mine theirs : Cell) (s : AreShared clusters me them most domain workflow mine theirs) (within : most ≤ 10 ^ 11) where
+module _ (clusters : ClusterList) (me them : ClusterNo) (most : ℕ) (domain workflow : Name) (mine theirs : Cell) (s : AreShared clusters me them most domain workflow mine theirs) where
+  within : most ≤ 10 ^ 11
+  within = let few = s.few in omega (arith, few)
+
   pub shared-write : (table : List DomainRecord) → CanWrite (standing clusters me table) domain workflow mine
   shared-write table = record { all = s.all; kept = s.mine_is.kept; author = record { named = s.mine_is.author.named; own = s.mine_is.author.own }; range = range-of most s.all within s.small; limit_most = omega arith }
 
@@ -170,7 +182,7 @@ module _ (clusters : ClusterList) (me them : ClusterNo) (most : ℕ) (domain wor
         limit_most = omega arith;
       }
 
-  module _ (orderly : IsOrderly mine) (table : List DomainRecord) (command : Command) where
+  module _ (room : most ≤ 1000000) (orderly : IsOrderly mine) (table : List DomainRecord) (command : Command) where
     abbrev desk : Desk
     desk = standing clusters me table
 
@@ -200,6 +212,7 @@ module _ (clusters : ClusterList) (me them : ClusterNo) (most : ℕ) (domain wor
     shared-written = record {
       all = set_behind wrote s.all;
       differ = s.differ;
+      few = omega (arith, room);
       small = command-small desk s.all domain workflow mine fine authored.author most within (omega arith) s.small command;
       mine_is = with-table clusters me table [] (set_behind wrote s.all) domain workflow (written_at wrote mine) (command-keeps desk s.all domain workflow mine orderly authored (range-of most s.all within s.small) command);
       theirs_is = command-elsewhere desk s.all domain workflow mine orderly authored (range-of most s.all within s.small) command (standing clusters them []) theirs refl (λ e. s.differ (sym e)) s.theirs_is;
@@ -209,12 +222,13 @@ module _ (clusters : ClusterList) (me them : ClusterNo) (most : ℕ) (domain wor
 
   -- what one can tell the other
   pub shared-tell : CanTell most domain workflow mine theirs
-  shared-tell = record { all = s.all; small = s.small; kept = s.mine_is.kept; whole = s.mine_is.whole; heard = s.theirs_is.kept; only = s.mine_only }
+  shared-tell = record { all = s.all; few = s.few; small = s.small; kept = s.mine_is.kept; whole = s.mine_is.whole; heard = s.theirs_is.kept; only = s.mine_only }
 
 -- a new cell can be told all of it
 pub tell-new : (clusters : ClusterList) (me them : ClusterNo) (most : ℕ) (domain workflow : Name) (mine theirs : Cell) → AreShared clusters me them most domain workflow mine theirs → CanTell most domain workflow mine empty_cell
 tell-new clusters me them most domain workflow mine theirs s = record {
   all = s.all;
+  few = s.few;
   small = s.small;
   kept = s.mine_is.kept;
   whole = s.mine_is.whole;
@@ -271,7 +285,7 @@ given-sent cell is domains = all-from (IsSentBy cell) (learned_of_domains domain
             subst (λ (y : Batch). batch_at b.key (learned_of b.domain b.workflow cell) ≡ Some y) one at
 
 -- a message that is told
-module _ (most : ℕ) (domain workflow : Name) (teller hearer : Cell) (can : CanTell most domain workflow teller hearer) (within : most ≤ 10 ^ 11) (teller_is : IsOrderly teller) (hearer_is : IsOrderly hearer)
+module _ (most : ℕ) (domain workflow : Name) (teller hearer : Cell) (can : CanTell most domain workflow teller hearer) (teller_is : IsOrderly teller) (hearer_is : IsOrderly hearer)
     (sent : Message) (e : IsSentBy teller sent) where
   -- it is of the set
   told-is : IsMessageOf can.all sent × (is_of domain workflow sent.batch ≡ true)
@@ -301,12 +315,13 @@ module _ (most : ℕ) (domain workflow : Name) (teller hearer : Cell) (can : Can
   there P p = subst (λ x. P x workflow) names.0 (subst (λ y. P sent.batch.domain y) names.1 p)
 
   pub told-arrives : CanArrive sent hearer
-  told-arrives = record { all = can.all; kept = here (λ x y. IsKept can.all x y hearer) can.heard; message = told-is.0; range = range-of most can.all within can.small }
+  told-arrives = record { all = can.all; kept = here (λ x y. IsKept can.all x y hearer) can.heard; message = told-is.0; range = range-of most can.all (let few = can.few in omega (arith, few)) can.small }
 
   pub told-then : CanTell most domain workflow teller (arrived_at sent hearer)
   unfolding told-arrives
   told-then = record {
     all = can.all;
+    few = can.few;
     small = can.small;
     kept = can.kept;
     whole = can.whole;
@@ -315,16 +330,17 @@ module _ (most : ℕ) (domain workflow : Name) (teller hearer : Cell) (can : Can
   }
 
 -- what two share stays shared where one tells the other
-pub shared-told : (clusters : ClusterList) (me them : ClusterNo) (most : ℕ) (domain workflow : Name) (mine theirs : Cell) (s : AreShared clusters me them most domain workflow mine theirs) → most ≤ 10 ^ 11 → IsOrderly mine → IsOrderly theirs
+pub shared-told : (clusters : ClusterList) (me them : ClusterNo) (most : ℕ) (domain workflow : Name) (mine theirs : Cell) (s : AreShared clusters me them most domain workflow mine theirs) → IsOrderly mine → IsOrderly theirs
     → (sent : Message) → IsSentBy mine sent → AreShared clusters me them most domain workflow mine (arrived_at sent theirs)
 unfolding shared-tell told-arrives told-then
-shared-told clusters me them most domain workflow mine theirs s within mine_is theirs_is sent e = record {
+shared-told clusters me them most domain workflow mine theirs s mine_is theirs_is sent e = record {
   all = s.all;
   differ = s.differ;
+  few = s.few;
   small = s.small;
   mine_is = s.mine_is;
   theirs_is = record {
-    kept = (told-then most domain workflow mine theirs can within mine_is theirs_is sent e).heard;
+    kept = (told-then most domain workflow mine theirs can mine_is theirs_is sent e).heard;
     author = back (λ x y. IsAuthor (standing clusters them []) s.all x y (arrived_at sent theirs))
         (arrival-keeps-author (standing clusters them []) s.all sent theirs theirs_is arrives.kept is.0 (to (λ x y. IsAuthor (standing clusters them []) s.all x y theirs) s.theirs_is.author));
     whole = back (λ x y. IsWhole x y (arrived_at sent theirs)) (arrival-keeps-this-whole s.all sent theirs theirs_is arrives.kept is.0 (to (λ x y. IsWhole x y theirs) s.theirs_is.whole));
@@ -336,54 +352,50 @@ shared-told clusters me them most domain workflow mine theirs s within mine_is t
 }
   where
     can : CanTell most domain workflow mine theirs
-    can = shared-tell clusters me them most domain workflow mine theirs s within
+    can = shared-tell clusters me them most domain workflow mine theirs s
 
     is : IsMessageOf s.all sent × (is_of domain workflow sent.batch ≡ true)
-    is = told-is most domain workflow mine theirs can within mine_is theirs_is sent e
+    is = told-is most domain workflow mine theirs can mine_is theirs_is sent e
 
     n : (sent.batch.domain ≡ domain) × (sent.batch.workflow ≡ workflow)
     n = names-of domain workflow sent.batch is.1
 
     to : (P : Name → Name → Type 0) → P domain workflow → P sent.batch.domain sent.batch.workflow
-    to = here most domain workflow mine theirs can within mine_is theirs_is sent e
+    to = here most domain workflow mine theirs can mine_is theirs_is sent e
 
     back : (P : Name → Name → Type 0) → P sent.batch.domain sent.batch.workflow → P domain workflow
-    back = there most domain workflow mine theirs can within mine_is theirs_is sent e
+    back = there most domain workflow mine theirs can mine_is theirs_is sent e
 
     arrives : CanArrive sent theirs
-    arrives = told-arrives most domain workflow mine theirs can within mine_is theirs_is sent e
-
--- where a cell stands whose home has this limit
-pub desk-is : (home : HomeValue) (me : ClusterNo) (table : List DomainRecord) → home.me ≡ me → home.limit ≡ 100 → desk_of home table ≡ standing home.clusters me table
-desk-is home me table same limit = λ i. record { clusters = home.clusters; me = same i; limit = limit i; table = table }
+    arrives = told-arrives most domain workflow mine theirs can mine_is theirs_is sent e
 
 -- what is shared behind a command, and where it was refused
-module _ (home : HomeValue) (me them : ClusterNo) (most : ℕ) (domain workflow : Name) (mine theirs new : Cell) (s : AreShared home.clusters me them most domain workflow mine theirs) (few : most ≤ 10 ^ 10) where
-  pub write-then : home.me ≡ me → home.limit ≡ 100 → IsOrderly mine → (table : List DomainRecord) (command : Command) → new ≡ written_at (command_of (desk_of home table) domain workflow command mine) mine
-      → AreShared home.clusters me them (most + 104) domain workflow new theirs
-  write-then same limit orderly table command is =
-      subst (λ (c : Cell). AreShared home.clusters me them (most + 104) domain workflow c theirs) (sym (is ∙ ap (λ (d : Desk). written_at (command_of d domain workflow command mine) mine) (desk-is home me table same limit)))
-      (shared-written home.clusters me them most domain workflow mine theirs s (omega (arith, few)) orderly table command)
+module _ (clusters : ClusterList) (me them : ClusterNo) (most : ℕ) (domain workflow : Name) (mine theirs new : Cell) (s : AreShared clusters me them most domain workflow mine theirs) (room : most ≤ 1000000) where
+  pub write-then : (home : HomeValue) → home ≡ record { clusters = clusters; me = me; limit = 100 } → IsOrderly mine → (table : List DomainRecord) (command : Command)
+      → new ≡ written_at (command_of (desk_of home table) domain workflow command mine) mine → AreShared clusters me them (most + 104) domain workflow new theirs
+  write-then home same orderly table command is =
+      subst (λ (c : Cell). AreShared clusters me them (most + 104) domain workflow c theirs) (sym (is ∙ ap (λ (h : HomeValue). written_at (command_of (desk_of h table) domain workflow command mine) mine) same))
+      (shared-written clusters me them most domain workflow mine theirs s room orderly table command)
 
-  pub refuse-then : new ≡ mine → AreShared home.clusters me them (most + 104) domain workflow new theirs
-  refuse-then is = subst (λ (c : Cell). AreShared home.clusters me them (most + 104) domain workflow c theirs) (sym is) (shared-more home.clusters me them most (most + 104) domain workflow mine theirs (omega arith) s)
+  pub refuse-then : new ≡ mine → AreShared clusters me them (most + 104) domain workflow new theirs
+  refuse-then is = subst (λ (c : Cell). AreShared clusters me them (most + 104) domain workflow c theirs) (sym is) (shared-more clusters me them most (most + 104) domain workflow mine theirs (omega arith) (omega (arith, room)) s)
 
 -- what is shared behind the arrival of a message
-pub hear-then : (clusters : ClusterList) (me them : ClusterNo) (most : ℕ) (domain workflow : Name) (mine theirs new : Cell) (s : AreShared clusters me them most domain workflow mine theirs) → most ≤ 10 ^ 10 → IsOrderly mine → IsOrderly theirs
+pub hear-then : (clusters : ClusterList) (me them : ClusterNo) (most : ℕ) (domain workflow : Name) (mine theirs new : Cell) (s : AreShared clusters me them most domain workflow mine theirs) → IsOrderly mine → IsOrderly theirs
     → (sent : Message) → IsSentBy mine sent → new ≡ arrived_at sent theirs → AreShared clusters me them most domain workflow mine new
-hear-then clusters me them most domain workflow mine theirs new s few mine_is theirs_is sent e is =
-    subst (λ (c : Cell). AreShared clusters me them most domain workflow mine c) (sym is) (shared-told clusters me them most domain workflow mine theirs s (omega (arith, few)) mine_is theirs_is sent e)
+hear-then clusters me them most domain workflow mine theirs new s mine_is theirs_is sent e is =
+    subst (λ (c : Cell). AreShared clusters me them most domain workflow mine c) (sym is) (shared-told clusters me them most domain workflow mine theirs s mine_is theirs_is sent e)
 
-pub hear-arrives : (clusters : ClusterList) (me them : ClusterNo) (most : ℕ) (domain workflow : Name) (mine theirs : Cell) (s : AreShared clusters me them most domain workflow mine theirs) → most ≤ 10 ^ 10 → IsOrderly mine → IsOrderly theirs
+pub hear-arrives : (clusters : ClusterList) (me them : ClusterNo) (most : ℕ) (domain workflow : Name) (mine theirs : Cell) (s : AreShared clusters me them most domain workflow mine theirs) → IsOrderly mine → IsOrderly theirs
     → (sent : Message) → IsSentBy mine sent → CanArrive sent theirs
-hear-arrives clusters me them most domain workflow mine theirs s few mine_is theirs_is sent e =
-    told-arrives most domain workflow mine theirs (shared-tell clusters me them most domain workflow mine theirs s (omega (arith, few))) (omega (arith, few)) mine_is theirs_is sent e
+hear-arrives clusters me them most domain workflow mine theirs s mine_is theirs_is sent e =
+    told-arrives most domain workflow mine theirs (shared-tell clusters me them most domain workflow mine theirs s) mine_is theirs_is sent e
 
 pub begin-then : (clusters : ClusterList) (me them : ClusterNo) (domain workflow : Name) (mine theirs : Cell) → (me ≡ them → ⊥) → mine ≡ empty_cell → theirs ≡ empty_cell → AreShared clusters me them 0 domain workflow mine theirs
 begin-then clusters me them domain workflow mine theirs differ e f =
     subst (λ (c : Cell). AreShared clusters me them 0 domain workflow c theirs) (sym e) (subst (λ (c : Cell). AreShared clusters me them 0 domain workflow empty_cell c) (sym f) (shared-new clusters me them domain workflow differ))
 
-pub learn-then : (most : ℕ) (domain workflow : Name) (mine copy new : Cell) → (can : CanTell most domain workflow mine copy) → most ≤ 10 ^ 10 → IsOrderly mine → IsOrderly copy → (sent : Message) → IsSentBy mine sent → new ≡ arrived_at sent copy
+pub learn-then : (most : ℕ) (domain workflow : Name) (mine copy new : Cell) → (can : CanTell most domain workflow mine copy) → IsOrderly mine → IsOrderly copy → (sent : Message) → IsSentBy mine sent → new ≡ arrived_at sent copy
     → CanTell most domain workflow mine new
-learn-then most domain workflow mine copy new can few mine_is copy_is sent e is =
-    subst (λ (c : Cell). CanTell most domain workflow mine c) (sym is) (told-then most domain workflow mine copy can (omega (arith, few)) mine_is copy_is sent e)
+learn-then most domain workflow mine copy new can mine_is copy_is sent e is =
+    subst (λ (c : Cell). CanTell most domain workflow mine c) (sym is) (told-then most domain workflow mine copy can mine_is copy_is sent e)

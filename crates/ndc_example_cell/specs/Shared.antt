@@ -30,20 +30,17 @@ pub record IsSmallSet (most : ℕ) (all : List Batch) : Type 0 where
 pub record AreShared (clusters : ClusterList) (me them : ClusterNo) (most : ℕ) (domain workflow : Name) (mine theirs : Cell) : Type 0 where
   pub all : List Batch
   pub differ : me ≢ them
+  pub few : most ≤ 10 ^ 10
   pub small : IsSmallSet most all
   pub mine_is : IsAuthored (standing clusters me []) all domain workflow mine
   pub theirs_is : IsAuthored (standing clusters them []) all domain workflow theirs
   pub mine_only : HoldsOnly domain workflow mine
   pub theirs_only : HoldsOnly domain workflow theirs
 
--- the cells of the first two clusters share a workflow that has not grown too great
-abbrev pub ArePaired : ClusterList → Name → Name → Cell → Cell → ℕ → Type 0
-ArePaired clusters domain workflow one two most =
-    (most ≤ 10 ^ 10) × AreShared clusters (record { number = 0 }) (record { number = 1 }) most domain workflow one two
-
 -- one cell can tell another what it has learned of a workflow: both keep one set, which is small
 pub record CanTell (most : ℕ) (domain workflow : Name) (teller hearer : Cell) : Type 0 where
   pub all : List Batch
+  pub few : most ≤ 10 ^ 10
   pub small : IsSmallSet most all
   pub kept : IsKept all domain workflow teller
   pub whole : IsWhole domain workflow teller

@@ -1,6 +1,6 @@
 //! Two cells of two clusters by hand: what one writes it sends to the other, as it likes.
 ghost use Rattle.std.specs.List.{AllByRecursion};
-ghost use Rattle.std.specs.Prelude.{◌≡◌, ◌≢◌, ◌+◌, ◌≤◌, ◌^◌, IfOk, OnOk};
+ghost use Rattle.std.specs.Prelude.{◌≡◌, ◌+◌, ◌≤◌, OnOk};
 ghost use Rattle.ndc_example_cell.specs.Shared.{AreShared, CanTell, IsSentBy};
 
 use ndc_command::{Command, Refusal};
@@ -12,7 +12,7 @@ use ndc_state::Steps;
 use std::alloc::{AllocError, Global};
 
 /// The most events that a history may have.
-pub(crate) const LIMIT: u64 = 100;
+const LIMIT: u64 = 100;
 
 /// How many events, and tasks, a command adds at most.
 pub(crate) const GROWTH: u64 = LIMIT + 4;
@@ -22,8 +22,9 @@ struct Replay;
 
 /// The workflow of which two cells hold batches, the clusters that they are of, and how many events, and tasks, they hold
 /// at most: an engine counts them.
-#[derive(Clone, Copy, Drop)]
+#[derive(Drop)]
 pub(crate) struct Shared<'a> {
+    pub clusters: &'a Clusters,
     pub domain: &'a Name,
     pub workflow: &'a Name,
     pub me: ClusterNo,
@@ -31,26 +32,14 @@ pub(crate) struct Shared<'a> {
     pub most: u64,
 }
 
-impl<'a> Shared<'a> {
-    ghost use Rattle.std.specs.Prelude.{◌≡◌};
-
-    /// The workflow as two clusters share it, seen from the first one.
-    pub(crate) fn new(
-        domain: &'a Name,
-        workflow: &'a Name,
-        me: ClusterNo,
-        them: ClusterNo,
-        most: u64,
-    ) -> Shared<'a>
-        ensures { result ≡ record { domain = domain.entry; workflow = workflow.entry; me = me; them = them; most = most } }
-    {
-        Shared {
-            domain,
-            workflow,
-            me,
-            them,
-            most,
-        }
+/// Where the cells of a cluster stand.
+pub(crate) fn home_of(clusters: &Clusters, me: ClusterNo) -> Home<'_>
+    ensures { result ≡ record { clusters = clusters.now; me = me; limit = 100 } }
+{
+    Home {
+        clusters,
+        me,
+        limit: LIMIT,
     }
 }
 
@@ -59,21 +48,18 @@ pub(crate) fn write(
     mine: &mut Shard,
     theirs: &Shard,
     shared: &Shared,
-    home: &Home,
     table: &DomainTable,
     command: &Command,
 ) -> Result<Result<Written, Refusal>, AllocError>
-    requires shared { AreShared home.now.clusters shared.now.me shared.now.them shared.now.most shared.now.domain.now shared.now.workflow.now mine.old theirs.now }
-    requires home { home.now.me ≡ shared.now.me }
-    requires limit { home.now.limit ≡ 100 }
-    requires few { shared.now.most ≤ 10 ^ 10 }
-    ensures mine { OnOk result (AreShared home.now.clusters shared.now.me shared.now.them (shared.now.most + 104) shared.now.domain.now shared.now.workflow.now mine.new theirs.now) }
-    ensures theirs { OnOk result (AreShared home.now.clusters shared.now.them shared.now.me (shared.now.most + 104) shared.now.domain.now shared.now.workflow.now theirs.now mine.new) }
+    requires shared { AreShared shared.now.clusters.now shared.now.me shared.now.them shared.now.most shared.now.domain.now shared.now.workflow.now mine.old theirs.now }
+    requires room { shared.now.most ≤ 1000000 }
+    ensures { OnOk result (AreShared shared.now.clusters.now shared.now.me shared.now.them (shared.now.most + 104) shared.now.domain.now shared.now.workflow.now mine.new theirs.now) }
 {
+    let home = home_of(shared.clusters, shared.me);
     let mut steps: Steps<Replay> = Steps::new();
     mine.is_in_order();
     let written = mine.command(
-        home,
+        &home,
         table,
         shared.domain,
         shared.workflow,
@@ -92,14 +78,11 @@ fn hear(
     mine: &Shard,
     theirs: &mut Shard,
     shared: &Shared,
-    clusters: &Clusters,
     message: &Message,
 ) -> Result<Arrived, AllocError>
-    requires shared { AreShared clusters.now shared.now.me shared.now.them shared.now.most shared.now.domain.now shared.now.workflow.now mine.now theirs.old }
-    requires few { shared.now.most ≤ 10 ^ 10 }
+    requires shared { AreShared shared.now.clusters.now shared.now.me shared.now.them shared.now.most shared.now.domain.now shared.now.workflow.now mine.now theirs.old }
     requires sent { IsSentBy mine.now message.now }
-    ensures mine { OnOk result (AreShared clusters.now shared.now.me shared.now.them shared.now.most shared.now.domain.now shared.now.workflow.now mine.now theirs.new) }
-    ensures theirs { OnOk result (AreShared clusters.now shared.now.them shared.now.me shared.now.most shared.now.domain.now shared.now.workflow.now theirs.new mine.now) }
+    ensures { OnOk result (AreShared shared.now.clusters.now shared.now.me shared.now.them shared.now.most shared.now.domain.now shared.now.workflow.now mine.now theirs.new) }
 {
     let mut steps: Steps<Replay> = Steps::new();
     mine.is_in_order();
@@ -108,21 +91,33 @@ fn hear(
     Ok(arrived)
 }
 
+/// The same, of a message that nobody needs any more: it is let go here.
+fn hear_last(
+    mine: &Shard,
+    theirs: &mut Shard,
+    shared: &Shared,
+    message: Message,
+) -> Result<Arrived, AllocError>
+    requires shared { AreShared shared.now.clusters.now shared.now.me shared.now.them shared.now.most shared.now.domain.now shared.now.workflow.now mine.now theirs.old }
+    requires sent { IsSentBy mine.now message }
+    ensures { OnOk result (AreShared shared.now.clusters.now shared.now.me shared.now.them shared.now.most shared.now.domain.now shared.now.workflow.now mine.now theirs.new) }
+{
+    hear(mine, theirs, shared, &message)
+}
+
 /// Messages of what one cell has learned come to the other, in order.
 fn hear_all(
     mine: &Shard,
     theirs: &mut Shard,
     shared: &Shared,
-    clusters: &Clusters,
     messages: &[Message],
 ) -> Result<(), AllocError>
-    requires shared { AreShared clusters.now shared.now.me shared.now.them shared.now.most shared.now.domain.now shared.now.workflow.now mine.now theirs.old }
-    requires few { shared.now.most ≤ 10 ^ 10 }
+    requires shared { AreShared shared.now.clusters.now shared.now.me shared.now.them shared.now.most shared.now.domain.now shared.now.workflow.now mine.now theirs.old }
     requires sent { AllByRecursion (IsSentBy mine.now) messages.now }
-    ensures { OnOk result (AreShared clusters.now shared.now.me shared.now.them shared.now.most shared.now.domain.now shared.now.workflow.now mine.now theirs.new) }
+    ensures { OnOk result (AreShared shared.now.clusters.now shared.now.me shared.now.them shared.now.most shared.now.domain.now shared.now.workflow.now mine.now theirs.new) }
 {
     for message in messages {
-        hear(mine, theirs, shared, clusters, message)?;
+        hear(mine, theirs, shared, message)?;
     }
     Ok(())
 }
@@ -132,39 +127,29 @@ pub(crate) fn tell(
     mine: &Shard,
     theirs: &mut Shard,
     shared: &Shared,
-    clusters: &Clusters,
     key: BatchKey,
 ) -> Result<Option<Arrived>, AllocError>
-    requires shared { AreShared clusters.now shared.now.me shared.now.them shared.now.most shared.now.domain.now shared.now.workflow.now mine.now theirs.old }
-    requires few { shared.now.most ≤ 10 ^ 10 }
-    ensures mine { OnOk result (AreShared clusters.now shared.now.me shared.now.them shared.now.most shared.now.domain.now shared.now.workflow.now mine.now theirs.new) }
-    ensures theirs { OnOk result (AreShared clusters.now shared.now.them shared.now.me shared.now.most shared.now.domain.now shared.now.workflow.now theirs.new mine.now) }
+    requires { AreShared shared.now.clusters.now shared.now.me shared.now.them shared.now.most shared.now.domain.now shared.now.workflow.now mine.now theirs.old }
+    ensures { OnOk result (AreShared shared.now.clusters.now shared.now.me shared.now.them shared.now.most shared.now.domain.now shared.now.workflow.now mine.now theirs.new) }
 {
     mine.is_in_order();
     let Some(message) = mine.message(shared.domain, shared.workflow, key)? else {
         return Ok(None);
     };
-    let arrived = hear(mine, theirs, shared, clusters, &message)?;
+    let arrived = hear_last(mine, theirs, shared, message)?;
     Ok(Some(arrived))
 }
 
 /// A cell is served for what it has put off by the other one: for how many gaps.
-pub(crate) fn repair(
-    mine: &Shard,
-    theirs: &mut Shard,
-    shared: &Shared,
-    clusters: &Clusters,
-) -> Result<usize, AllocError>
-    requires shared { AreShared clusters.now shared.now.me shared.now.them shared.now.most shared.now.domain.now shared.now.workflow.now mine.now theirs.old }
-    requires few { shared.now.most ≤ 10 ^ 10 }
-    ensures mine { OnOk result (AreShared clusters.now shared.now.me shared.now.them shared.now.most shared.now.domain.now shared.now.workflow.now mine.now theirs.new) }
-    ensures theirs { OnOk result (AreShared clusters.now shared.now.them shared.now.me shared.now.most shared.now.domain.now shared.now.workflow.now theirs.new mine.now) }
+pub(crate) fn repair(mine: &Shard, theirs: &mut Shard, shared: &Shared) -> Result<usize, AllocError>
+    requires { AreShared shared.now.clusters.now shared.now.me shared.now.them shared.now.most shared.now.domain.now shared.now.workflow.now mine.now theirs.old }
+    ensures { OnOk result (AreShared shared.now.clusters.now shared.now.me shared.now.them shared.now.most shared.now.domain.now shared.now.workflow.now mine.now theirs.new) }
 {
     let gaps = theirs.gaps()?;
     for gap in gaps.as_slice() {
         mine.is_in_order();
         let served = mine.serve(gap)?;
-        hear_all(mine, theirs, shared, clusters, served.as_slice())?;
+        hear_all(mine, theirs, shared, served.as_slice())?;
     }
     Ok(gaps.len())
 }
@@ -177,7 +162,6 @@ fn learn(
     message: &Message,
 ) -> Result<Arrived, AllocError>
     requires told { CanTell shared.now.most shared.now.domain.now shared.now.workflow.now mine.now copy.old }
-    requires few { shared.now.most ≤ 10 ^ 10 }
     requires sent { IsSentBy mine.now message.now }
     ensures { OnOk result (CanTell shared.now.most shared.now.domain.now shared.now.workflow.now mine.now copy.new) }
 {
@@ -196,7 +180,6 @@ fn learn_all(
     messages: &[Message],
 ) -> Result<(), AllocError>
     requires told { CanTell shared.now.most shared.now.domain.now shared.now.workflow.now mine.now copy.old }
-    requires few { shared.now.most ≤ 10 ^ 10 }
     requires sent { AllByRecursion (IsSentBy mine.now) messages.now }
 {
     for message in messages {
@@ -211,12 +194,11 @@ pub(crate) fn remake(
     mine: &Shard,
     theirs: &Shard,
     shared: &Shared,
-    home: &Home,
 ) -> Result<Shard, AllocError>
-    requires shared { AreShared home.now.clusters shared.now.me shared.now.them shared.now.most shared.now.domain.now shared.now.workflow.now mine.now theirs.now }
-    requires few { shared.now.most ≤ 10 ^ 10 }
+    requires { AreShared shared.now.clusters.now shared.now.me shared.now.them shared.now.most shared.now.domain.now shared.now.workflow.now mine.now theirs.now }
 {
-    let mut copy = Shard::new(alloc, home)?;
+    let home = home_of(shared.clusters, shared.them);
+    let mut copy = Shard::new(alloc, &home)?;
     mine.is_in_order();
     let messages = mine.all_of(shared.domain)?;
     learn_all(mine, &mut copy, shared, messages.as_slice())?;
@@ -228,30 +210,12 @@ pub(crate) fn reapply(
     mine: &mut Shard,
     theirs: &Shard,
     shared: &Shared,
-    home: &Home,
     table: &DomainTable,
 ) -> Result<usize, AllocError>
-    requires shared { AreShared home.now.clusters shared.now.me shared.now.them shared.now.most shared.now.domain.now shared.now.workflow.now mine.old theirs.now }
-    requires home { home.now.me ≡ shared.now.me }
-    requires limit { home.now.limit ≡ 100 }
-    requires few { shared.now.most ≤ 10 ^ 10 }
+    requires { AreShared shared.now.clusters.now shared.now.me shared.now.them shared.now.most shared.now.domain.now shared.now.workflow.now mine.old theirs.now }
 {
+    let home = home_of(shared.clusters, shared.me);
     let mut steps: Steps<Replay> = Steps::new();
-    let places = mine.reapply(home, table, &mut steps)?;
+    let places = mine.reapply(&home, table, &mut steps)?;
     Ok(places.len())
-}
-
-/// Two cells in which nothing has happened.
-pub(crate) fn begin(
-    alloc: Global,
-    here: &Home,
-    there: &Home,
-    shared: &Shared,
-) -> Result<(Shard, Shard), AllocError>
-    requires { shared.now.me ≢ shared.now.them }
-    ensures { IfOk result (λ pair. AreShared here.now.clusters shared.now.me shared.now.them 0 shared.now.domain.now shared.now.workflow.now pair.0 pair.1) }
-{
-    let mine = Shard::new(alloc, here)?;
-    let theirs = Shard::new(alloc, there)?;
-    Ok((mine, theirs))
 }

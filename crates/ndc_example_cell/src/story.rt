@@ -3,12 +3,32 @@ ghost use Rattle.std.specs.Prelude.{◌≤◌, IfOk};
 ghost use Rattle.ndc_domain.specs.Clusters.{count_of};
 
 use crate::error::StoryError;
-use crate::pair::{A, B, Pair, Side};
+use crate::pair::{A, B, Pair};
 use crate::telling::{tell_alike, tell_arrived, tell_count, tell_written};
 use ndc_command::Command;
 use ndc_domain::{Clusters, DomainTable, Members};
 use ndc_event::{BatchKey, Name};
 use std::alloc::Global;
+
+/// What the cells are asked, and by which records of the domain they write: those of both at first, and those that B has
+/// behind its failover.
+struct Scene {
+    start: Command,
+    signal: Command,
+    records: DomainTable,
+    moved: DomainTable,
+}
+
+impl Drop for Scene {
+    fn drop(self) {
+        let Scene {
+            start: _start,
+            signal: _signal,
+            records: _records,
+            moved: _moved,
+        } = self;
+    }
+}
 
 /// The clusters, A and B.
 fn clusters(alloc: Global) -> Result<Clusters, StoryError>
@@ -45,70 +65,53 @@ fn moved(
     Ok(table)
 }
 
-/// The name of a side, to be told.
-fn name_of(side: Side) -> &'static [u8] {
-    match side {
-        Side::First => b"A",
-        Side::Second => b"B",
-    }
+/// A start and a signal, and the records.
+fn scene_of(alloc: Global, clusters: &Clusters, domain: &Name) -> Result<Scene, StoryError>
+    requires { 2 ≤ count_of clusters.now }
+{
+    let records = records(alloc, clusters, domain)?;
+    let moved = moved(clusters, domain, &records)?;
+    let workflow_type = Name::new(alloc, b"order")?;
+    let name = Name::new(alloc, b"paid")?;
+    let input = Name::new(alloc, b"now")?;
+    Ok(Scene {
+        start: Command::Start { workflow_type },
+        signal: Command::Signal { name, input },
+        records,
+        moved,
+    })
 }
 
-/// A cell is asked to write, and what comes of it is told.
+/// The cell in hand is asked to write, and what comes of it is told.
 fn write(
     pair: &mut Pair,
-    side: Side,
+    who: &[u8],
     table: &DomainTable,
     command: &Command,
     text: &mut Vec<u8>,
 ) -> Result<(), StoryError> {
-    let written = pair.write(side, table, command)?;
-    tell_written(text, name_of(side), &written)?;
+    let written = pair.write(table, command)?;
+    tell_written(text, who, &written)?;
     Ok(())
 }
 
-/// A starts the workflow.
-fn start(
-    alloc: Global,
-    pair: &mut Pair,
-    table: &DomainTable,
-    text: &mut Vec<u8>,
-) -> Result<(), StoryError> {
-    let workflow_type = Name::new(alloc, b"order")?;
-    let command = Command::Start { workflow_type };
-    write(pair, Side::First, table, &command, text)
-}
-
-/// A cell takes a signal.
-fn signal(
-    alloc: Global,
-    pair: &mut Pair,
-    side: Side,
-    table: &DomainTable,
-    text: &mut Vec<u8>,
-) -> Result<(), StoryError> {
-    let name = Name::new(alloc, b"paid")?;
-    let input = Name::new(alloc, b"now")?;
-    let command = Command::Signal { name, input };
-    write(pair, side, table, &command, text)
-}
-
-/// A cell tells the other one the batch that was written with a version and task.
+/// The cell in hand tells the other one the batch that was written with a version and task.
 fn tell(
     pair: &mut Pair,
-    from: Side,
-    to: Side,
-    key: BatchKey,
+    whom: &[u8],
+    version: u64,
+    task: u64,
     text: &mut Vec<u8>,
 ) -> Result<(), StoryError> {
-    let arrived = pair.tell(from, key)?;
-    tell_arrived(text, name_of(to), &arrived)?;
+    let arrived = pair.tell(BatchKey { version, task })?;
+    tell_arrived(text, whom, &arrived)?;
     Ok(())
 }
 
 /// Tells whether both cells show the same.
 fn compare(alloc: Global, pair: &Pair, text: &mut Vec<u8>) -> Result<(), StoryError> {
-    let (domain, workflow) = pair.names();
-    tell_alike(alloc, text, pair.one(), pair.two(), domain, workflow)?;
+    let alike = pair.shows_as(alloc, pair.theirs())?;
+    tell_alike(text, alike)?;
     Ok(())
 }
 
@@ -116,43 +119,33 @@ fn compare(alloc: Global, pair: &Pair, text: &mut Vec<u8>) -> Result<(), StoryEr
 fn lose_and_serve(
     alloc: Global,
     pair: &mut Pair,
-    table: &DomainTable,
+    scene: &Scene,
     text: &mut Vec<u8>,
 ) -> Result<(), StoryError> {
-    start(alloc, pair, table, text)?;
-    signal(alloc, pair, Side::First, table, text)?;
-    let key = BatchKey {
-        version: 1,
-        task: 2,
-    };
-    tell(pair, Side::First, Side::Second, key, text)?;
+    write(pair, b"A", &scene.records, &scene.start, text)?;
+    write(pair, b"A", &scene.records, &scene.signal, text)?;
+    tell(pair, b"B", 1, 2, text)?;
     let gaps = pair.repair()?;
     tell_count(text, b"gaps for which B is served: ", gaps)?;
     compare(alloc, pair, text)
 }
 
 /// B takes a signal, which is refused, and takes it again with records that make it the writer; A takes one too, by its
-/// older records, and each tells the other what it wrote.
+/// older records, and each tells the other what it wrote. B is in hand at the end.
 fn fail_over(
     alloc: Global,
     pair: &mut Pair,
-    table: &DomainTable,
-    moved: &DomainTable,
+    scene: &Scene,
     text: &mut Vec<u8>,
 ) -> Result<(), StoryError> {
-    signal(alloc, pair, Side::Second, table, text)?;
-    signal(alloc, pair, Side::Second, moved, text)?;
-    signal(alloc, pair, Side::First, table, text)?;
-    let key = BatchKey {
-        version: 1,
-        task: 3,
-    };
-    tell(pair, Side::First, Side::Second, key, text)?;
-    let key = BatchKey {
-        version: 2,
-        task: 3,
-    };
-    tell(pair, Side::Second, Side::First, key, text)?;
+    pair.turn();
+    write(pair, b"B", &scene.records, &scene.signal, text)?;
+    write(pair, b"B", &scene.moved, &scene.signal, text)?;
+    pair.turn();
+    write(pair, b"A", &scene.records, &scene.signal, text)?;
+    tell(pair, b"B", 1, 3, text)?;
+    pair.turn();
+    tell(pair, b"A", 2, 3, text)?;
     compare(alloc, pair, text)
 }
 
@@ -160,29 +153,39 @@ fn fail_over(
 fn make_anew(
     alloc: Global,
     pair: &mut Pair,
-    table: &DomainTable,
+    scene: &Scene,
     text: &mut Vec<u8>,
 ) -> Result<(), StoryError> {
     let copy = pair.remake(alloc)?;
     text.extend_from_slice(b"A is made anew\n")?;
-    let (domain, workflow) = pair.names();
-    tell_alike(alloc, text, pair.one(), &copy, domain, workflow)?;
-    let count = pair.reapply(table)?;
+    let alike = pair.shows_as(alloc, &copy)?;
+    tell_alike(text, alike)?;
+    let count = pair.reapply(&scene.moved)?;
     tell_count(text, b"batches that B applies again: ", count)?;
     Ok(())
+}
+
+/// Lets all of it happen between two new cells, and tells of it.
+fn play_scene(
+    alloc: Global,
+    clusters: &Clusters,
+    domain: &Name,
+    scene: &Scene,
+    text: &mut Vec<u8>,
+) -> Result<(), StoryError> {
+    let workflow = Name::new(alloc, b"w1")?;
+    let mut pair = Pair::new(alloc, clusters, domain, &workflow)?;
+    lose_and_serve(alloc, &mut pair, scene, text)?;
+    fail_over(alloc, &mut pair, scene, text)?;
+    make_anew(alloc, &mut pair, scene, text)
 }
 
 /// Makes the clusters and the records, lets all of it happen, and gives the lines that tell of it.
 pub(crate) fn play(alloc: Global) -> Result<Vec<u8>, StoryError> {
     let clusters = clusters(alloc)?;
     let domain = Name::new(alloc, b"alpha")?;
-    let workflow = Name::new(alloc, b"w1")?;
-    let table = records(alloc, &clusters, &domain)?;
-    let moved = moved(&clusters, &domain, &table)?;
-    let mut pair = Pair::new(alloc, &clusters, &domain, &workflow)?;
+    let scene = scene_of(alloc, &clusters, &domain)?;
     let mut text = Vec::new(alloc);
-    lose_and_serve(alloc, &mut pair, &table, &mut text)?;
-    fail_over(alloc, &mut pair, &table, &moved, &mut text)?;
-    make_anew(alloc, &mut pair, &moved, &mut text)?;
+    play_scene(alloc, &clusters, &domain, &scene, &mut text)?;
     Ok(text)
 }

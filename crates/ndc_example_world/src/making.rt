@@ -26,6 +26,17 @@ pub(crate) fn start_of(workflow_type: Name) -> Command
     Command::Start { workflow_type }
 }
 
+/// A line that the program has made. It is let go in one place.
+pub(crate) struct Made {
+    pub line: Line,
+}
+
+impl Drop for Made {
+    fn drop(self) {
+        let Made { line: _line } = self;
+    }
+}
+
 /// The line of this number that hands a command to a workflow at a cluster.
 pub(crate) fn command_line(
     header: &Header,

@@ -5,7 +5,7 @@ ghost use Rattle.ndc_script_types.specs.WellFormed.{IsWellFormedHeader};
 use crate::dumping::read_again;
 use crate::error::StoryError;
 use crate::looking::{cell, shown, tell_learned, tell_record};
-use crate::making::{cluster, command_line, start_of};
+use crate::making::{Made, cluster, command_line, start_of};
 use crate::running::{run_line, run_text, settle};
 use crate::telling::{push_answer, summary_line};
 use ndc_event::{BatchKey, Name};
@@ -44,8 +44,10 @@ fn begin<R: Threads + Sync>(
     let at = cluster(header, b"A")?;
     let (domain, workflow) = (domain.try_copy()?, workflow.try_copy()?);
     let order = start_of(Name::new(alloc, b"order")?);
-    let line = command_line(header, 9, at, domain, workflow, order);
-    run_line(rt, alloc, world, &line, text)
+    let made = Made {
+        line: command_line(header, 9, at, domain, workflow, order),
+    };
+    run_line(rt, alloc, world, &made.line, text)
 }
 
 /// B hears of the workflow; what it has learned is asked before and behind.
@@ -131,6 +133,30 @@ fn compare(
     Ok(())
 }
 
+/// All that happens in a new world.
+fn play_in<R: Threads + Sync>(
+    rt: &R,
+    alloc: Global,
+    header: &Header,
+    world: &mut World<Shard>,
+    domain: &Name,
+    workflow: &Name,
+    text: &mut Vec<u8>,
+) -> Result<(), StoryError>
+    requires fit { IsWellFormedHeader header.now }
+    requires unspent { world.old.spent ≡ false }
+    requires header { world.old.header ≡ header.now }
+{
+    begin(rt, alloc, header, world, domain, workflow, text)?;
+    replicate(rt, alloc, header, world, domain, workflow, text)?;
+    fail_over(rt, alloc, header, world, domain, text)?;
+    settle(rt, alloc, world, text)?;
+    compare(alloc, header, world, domain, workflow, text)?;
+    let summary = world.summary(alloc)?;
+    summary_line(text, &summary)?;
+    Ok(())
+}
+
 /// All that happens under a header.
 fn play_under<R: Threads + Sync>(
     rt: &R,
@@ -143,14 +169,7 @@ fn play_under<R: Threads + Sync>(
     let domain = Name::new(alloc, b"alpha")?;
     let workflow = Name::new(alloc, b"w1")?;
     let mut world = World::<Shard>::build(alloc, header)?;
-    begin(rt, alloc, header, &mut world, &domain, &workflow, text)?;
-    replicate(rt, alloc, header, &mut world, &domain, &workflow, text)?;
-    fail_over(rt, alloc, header, &mut world, &domain, text)?;
-    settle(rt, alloc, &mut world, text)?;
-    compare(alloc, header, &world, &domain, &workflow, text)?;
-    let summary = world.summary(alloc)?;
-    summary_line(text, &summary)?;
-    Ok(())
+    play_in(rt, alloc, header, &mut world, &domain, &workflow, text)
 }
 
 /// Reads the header, lets all of it happen, and gives the lines that tell of it.

@@ -9,7 +9,7 @@ use Rattle.ndc_example_cell.proofs.engine.remake.Goals as goal
 pub learn_all-requires-clause-told : goal.learn_all-requires-clause-told
 learn_all-requires-clause-told c =
     subst (λ (cell : Cell). CanTell c.args.shared.now.most c.args.shared.now.domain.now c.args.shared.now.workflow.now c.args.mine.now cell) (sym c.in_ok-copy.ensures)
-    (tell-new c.args.home.now.clusters c.args.shared.now.me c.args.shared.now.them c.args.shared.now.most c.args.shared.now.domain.now c.args.shared.now.workflow.now c.args.mine.now c.args.theirs.now c.requires.shared)
+    (tell-new c.args.shared.now.clusters.now c.args.shared.now.me c.args.shared.now.them c.args.shared.now.most c.args.shared.now.domain.now c.args.shared.now.workflow.now c.args.mine.now c.args.theirs.now c.requires)
 
 pub learn_all-requires-clause-sent : goal.learn_all-requires-clause-sent
 learn_all-requires-clause-sent c =

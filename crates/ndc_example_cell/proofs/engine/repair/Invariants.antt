@@ -3,4 +3,4 @@ use Rattle.ndc_example_cell.proofs.engine.repair.Given as goal
 
 -- what they share is shared
 abbrev pub invariant-loop-gap : goal.invariant-loop-gap
-invariant-loop-gap l = AreShared l.clusters l.shared.me l.shared.them l.shared.most l.shared.domain.now l.shared.workflow.now l.mine l.theirs
+invariant-loop-gap l = AreShared l.shared.clusters.now l.shared.me l.shared.them l.shared.most l.shared.domain.now l.shared.workflow.now l.mine l.theirs
