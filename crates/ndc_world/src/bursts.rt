@@ -43,7 +43,7 @@ fn jobs_of(alloc: Global, header: &Header, burst: &[BurstJob]) -> Result<Vec<Sha
     requires { 0 < header.now.shards }
     ensures { IfOk result (λ jobs. jobs.items ≡ burst_jobs header.now burst.now) }
 {
-    let mut jobs = Vec::new(alloc);
+    let mut jobs = Vec::with_capacity(alloc, burst.len())?;
     for one in burst {
         jobs.push(job_of(header, one)?)?;
     }
@@ -120,7 +120,7 @@ pub(crate) fn burst<R: Threads + Sync, G: Gate, C: Reads + Drop + Send>(
     let replies = replication.do_jobs(rt, alloc, gate, workers, header, cluster, jobs.as_slice())?;
     let text = answers_of(alloc, burst, replies.as_slice())?;
     let refused = refusals(replies.as_slice());
-    let mut seen = Vec::new(alloc);
+    let mut seen = Vec::with_capacity(alloc, jobs.len())?;
     add_seen(&mut seen, cluster, jobs.as_slice(), replies)?;
     Ok((Answer { text, seen }, refused))
 }
