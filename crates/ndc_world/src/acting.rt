@@ -56,7 +56,7 @@ pub(crate) fn act<R: Threads + Sync, G: Gate, C: Reads + Drop + Send>(
             workflow,
             command,
         ),
-        Act::Burst { .. } => Ok(answered(alloc, Vec::new(alloc))),
+        Act::Burst { .. } => Ok(answered(alloc, AnswerText::empty(alloc))),
         Act::Register {
             at,
             domain,
