@@ -23,7 +23,6 @@ use Rattle.ndc_model_cells.specs.Places.{batch_there, is_of, place_of}
 use Rattle.ndc_model_cells.specs.Writing.{Desk, Entry, command_of}
 use Rattle.ndc_model_sets.specs.Learned.{IsPart, learned}
 use Rattle.ndc_model_sets.specs.Sets.{Has, batch_at}
-use Rattle.ndc_model_sets.specs.Sound.{IsSound}
 use Rattle.ndc_model_sets.proofs.SetLemmas.{at-first, found-has, found-key}
 use Rattle.ndc_model_sets.proofs.BranchLemmas.{among-has, has-among}
 use Rattle.ndc_model_sets.proofs.LearnedLemmas.{learned-reaches, learned_closed, reaches-has}
@@ -31,7 +30,7 @@ use Rattle.ndc_model_sets.proofs.Lists.{Among, all-from, among-filter, filter-am
 use Rattle.ndc_model_cells.proofs.PlaceLemmas.{set_of_workflow}
 use Rattle.ndc_resend.specs.Serving.{answered, served_for}
 use Rattle.ndc_resend.specs.declared.asking.GapOf.{GapOf}
-use Rattle.ndc_model_sets.proofs.SoundLemmas.{part_is_sound}
+use Rattle.ndc_model_sets.proofs.SoundLemmas.{nothing_is_sound}
 use Rattle.ndc_model_cells.specs.Keeping.{CanArrive, CanWrite, CanWriteEach, HasRange, IsAuthor, IsAuthored, IsKept, IsMessageOf, IsWhole, set_behind}
 use Rattle.ndc_laws_cells.proofs.AskLemmas.{IsFine, Takes, command-takes}
 use Rattle.ndc_laws_cells.proofs.FoundLemmas.{there-among}
@@ -57,9 +56,6 @@ part-none (x ∷ xs) part = let none = part x (at-first x xs) in absurd (cc)
 
 none-part : (l : List Batch) → l ≡ [] → IsPart l []
 none-part l e b has = let none = subst (λ k. Has k b) e has in absurd (cc)
-
-none-sound : (all : List Batch) → IsSound all → IsSound []
-none-sound all sound = part_is_sound all [] sound (record { ordered = tt; back = tt }) (λ b has. absurd (cc)) (λ b has. absurd (cc))
 
 -- another workflow
 abbrev Apart : Name → Name → Name → Name → Type 0
@@ -105,22 +101,9 @@ shared-new clusters me them domain workflow differ = record {
   theirs_only = λ d w apart. refl;
 }
   where
-    sound : IsSound []
-    sound = record {
-      set = record { ordered = tt; back = tt };
-      closed = λ b has. absurd (cc);
-      faultless = λ b has. absurd (cc);
-      parents = λ b before key has e f. absurd (cc);
-      chains = λ one two has h run version task. absurd (cc);
-      origins = λ b has. absurd (cc);
-      copies = λ b o has h. absurd (cc);
-      replays = λ b has. absurd (cc);
-      carriers = λ b carrier key has e f. absurd (cc);
-    }
-
     nothing : (who : ClusterNo) → IsAuthored (standing clusters who []) [] domain workflow empty_cell
     nothing who = record {
-      kept = record { own = tt; sound = sound; within = λ b has. has };
+      kept = record { own = tt; sound = nothing_is_sound; within = λ b has. has };
       author = record { named = λ b has. absurd (cc); own = λ b has writer. absurd (cc) };
       whole = λ b has lone on. absurd (cc);
     }
@@ -176,7 +159,7 @@ module _ (clusters : ClusterList) (me them : ClusterNo) (most : ℕ) (domain wor
       by (this e f) = subst (λ x. CanWrite (standing clusters me table) x w mine) (sym e) (subst (λ y. CanWrite (standing clusters me table) domain y mine) (sym f) (shared-write table))
       by (other apart) = record {
         all = [];
-        kept = record { own = tt; sound = none-sound s.all s.mine_is.kept.sound; within = none-part (arrived_of d w mine) (s.mine_only d w apart) };
+        kept = record { own = tt; sound = nothing_is_sound; within = none-part (arrived_of d w mine) (s.mine_only d w apart) };
         author = record { named = λ b has. absurd (cc); own = λ b has writer. absurd (cc) };
         range = record { events_most = omega arith; tasks_most = λ b has. absurd (cc) };
         limit_most = omega arith;
@@ -206,7 +189,7 @@ module _ (clusters : ClusterList) (me them : ClusterNo) (most : ℕ) (domain wor
         })).kept.within
       where
         none-kept : IsKept [] d w mine
-        none-kept = record { own = tt; sound = none-sound s.all s.mine_is.kept.sound; within = none-part (arrived_of d w mine) (s.mine_only d w apart) }
+        none-kept = record { own = tt; sound = nothing_is_sound; within = none-part (arrived_of d w mine) (s.mine_only d w apart) }
 
     pub shared-written : AreShared clusters me them (most + 104) domain workflow (written_at (command_of (standing clusters me table) domain workflow command mine) mine) theirs
     shared-written = record {
@@ -348,7 +331,7 @@ shared-told clusters me them most domain workflow mine theirs s mine_is theirs_i
   mine_only = s.mine_only;
   theirs_only = λ x y apart. part-none (arrived_of x y (arrived_at sent theirs))
       (arrival-keeps-others [] s.all x y sent theirs theirs_is arrives.kept is.0 (apart sent.batch n.0 n.1)
-      (record { own = tt; sound = none-sound s.all s.theirs_is.kept.sound; within = none-part (arrived_of x y theirs) (s.theirs_only x y apart) })).within;
+      (record { own = tt; sound = nothing_is_sound; within = none-part (arrived_of x y theirs) (s.theirs_only x y apart) })).within;
 }
   where
     can : CanTell most domain workflow mine theirs

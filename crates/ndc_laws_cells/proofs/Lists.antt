@@ -1,6 +1,6 @@
 -- Items of a list by recursion and by place.
-use Rattle.std.proofs.Common.{◌≡◌, ℕ, zero, suc, ◌<◌, List, [], ◌∷◌, length, slice_index_or, ◌⊎◌, inl, inr, refl, arith}
-use Rattle.std.specs.List.{IsAmong, flat_map}
+use Rattle.std.proofs.Common.{List, [], ◌∷◌, ◌⊎◌, inl, inr, refl}
+use Rattle.std.specs.List.{flat_map}
 pub use Rattle.ndc_model_cells.proofs.AmongLemmas.{among-is, among-more, is-among}
 use Rattle.ndc_model_sets.proofs.ForkLemmas.{among-cases}
 use Rattle.ndc_model_sets.proofs.Lists.{Among}

@@ -16,6 +16,7 @@ use Rattle.ndc_script_types.specs.WellFormed.{AreTwoClusters}
 use Rattle.ndc_script_types.specs.declared.script.Header.{Header}
 use Rattle.ndc_model_sets.specs.Sets.{Has}
 use Rattle.ndc_model_sets.specs.Sound.{IsSound}
+use Rattle.ndc_model_sets.proofs.SoundLemmas.{nothing_is_sound}
 use Rattle.ndc_text.specs.Ranges.{InRange}
 use Rattle.ndc_model.proofs.ListLemmas.{all-flat, all-map, all-weaker}
 use Rattle.ndc_model_sets.proofs.ForkLemmas.{among-cases}
@@ -119,26 +120,13 @@ module _ (header : Header) where
   none-written : (domain workflow : Name) → written_of header domain workflow (opening_world header) ≡ []
   none-written domain workflow = ap (filter (is_of domain workflow)) (no-writing (shard_of domain workflow header.shards))
 
-  sound-none : IsSound []
-  sound-none = record {
-    set = record { ordered = tt; back = tt };
-    closed = λ b h. absurd (cc);
-    faultless = λ b h. absurd (cc);
-    parents = λ b before key h. absurd (cc);
-    chains = λ one two h. absurd (cc);
-    origins = λ b h. absurd (cc);
-    copies = λ b other h. absurd (cc);
-    replays = λ b h. absurd (cc);
-    carriers = λ b carrier key h. absurd (cc);
-  }
-
   small-none : AreNumbersSmall 0 []
   small-none = record { tasks = tt; batches_most = omega arith; originals_most = omega arith; events_most = tt }
 
   writing-fair : WritingIsSound header (opening_world header)
   writing-fair = record {
     differ = λ shard below. subst (λ (places : List Place). AllPairs (λ one two. one ≢ two) places) (sym (no-places shard)) (λ i j d lt in_list. absurd (omega (arith, in_list)));
-    sound = λ domain workflow. subst IsSound (sym (none-written domain workflow)) sound-none;
+    sound = λ domain workflow. subst IsSound (sym (none-written domain workflow)) nothing_is_sound;
     carried = λ domain workflow b has. let none : Has [] b = subst (λ (bs : List Batch). Has bs b) (none-written domain workflow) has in absurd (cc);
     lone = λ domain workflow b has. let none : Has [] b = subst (λ (bs : List Batch). Has bs b) (none-written domain workflow) has in absurd (cc);
   }

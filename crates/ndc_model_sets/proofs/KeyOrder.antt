@@ -1,5 +1,5 @@
 -- How two keys compare.
-use Rattle.std.proofs.Common.{◌≡◌, ℕ, ◌-◌, not, nat_lt, ◌&&◌, ◌||◌, ◌==◌, if◌then◌else◌, arith}
+use Rattle.std.proofs.Common.{◌≡◌, ℕ, not, nat_lt, ◌&&◌, ◌||◌, ◌==◌, if◌then◌else◌, arith}
 use Rattle.std.proofs.lemmas.Bool.Decides.{nat_tests}
 use Rattle.std.specs.Ordering.{nat_cmp, ordering_then, is_eq, is_le}
 use Rattle.std.specs.declared.cmp.Ordering.{Ordering}

@@ -1,5 +1,5 @@
 -- Closed parts of sound sets, and sets with one more batch.
-use Rattle.std.proofs.Common.{◌≡◌, ◌+◌, ◌≤◌, Bool, true, false, not, ◌==◌, nat_lt, List, ◌⊎◌, inl, inr, Option, Some, None, IsOk, refl, sym, ◌∙◌, subst, ap, true≢false, arith}
+use Rattle.std.proofs.Common.{◌≡◌, ◌+◌, ◌≤◌, Bool, true, false, not, ◌==◌, nat_lt, List, [], ◌⊎◌, inl, inr, Option, Some, None, IsOk, refl, sym, ◌∙◌, subst, ap, true≢false, arith}
 use Rattle.std.specs.Prelude.{is_some}
 use Rattle.std.specs.List.{AllByRecursion}
 use Rattle.std.proofs.lemmas.Bool.{and_parts, ltb-false, ltb-true, eqb-true}
@@ -20,6 +20,20 @@ use Rattle.ndc_model_sets.proofs.SetLemmas.{found-key, found-has, has-found}
 use Rattle.ndc_model_sets.proofs.ArrivalLemmas.{arrival_keeps_sets, stays, was_or_new, is_there}
 use Rattle.ndc_model_sets.proofs.PathLemmas.{part-path}
 use Rattle.ndc_model_sets.proofs.FaultLemmas.{Passes, passes}
+
+-- the set of no batch is sound
+pub nothing_is_sound : IsSound []
+nothing_is_sound = record {
+  set = record { ordered = tt; back = tt };
+  closed = λ b has. absurd (cc);
+  faultless = λ b has. absurd (cc);
+  parents = λ b before key has e at. absurd (cc);
+  chains = λ one two has other run version less. absurd (cc);
+  origins = λ b has. absurd (cc);
+  copies = λ b other has there. absurd (cc);
+  replays = λ b has. absurd (cc);
+  carriers = λ b carrier key has e at. absurd (cc);
+}
 
 -- a closed part of a sound set is sound
 pub part_is_sound : (batches part : List Batch) → IsSound batches → IsSet part → IsClosed part → IsPart part batches → IsSound part

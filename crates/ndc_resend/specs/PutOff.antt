@@ -1,6 +1,5 @@
 -- What is put off, each batch with the gap before it.
-use Rattle.std.specs.Prelude.{List, [], map, not, find, is_some, Option, Some, None, unwrap_or, if◌then◌else◌}
-use Rattle.std.specs.List.{filter}
+use Rattle.std.specs.Prelude.{List, [], map, is_some, Option, Some, None, unwrap_or, if◌then◌else◌}
 use Rattle.ndc_event.specs.declared.batch.Batch.{Batch}
 use Rattle.ndc_event.specs.declared.key.BatchKey.{BatchKey}
 use Rattle.ndc_history.specs.declared.item.Item.{Item}

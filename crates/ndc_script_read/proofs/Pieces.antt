@@ -1,5 +1,5 @@
 -- Lines that are read piece by piece.
-use Rattle.std.proofs.Common.{◌≡◌, ℕ, zero, suc, ◌+◌, ◌<◌, ◌≤◌, ◌^◌, ◌==◌, Bool, true, false, nat_le, List, [], ◌∷◌, ◌++◌, length, drop, codes, Option, Some, None, Result, Ok, Err, if◌then◌else◌, cond, refl, sym, ap, ◌∙◌, subst, arith}
+use Rattle.std.proofs.Common.{◌≡◌, ℕ, zero, suc, ◌+◌, ◌<◌, ◌≤◌, ◌^◌, ◌==◌, Bool, true, false, nat_le, List, [], ◌∷◌, ◌++◌, length, drop, codes, Option, Some, None, Result, Ok, Err, if◌then◌else◌, refl, ap, ◌∙◌, subst, arith}
 use Rattle.std.specs.Prelude.{◌≢◌}
 use Rattle.std.specs.List.{cons_option, onto_first}
 use Rattle.std.specs.Str.{bytes_eq}
@@ -15,7 +15,7 @@ use Rattle.ndc_script_types.specs.declared.script.BurstJob.{BurstJob}
 use Rattle.ndc_script_types.specs.declared.script.Header.{Header}
 use Rattle.ndc_script_types.specs.declared.script.Line.{Line}
 use Rattle.ndc_script_types.specs.declared.script.Script.{Script}
-use Rattle.ndc_script_types.specs.declared.script.ScriptCause.TheVariants.{BadHeader, LineLimit}
+use Rattle.ndc_script_types.specs.declared.script.ScriptCause.TheVariants.{BadHeader}
 use Rattle.ndc_script_types.specs.declared.script.ScriptError.{ScriptError}
 use Rattle.ndc_script_types.specs.Print.{lines_within}
 use Rattle.ndc_script_words.specs.declared.text.Reading.{Reading}
@@ -29,7 +29,7 @@ use Rattle.ndc_script_words.specs.Verbs.{verb_of}
 use Rattle.ndc_script_read.specs.Body.{job_read, is_end, jobs_of, burst_line, verb_act, act_by, words_act, act_read, body_behind, body_of, lines_read, script_in, script_of}
 use Rattle.ndc_script_read.specs.Pieces.{is_whole, begins_cluster, with_front, with_rest}
 use Rattle.ndc_script_read.proofs.LineLists.{behind}
-use Rattle.ndc_script_read.proofs.Short.{Front, FrontOf, Within, not_past, weaker, Counted, act_front, body_counted, Took, members_took, TookHeader, header_took, placed_ok}
+use Rattle.ndc_script_read.proofs.Short.{Front, FrontOf, Within, not_past, weaker, Counted, act_front, body_counted, members_took, TookHeader, header_took}
 
 went : {A B E : Type 0} (r : Result A E) (f : A → Result B E) (x : B) → (r >>= f) ≡ Ok x → (a : A) × (r ≡ Ok a) × (f a ≡ Ok x)
 went (Ok a) f x e = (a, refl, e)

@@ -3,7 +3,6 @@ pub mod FoundLemmas
 pub mod MayLemmas
 pub mod AskedLemmas
 pub mod ReplyLemmas
-pub mod ExampleLemmas
 pub mod RoomLemmas
 pub mod AgainLemmas
 pub mod DueLemmas

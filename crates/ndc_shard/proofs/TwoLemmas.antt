@@ -8,7 +8,7 @@ use Rattle.ndc_model_cells.proofs.PlaceLemmas.{writing_keeps}
 use Rattle.ndc_model_cells.specs.Cells.{Cell, IsCell}
 use Rattle.ndc_model_cells.specs.Messages.{carrying}
 use Rattle.ndc_model_cells.specs.Places.{is_of, place_of}
-use Rattle.ndc_model_cells.specs.Workflow.{WorkflowValue, workflow_of}
+use Rattle.ndc_model_cells.specs.Workflow.{workflow_of}
 use Rattle.ndc_model_cells.specs.Writing.{Entry, with_all_written, with_batches, with_written}
 use Rattle.ndc_model_cells.specs.declared.place.Place.{Place}
 use Rattle.ndc_model_sets.specs.Sets.{PointsBack}

@@ -1,6 +1,5 @@
 pub mod Again
 pub mod Shards
-pub mod Worked
 pub mod Answers
 pub mod Sent
 pub mod Orderly

@@ -1,5 +1,5 @@
 -- What is applied again below an open tip.
-use Rattle.std.proofs.Common.{◌≡◌, ℕ, Bool, true, false, ◌==◌, [], ◌∷◌, List, length, Option, Some, if◌then◌else◌, refl, ap, sym, subst, ◌∙◌}
+use Rattle.std.proofs.Common.{◌≡◌, ℕ, Bool, true, false, ◌==◌, [], ◌∷◌, List, length, Option, Some, if◌then◌else◌, ap, sym, subst, ◌∙◌}
 use Rattle.ndc_event.specs.declared.batch.Batch.{Batch}
 use Rattle.ndc_event.specs.declared.key.BatchKey.{BatchKey}
 use Rattle.ndc_event.specs.declared.kind.EventKind.{EventKind}

@@ -1,5 +1,4 @@
 pub mod EventLemmas
-pub mod ExampleLemmas
 pub mod IdLemmas
 pub mod KindLemmas
 pub mod LawProofs

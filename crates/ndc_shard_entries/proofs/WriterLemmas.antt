@@ -1,7 +1,6 @@
 -- A cluster may write where its record lets it, and nothing greater is learned.
-use Rattle.std.proofs.Common.{◌≡◌, ℕ, Bool, true, false, nat_lt, [], List, Option, Some, None, Result, Ok, Err, not, refl, arith}
+use Rattle.std.proofs.Common.{◌≡◌, ℕ, Bool, true, false, nat_lt, [], List, Option, Some, None, Ok, not, refl, arith}
 use Rattle.std.proofs.lemmas.Bool.Decides.{nat_tests}
-use Rattle.ndc_command.specs.declared.refusal.Refusal.{Refusal}
 use Rattle.ndc_domain.specs.Clusters.{writer_of}
 use Rattle.ndc_domain.specs.declared.record.DomainRecord.{DomainRecord}
 use Rattle.ndc_event.specs.Outcome.{◌>>=◌}

@@ -14,6 +14,3 @@ pub use entry::Entry;
 pub use reapplication::reapplication_entry;
 pub use reset::reset_entries;
 pub use writing::{command_entry, may_write, unless_behind, writes_to};
-
-#[cfg(test)]
-mod tests;

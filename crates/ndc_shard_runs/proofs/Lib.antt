@@ -17,5 +17,4 @@ pub mod TakenLemmas
 pub mod ListedLemmas
 pub mod BesideLemmas
 pub mod DueLemmas
-pub mod ExampleLemmas
 pub mod LawProofs

@@ -5,7 +5,6 @@ pub use Rattle.ndc_model_cells.specs.Messages.{message_with}
 use Rattle.ndc_event.specs.declared.batch.Batch.{Batch}
 use Rattle.ndc_event.specs.declared.key.BatchKey.{BatchKey}
 use Rattle.ndc_event.specs.Key.{key_eq}
-use Rattle.ndc_model_sets.specs.Learned.{has_key}
 
 -- the message whose batch has this key
 abbrev pub message_at : BatchKey → List Message → Option Message

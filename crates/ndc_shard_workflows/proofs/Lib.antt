@@ -7,7 +7,6 @@ mod CarriedLemmas
 pub mod CellLemmas
 pub mod DomainLemmas
 pub mod DueLemmas
-pub mod ExampleLemmas
 pub mod FindLemmas
 mod FirstKeyLemmas
 pub mod FirstLemmas
@@ -23,7 +22,6 @@ pub mod NameLemmas
 pub mod NamedLemmas
 mod NextLemmas
 pub mod OkLemmas
-pub mod OneExampleLemmas
 pub mod OneWriteLemmas
 pub mod OwnLemmas
 pub mod PlaceLemmas

@@ -20,7 +20,7 @@ use Rattle.ndc_shard_waiting.proofs.KeptLemmas.{behind-after}
 use Rattle.ndc_shard_waiting.proofs.LawLemmas.{all_arrived, frees_none, none_goes}
 use Rattle.ndc_shard_waiting.proofs.LearnLemmas.{learned_is, set-all}
 use Rattle.ndc_shard_waiting.proofs.OrderLemmas.{all-more, arrived-at, has-append, not-at}
-use Rattle.ndc_shard_workflows.specs.Learnable.{CanBeLearned, CanBothBeLearned}
+use Rattle.ndc_shard_workflows.specs.Learnable.{CanBothBeLearned}
 use Rattle.ndc_model_cells.specs.Workflow.{WorkflowValue}
 use Rattle.ndc_shard_workflows.specs.Workflow.{beside, with_written}
 use Rattle.ndc_shard_workflows.specs.Writing.{GoesBehind, GoTogether}

@@ -12,6 +12,7 @@ use Rattle.ndc_model_sets.specs.Learned.{has_key, learned}
 use Rattle.ndc_model_sets.specs.Sets.{arrived, earlier}
 use Rattle.ndc_model_sets.specs.Sound.{IsSound}
 use Rattle.ndc_model_sets.proofs.Lists.{filter-cases}
+use Rattle.ndc_model_sets.proofs.SoundLemmas.{nothing_is_sound}
 use Rattle.ndc_shard_waiting.specs.Learning.{with_message, with_messages}
 use Rattle.ndc_shard_waiting.specs.Waiting.{put_off, freed, still_put_off}
 use Rattle.ndc_model_cells.specs.Messages.{IsMessage, IsNewTo}
@@ -21,7 +22,6 @@ use Rattle.ndc_shard_workflows.proofs.FreedLemmas.{freed-with, still-put-off}
 use Rattle.ndc_shard_workflows.proofs.PutOffLemmas.{beside-is, put-off-beside, put-off-with}
 use Rattle.ndc_shard_workflows.proofs.OneWriteLemmas.{CanBeWritten, put-off-still, written-is, written-learned}
 use Rattle.ndc_shard_workflows.specs.Workflows.{IsOwn, workflow_or_empty}
-use Rattle.ndc_shard_runs.proofs.ExampleLemmas.{empty-sound}
 
 -- of three lists, by two tests
 all-cases : {X : Type 0} (P : X → Type 0) (s t : Bool) (one two three : List X) → AllByRecursion P one → AllByRecursion P two → AllByRecursion P three
@@ -59,7 +59,7 @@ empty-is = beside-is [] [] (record {
 })
 
 pub empty-own : (domain workflow : Name) → IsOwn domain workflow empty_workflow
-empty-own domain workflow = record { is = empty-is; sound = empty-sound; arrived = tt; waiting = tt }
+empty-own domain workflow = record { is = empty-is; sound = nothing_is_sound; arrived = tt; waiting = tt }
 
 pub own-or-empty : (domain workflow : Name) (o : Option WorkflowValue) → IfSome o (IsOwn domain workflow) → IsOwn domain workflow (workflow_or_empty o)
 own-or-empty domain workflow None own = empty-own domain workflow

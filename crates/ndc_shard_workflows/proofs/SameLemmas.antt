@@ -1,9 +1,6 @@
 -- Two lists in order of place that are alike by workflow are equal.
 use Rattle.std.proofs.Common.{◌≡◌, Bool, true, false, List, [], ◌∷◌, inl, inr, cond, map, refl, sym, ◌∙◌, subst, ap, true≢false}
 use Rattle.std.specs.List.{filter}
-use Rattle.std.specs.Str.{bytes_eq}
-use Rattle.std.proofs.lemmas.Bool.{and_parts, and_from}
-use Rattle.std.proofs.lemmas.Slice.Eq.{bytes_eq-Decides}
 pub use Rattle.ndc_model_cells.proofs.NameLemmas.{names-of, of-names}
 use Rattle.ndc_model_cells.specs.declared.place.Place.{Place}
 use Rattle.ndc_model_cells.specs.Places.{AreInOrder, is_of, place_lt, place_of}

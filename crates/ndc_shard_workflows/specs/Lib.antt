@@ -7,7 +7,6 @@ pub mod Messages
 pub mod Named
 pub mod Reading
 pub mod Reapplied
-pub mod Worked
 pub mod Workflow
 pub mod WorkflowFields
 pub mod Workflows

@@ -1,21 +1,30 @@
-ghost use Rattle.std.specs.Prelude.{◌≤◌, ◌^◌, All, IfOk};
+ghost use Rattle.std.specs.Prelude.{◌≡◌, ◌≤◌, ◌^◌, All, IfOk, None};
+ghost use Rattle.ndc_event.specs.Batch.{fault_of};
 
 use ndc_event::{Batch, BatchKey, Name};
 use ndc_history::Item;
 use ndc_text::read_batch;
 use std::alloc::{AllocError, Global};
 
+/// Marks the counters of these tests.
+pub(crate) struct Test;
+
 /// The text of the first batch of a run.
-pub(crate) const STARTED: &str =
+pub(crate) const FIRST: &str =
     "{\"domain\":\"alpha\",\"events\":[{\"eventId\":1,\"eventType\":\"WorkflowExecutionStarted\",\"version\":1,\"workflowType\":\"order\"},{\"eventId\":2,\"eventType\":\"DecisionTaskScheduled\",\"version\":1}],\"parent\":null,\"run\":\"00000000-0000-0001-0000-000000000001\",\"task\":1,\"version\":1,\"workflow\":\"w1\"}";
 
 /// The text of one with a signal, behind it.
-pub(crate) const SIGNALED: &str =
+pub(crate) const SECOND: &str =
     "{\"domain\":\"alpha\",\"events\":[{\"eventId\":3,\"eventType\":\"WorkflowExecutionSignaled\",\"input\":\"x\",\"signalName\":\"ping\",\"version\":1}],\"parent\":{\"task\":1,\"version\":1},\"run\":\"00000000-0000-0001-0000-000000000001\",\"task\":2,\"version\":1,\"workflow\":\"w1\"}";
+
+/// The text of another one, of a greater version.
+pub(crate) const OTHER: &str =
+    "{\"domain\":\"alpha\",\"events\":[{\"eventId\":3,\"eventType\":\"WorkflowExecutionSignaled\",\"input\":\"y\",\"signalName\":\"pong\",\"version\":2}],\"parent\":{\"task\":1,\"version\":1},\"run\":\"00000000-0000-0001-0000-000000000001\",\"task\":2,\"version\":2,\"workflow\":\"w1\"}";
 
 /// The batch of a text, where its ids are small.
 pub(crate) fn batch(alloc: Global, text: &str) -> Result<Batch, AllocError>
-    ensures { IfOk result (λ batch. All (λ event. event.id ≤ 10 ^ 12) batch.events) }
+    ensures faultless { IfOk result (λ batch. fault_of batch ≡ None) }
+    ensures ids { IfOk result (λ batch. All (λ event. event.id ≤ 10 ^ 12) batch.events) }
 {
     let batch = read_batch(alloc, text.as_bytes()).map_err(|_| AllocError)?;
     let is_small = batch

@@ -1,14 +1,11 @@
 ghost use Rattle.std.specs.Prelude.{◌≡◌, ◌≤◌, ◌^◌, All, IfOk};
 
-use crate::given::name;
+use crate::given::{Test, name};
 use ndc_event::{Batch, BatchKey, Event, EventKind, Events, Name, RunId};
 use ndc_rebuild::{Checkpoints, rebuild};
 use ndc_state::{State, StateError, Steps};
 use std::alloc::{AllocError, Global};
 use std::test::Fail;
-
-// Marks the counters of these tests.
-struct Test;
 
 const RUN: RunId = RunId {
     value: 18446744073709551617,

@@ -1,13 +1,10 @@
 ghost use Rattle.std.specs.Prelude.{◌≤◌, ◌^◌, All};
 
-use crate::given::batch;
+use crate::given::{Test, batch};
 use ndc_event::{Batch, Event};
 use ndc_state::{State, StateError, Steps};
 use std::alloc::{AllocError, Global};
 use std::test::Fail;
-
-// Marks the counters of these tests.
-struct Test;
 
 // A run with a signal, three activities, a timer and a child.
 const FIRST: &str =

@@ -1,32 +1,12 @@
-use crate::given::{ListCell, name, two_clusters};
+use crate::given::{ListCell, two_clusters};
 use ndc_cluster::Cluster;
 use ndc_cluster_rounds::{Cell, Home};
-use ndc_domain::{ClusterNo, Members};
+use ndc_domain::ClusterNo;
 use ndc_model_cells::ShardJob;
 use ndc_port::OpenGate;
 use std::test::Fail;
 
 const A: ClusterNo = ClusterNo { number: 0 };
-
-#[test]
-fn a_cluster_lends_its_records(rt: HostRuntime) -> Result<(), Fail> {
-    let alloc = rt.alloc();
-    let clusters = two_clusters(alloc)?;
-    let home = Home {
-        clusters: &clusters,
-        me: A,
-        limit: 100,
-    };
-    let mut cluster = Cluster::<ListCell>::new(alloc, &home, 1)?;
-    let alpha = name(alloc, "alpha")?;
-    let members = Members::of(&[A]);
-    cluster
-        .table()
-        .register(&clusters, A, &alpha, A, 7, members)?;
-    assert_eq!(rt; cluster.records().records().len(), 1);
-    assert_eq!(rt; cluster.cells().len(), 1);
-    Ok(())
-}
 
 #[test]
 fn a_round_without_a_job_has_no_reply(rt: HostRuntime) -> Result<(), Fail> {

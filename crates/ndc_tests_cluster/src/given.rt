@@ -1,43 +1,13 @@
 use ndc_cluster_rounds::{Cell, Desk, Home};
-use ndc_domain::{ClusterNo, Clusters, DomainTable, Members};
+use ndc_domain::Clusters;
 use ndc_event::{BatchKey, Name};
-use ndc_history::VersionHistory;
 use ndc_model_cells::{Job, JobReply, Message};
-use ndc_text::read_batch;
 use std::alloc::{AllocError, Global};
 use std::test::Fail;
-
-// The text of a batch of alpha.
-const STARTED: &str =
-    "{\"domain\":\"alpha\",\"events\":[{\"eventId\":1,\"eventType\":\"WorkflowExecutionStarted\",\"version\":1,\"workflowType\":\"order\"},{\"eventId\":2,\"eventType\":\"DecisionTaskScheduled\",\"version\":1}],\"parent\":null,\"run\":\"00000000-0000-0001-0000-000000000001\",\"task\":1,\"version\":1,\"workflow\":\"w1\"}";
 
 /// A name.
 pub(crate) fn name(alloc: Global, text: &str) -> Result<Name, AllocError> {
     Name::new(alloc, text.as_bytes()).map_err(|_| AllocError)
-}
-
-/// The message of a batch of alpha.
-pub(crate) fn message(alloc: Global) -> Result<Message, AllocError> {
-    Ok(Message {
-        batch: read_batch(alloc, STARTED.as_bytes()).map_err(|_| AllocError)?,
-        history: VersionHistory::new(alloc),
-        second: None,
-    })
-}
-
-/// A table with a record of alpha that names these clusters of two.
-pub(crate) fn table_naming(alloc: Global, members: &[ClusterNo]) -> Result<DomainTable, Fail> {
-    let clusters = two_clusters(alloc)?;
-    let mut table = DomainTable::new(alloc);
-    let alpha = name(alloc, "alpha")?;
-    let first = ClusterNo { number: 0 };
-    if members
-        .iter()
-        .all(|member| member.number < clusters.count())
-    {
-        table.register(&clusters, first, &alpha, first, 7, Members::of(members))?;
-    }
-    Ok(table)
 }
 
 /// A cell that has written some messages and learned nothing, and finds no memory for any job.

@@ -1,15 +1,11 @@
-//! Tests of links, clusters, the replication, answers and dumps: each call that takes memory, and faults.
+//! Tests of rounds and clusters: workers at gates, want of memory, and a round with nothing to do.
 #![tactic(auto)]
 
 #[cfg(test)]
-mod answers;
-#[cfg(test)]
 mod clusters;
-#[cfg(test)]
-mod dump;
 #[cfg(test)]
 mod given;
 #[cfg(test)]
-mod links;
-#[cfg(test)]
 mod replication;
+#[cfg(test)]
+mod rounds;

@@ -4,12 +4,11 @@ ghost use Rattle.ndc_model.specs.Sometime.{IsReachedSometime};
 ghost use Rattle.ndc_model.specs.Facts.{IsReached};
 ghost use Rattle.ndc_world_replication.specs.Orderly.{IsOrderly};
 
-use crate::given::{ListCell, name};
+use crate::given::ListCell;
 use ndc_cluster_reads::Reads;
 use ndc_cluster_rounds::Cell;
-use ndc_domain::{ClusterNo, Clusters, Members};
+use ndc_domain::{ClusterNo, Clusters};
 use ndc_event::{BatchKey, Name};
-use ndc_graceful::{Handover, Places};
 use ndc_model_cells::{Message, Place};
 use ndc_port::OpenGate;
 use ndc_resend::GapOf;
@@ -92,33 +91,6 @@ fn in_the_beginning(alloc: Global) -> Result<Opened, Fail>
 }
 
 #[test]
-fn nothing_is_pulled_in_the_beginning(rt: HostRuntime) -> Result<(), Fail> {
-    let alloc = rt.alloc();
-    let Opened {
-        header,
-        mut replication,
-    } = in_the_beginning(alloc)?;
-    let reader = ClusterNo { number: 0 };
-    let source = ClusterNo { number: 1 };
-    assert!(rt; replication.pull(&header, reader, source)? == 0);
-    Ok(())
-}
-
-#[test]
-fn nothing_arrives_in_the_beginning(rt: HostRuntime) -> Result<(), Fail> {
-    let alloc = rt.alloc();
-    let Opened {
-        header,
-        mut replication,
-    } = in_the_beginning(alloc)?;
-    let reader = ClusterNo { number: 0 };
-    let done = replication.arrive(&rt, alloc, &OpenGate {}, 2, &header, reader)?;
-    assert!(rt; done.jobs.is_empty() && done.replies.is_empty());
-    assert!(rt; replication.publishers().len() == 2);
-    Ok(())
-}
-
-#[test]
 fn a_cluster_without_memory_reapplies_nothing(rt: HostRuntime) -> Result<(), Fail> {
     let alloc = rt.alloc();
     let Opened {
@@ -131,36 +103,5 @@ fn a_cluster_without_memory_reapplies_nothing(rt: HostRuntime) -> Result<(), Fai
             .reapply(&rt, alloc, &OpenGate {}, 2, &header, cluster)
             .is_err()
     );
-    Ok(())
-}
-
-/// A handover of alpha.
-fn handover(alloc: Global) -> Result<Handover, AllocError> {
-    Ok(Handover {
-        domain: name(alloc, "alpha")?,
-        from: ClusterNo { number: 0 },
-        to: ClusterNo { number: 1 },
-        old: 1,
-        new: 2,
-        places: Places::new(Vec::new(alloc)),
-    })
-}
-
-#[test]
-fn a_domain_is_registered_and_a_handover_opened(rt: HostRuntime) -> Result<(), Fail> {
-    let alloc = rt.alloc();
-    let Opened {
-        header,
-        mut replication,
-    } = in_the_beginning(alloc)?;
-    let source = ClusterNo { number: 0 };
-    let alpha = name(alloc, "alpha")?;
-    let members = Members::of(&[source]);
-    assert_eq!(rt;
-        replication.register(&header, source, &alpha, source, 7, members)?,
-        1
-    );
-    replication.open_handover(handover(alloc)?)?;
-    assert_eq!(rt; replication.handovers().len(), 1);
     Ok(())
 }

@@ -1,14 +1,14 @@
 -- Where a reader is a member late of no domain, bootstraps renew its levels, and once is as good as many times.
-use Rattle.std.proofs.Common.{◌≡◌, ◌+◌, ◌≤◌, ℕ, zero, suc, Bool, true, false, ◌&&◌, List, [], ◌∷◌, ◌++◌, Option, Some, None, find, length, map, drop, max, cond, if◌then◌else◌, ◌==◌, true≢false, refl, ap, sym, subst, ◌∙◌, arith}
+use Rattle.std.proofs.Common.{◌≡◌, ◌+◌, ℕ, zero, suc, Bool, true, false, ◌&&◌, List, [], ◌∷◌, ◌++◌, find, length, map, drop, cond, ◌==◌, true≢false, refl, ap, sym, ◌∙◌, arith}
 use Rattle.std.proofs.lemmas.Bool.{eqb-true}
 use Rattle.std.proofs.lemmas.List.{append-nil}
-use Rattle.std.specs.List.{AllByRecursion, fold, prefix_len}
+use Rattle.std.specs.List.{fold, prefix_len}
 use Rattle.ndc_domain.specs.declared.clusters.ClusterNo.{ClusterNo}
-use Rattle.ndc_model.specs.Moves.{Note, Trace, bootstrapped, jobs_done, map_from, notes_of, renewed, renewed_lane, renewed_link}
-use Rattle.ndc_model.specs.Queues.{Lane, after_renewal, needs_nothing, renewed_done}
+use Rattle.ndc_model.specs.Moves.{Trace, bootstrapped, jobs_done, map_from, notes_of, renewed, renewed_lane, renewed_link}
+use Rattle.ndc_model.specs.Queues.{Lane, after_renewal, needs_nothing}
 use Rattle.ndc_model.specs.World.{Link, World, cell_at, changed_first, cluster_at, home_at, is_link, link_at, link_found, queue_at, shards_of, with_link}
 use Rattle.ndc_model_cells.specs.Cells.{Cell}
-use Rattle.ndc_model_cells.specs.Jobs.{cell_for, replies_to}
+use Rattle.ndc_model_cells.specs.Jobs.{replies_to}
 use Rattle.ndc_model_cells.specs.Writing.{same_cluster}
 use Rattle.ndc_model_cells.specs.declared.job.ShardJob.{ShardJob}
 use Rattle.ndc_model_cells.specs.declared.message.Message.{Message}

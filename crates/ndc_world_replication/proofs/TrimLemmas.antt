@@ -17,7 +17,7 @@ use Rattle.ndc_cluster_links.proofs.RestLemmas.{len_kept, rest_there}
 use Rattle.ndc_cluster_links.specs.Rest.{AreRests}
 use Rattle.ndc_model.proofs.ListLemmas.{length-map_from}
 use Rattle.ndc_model.specs.Moves.{done_levels, map_from, trimmed_all, trimmed_level}
-use Rattle.ndc_model.specs.World.{Cluster, Link, World, cluster_at, lane_in, new_cluster, shards_of, trimmed_at}
+use Rattle.ndc_model.specs.World.{Cluster, Link, World, cluster_at, lane_in, shards_of, trimmed_at}
 use Rattle.ndc_model.specs.World as world
 use Rattle.ndc_queue.specs.Levels.{trim_level}
 use Rattle.ndc_queue.specs.Queues.{QueueValue, queue_len}

@@ -1,9 +1,9 @@
 -- A member that may not join.
-use Rattle.std.proofs.Common.{◌≡◌, List, Result, Ok, Err, ap, sym, ◌∙◌, refl}
+use Rattle.std.proofs.Common.{◌≡◌, List, Result, Ok, Err, ap}
 use Rattle.ndc_domain.specs.declared.clusters.ClusterNo.{ClusterNo}
 use Rattle.ndc_domain.specs.declared.record.DomainRecord.{DomainRecord}
 use Rattle.ndc_domain.specs.declared.record.JoinError.{JoinError}
-use Rattle.ndc_model.specs.Steps.{Stepped, answered}
+use Rattle.ndc_model.specs.Steps.{answered}
 use Rattle.ndc_model.specs.Tables.{join_step, join_words}
 use Rattle.ndc_model.specs.Texts.{refused}
 use Rattle.ndc_model.specs.World.{World}

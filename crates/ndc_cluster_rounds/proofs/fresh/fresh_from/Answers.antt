@@ -1,5 +1,5 @@
 use Rattle.ndc_cluster_rounds.proofs.RoundLemmas.{sent_more}
-use Rattle.std.proofs.Common.{◌≡◌, ◌<◌, length, subst, arith}
+use Rattle.std.proofs.Common.{arith}
 use Rattle.ndc_cluster_rounds.proofs.fresh.fresh_from.Goals as goal
 
 pub loop-place-preserved : goal.loop-place-preserved

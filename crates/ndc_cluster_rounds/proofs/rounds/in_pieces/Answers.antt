@@ -2,7 +2,7 @@ use Rattle.std.proofs.Common.{map, refl, ap, sym, subst, ◌∙◌}
 use Rattle.std.specs.List.{AllByRecursion}
 use Rattle.std.specs.Option.{option_map}
 use Rattle.std.proofs.lemmas.List.{length-map}
-use Rattle.ndc_cluster_rounds.specs.Rounds.{AreFresh, LeftValue, SlotMay, dealt}
+use Rattle.ndc_cluster_rounds.specs.Rounds.{LeftValue, SlotMay, dealt}
 use Rattle.ndc_cluster_rounds.proofs.DealLemmas.{AreBelow, slots_may}
 use Rattle.ndc_cluster_rounds.proofs.WholeLemmas.{found_is, fresh_moved, left_part, none_found, ready_all, slots_cells, slots_fresh, slots_many, slots_replies, whole_done}
 use Rattle.ndc_cluster_rounds.proofs.rounds.in_pieces.Goals as goal

@@ -1,4 +1,4 @@
-use Rattle.std.proofs.Common.{sym, ◌∙◌}
+use Rattle.std.proofs.Common.{sym}
 use Rattle.ndc_shard_entries.proofs.AgainLemmas.{applied_below}
 use Rattle.ndc_shard_entries.proofs.reapplication.reapplication_entry.Goals as goal
 

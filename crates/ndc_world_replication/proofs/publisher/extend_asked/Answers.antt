@@ -1,5 +1,4 @@
-use Rattle.std.proofs.Common.{◌≡◌, ◌<◌, ◌+◌, ℕ, List, [], ◌∷◌, drop, length, map, set, ap, refl, sym, subst, ◌∙◌, arith}
-use Rattle.std.proofs.Math.Seq.{map-set_same}
+use Rattle.std.proofs.Common.{◌≡◌, ◌<◌, ◌+◌, ℕ, List, ◌∷◌, drop, length, map, ap, refl, sym, subst, ◌∙◌, arith}
 use Rattle.std.proofs.lemmas.List.{at_drop_more, length-set}
 use Rattle.ndc_model_cells.specs.Cells.{Cell}
 use Rattle.ndc_model_cells.specs.Jobs.{cell_for}
@@ -8,7 +7,6 @@ use Rattle.ndc_model_cells.specs.declared.message.Message.{Message}
 use Rattle.ndc_cluster_links.proofs.QueueLemmas.{all_at}
 use Rattle.ndc_cluster_links.proofs.RestLemmas.{cell_there}
 use Rattle.ndc_cluster_links.specs.Rest.{IsRestOf, queue_at}
-use Rattle.ndc_queue.specs.Queues.{QueueValue}
 use Rattle.ndc_world_replication.proofs.GrowLemmas.{firsts_then, fronts_then, rests_then}
 use Rattle.ndc_world_replication.specs.Publishers.{AreRestsBut}
 use Rattle.ndc_world_replication.proofs.publisher.extend_asked.Goals as goal

@@ -1,4 +1,4 @@
-use Rattle.std.proofs.Common.{◌≡◌, List, length, map, take, ap, sym, subst, ◌∙◌, arith, IfOk}
+use Rattle.std.proofs.Common.{◌≡◌, List, map, take, ap, sym, subst, ◌∙◌, arith, IfOk}
 use Rattle.std.proofs.lemmas.List.{take_all}
 use Rattle.std.specs.List.{range_with_len}
 use Rattle.ndc_model.specs.Moves.{all_arrive, by_link, in_flight}

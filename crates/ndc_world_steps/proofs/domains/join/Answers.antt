@@ -1,8 +1,7 @@
-use Rattle.std.proofs.Common.{◌≡◌, ℕ, List, Result, Ok, Err, ap, subst, ◌∙◌}
+use Rattle.std.proofs.Common.{◌≡◌, ℕ, List, Err, ap, subst, ◌∙◌}
 use Rattle.std.specs.Prelude.{OnErr}
 use Rattle.ndc_domain.specs.Outcome.{Answers}
 use Rattle.ndc_domain.specs.Records.{join_of}
-use Rattle.ndc_domain.specs.declared.record.JoinError.{JoinError}
 use Rattle.ndc_model.specs.World.{World, cluster_at}
 use Rattle.ndc_world_replication.specs.Tables.{table_left}
 use Rattle.ndc_world_steps.proofs.JoinLemmas.{join_refuses}

@@ -1,4 +1,4 @@
-use Rattle.std.proofs.Common.{◌≡◌, List, Ok, [], ap, refl, slice_index_or, subst, sym}
+use Rattle.std.proofs.Common.{List, Ok, [], ap, refl, slice_index_or, subst, sym}
 use Rattle.ndc_model.specs.Progress.{beat_step}
 use Rattle.ndc_model.specs.Reporting.{told_by}
 use Rattle.ndc_model.specs.Standing.{IsLeftBy}

@@ -1,6 +1,5 @@
 use Rattle.std.proofs.Common.{◌≡◌, ◌++◌, [], ◌∷◌, List, Some, ap, ◌∙◌, subst, sym}
 use Rattle.ndc_event.specs.declared.batch.Batch.{Batch}
-use Rattle.ndc_model_cells.specs.Cells.{Cell}
 use Rattle.ndc_model_cells.specs.Messages.{carrying}
 use Rattle.ndc_model_cells.specs.Places.{place_of}
 use Rattle.ndc_model_cells.specs.Workflow.{workflow_of}

@@ -1,5 +1,5 @@
-use Rattle.std.proofs.Common.{◌≡◌, ◌<◌, ◌++◌, drop, length, map}
-use Rattle.std.specs.List.{AllByRecursion, flat_map}
+use Rattle.std.proofs.Common.{◌≡◌, ◌++◌, drop, map}
+use Rattle.std.specs.List.{flat_map}
 use Rattle.ndc_model.specs.Moves.{arrives, due}
 use Rattle.ndc_world_replication.specs.Places.{links_at}
 use Rattle.ndc_world_replication.proofs.replication.Replication.add_due.Given as goal

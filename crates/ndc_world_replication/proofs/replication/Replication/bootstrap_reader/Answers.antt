@@ -1,6 +1,6 @@
 use Rattle.std.proofs.Common.{refl, sym, subst, ap, ◌≡◌, ◌∙◌, arith}
-use Rattle.ndc_model.specs.World.{Link, World}
-use Rattle.ndc_world_replication.proofs.OnTimeLemmas.{on_time_none, on_time_some}
+use Rattle.ndc_model.specs.World.{World}
+use Rattle.ndc_world_replication.proofs.OnTimeLemmas.{on_time_some}
 use Rattle.ndc_world_replication.specs.OnTime.{IsOnTime}
 use Rattle.std.specs.List.{fold}
 use Rattle.ndc_model.specs.Moves.{bootstrapped, from_world}

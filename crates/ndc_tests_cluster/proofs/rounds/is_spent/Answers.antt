@@ -4,7 +4,7 @@ use Rattle.ndc_model_cells.specs.Conditions.{AreAllowed}
 use Rattle.ndc_model_cells.specs.Jobs.{cells_behind}
 use Rattle.ndc_model_cells.specs.Writing.{Desk}
 use Rattle.ndc_model_cells.specs.declared.job.ShardJob.{ShardJob}
-use Rattle.ndc_tests_workflow.proofs.rounds.is_spent.Goals as goal
+use Rattle.ndc_tests_cluster.proofs.rounds.is_spent.Goals as goal
 
 -- cells that ask for nothing may do any jobs
 any-allowed : (home : Desk) (jobs : List ShardJob) (cells : List Cell) → AreAllowed (λ _ _ _. Unit {0}) home jobs cells

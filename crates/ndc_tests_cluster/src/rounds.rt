@@ -1,62 +1,16 @@
 ghost use Rattle.std.specs.List.{AllByRecursion};
 ghost use Rattle.std.specs.Prelude.{◌≡◌, ◌<◌, ◌≤◌, length, IfOk};
 
-use ndc_cluster_rounds::{Cell, Desk, Home, round};
+use crate::given::ListCell;
+use ndc_cluster_rounds::{Cell, Desk, round};
 use ndc_domain::{ClusterNo, Clusters, DomainTable};
-use ndc_event::{BatchKey, Name};
-use ndc_model_cells::Message;
+use ndc_event::Name;
+use ndc_model_cells::{Job, ShardJob};
 use ndc_port::{Gate, OpenGate, PairGate};
-use ndc_shard::{Job, JobReply, ShardJob};
 use std::alloc::{AllocError, Global};
 use std::sync::atomic::{AtomicBool, Ordering};
 use std::test::Fail;
 use std::thread::Threads;
-
-/// A cell that has learned nothing and finds no memory for any job.
-#[derive(Drop)]
-struct FullCell {
-    written: Vec<Message>,
-}
-
-impl Cell for FullCell {
-    ghost use Rattle.ndc_model_cells.specs.Cells.{empty_cell};
-
-    ghost cell = { λ full. record empty_cell { written = full.written.items } };
-
-    ghost allows = { λ _ _ _. Unit {0} };
-
-    ghost may = { λ _ _ _ _. tt };
-
-    fn new(alloc: Global, _home: &Home) -> Result<FullCell, AllocError> {
-        Ok(FullCell {
-            written: Vec::new(alloc),
-        })
-    }
-
-    fn is_idle(&self, _desk: &Desk) -> bool {
-        false
-    }
-
-    fn has_learned(&self, _domain: &Name, _workflow: &Name, _key: BatchKey) -> bool {
-        false
-    }
-
-    fn written_len(&self) -> u64 {
-        self.written.len() as u64
-    }
-
-    fn written_at(&self, _place: u64) -> Result<Message, AllocError> {
-        Err(AllocError)
-    }
-
-    fn learned_of(&self, alloc: Global, _domains: &[Name]) -> Result<Vec<Message>, AllocError> {
-        Ok(Vec::new(alloc))
-    }
-
-    fn do_job(&mut self, _desk: &Desk, _job: &Job) -> Result<JobReply, AllocError> {
-        Err(AllocError)
-    }
-}
 
 /// A gate that holds worker 1 until worker 0 has entered, for a bounded number of turns.
 #[derive(Drop)]
@@ -122,14 +76,14 @@ impl Gate for FalseGate {
 }
 
 /// Two cells without memory.
-fn two_cells(alloc: Global) -> Result<Vec<FullCell>, AllocError>
+fn two_cells(alloc: Global) -> Result<Vec<ListCell>, AllocError>
     ensures { IfOk result (λ cells. length cells.items ≡ 2) }
 {
     let mut cells = Vec::new(alloc);
-    cells.push(FullCell {
+    cells.push(ListCell {
         written: Vec::new(alloc),
     })?;
-    cells.push(FullCell {
+    cells.push(ListCell {
         written: Vec::new(alloc),
     })?;
     Ok(cells)

@@ -1,4 +1,4 @@
-use crate::worked::{FIRST, OTHER, SECOND, Test, key_of, read};
+use crate::given::{FIRST, OTHER, SECOND, Test, batch, key};
 use ndc_event::RunId;
 use ndc_run::{Learned, Run, RunError};
 use ndc_state::Steps;
@@ -7,10 +7,10 @@ use std::test::Fail;
 
 // A run that goes on with its third batch, and what became of that one.
 fn switched(alloc: Global, steps: &mut Steps<Test>) -> Result<(Run, Learned), RunError> {
-    let mut run = Run::new(alloc, RunId::of(key_of(1, 1)));
-    run.learn(alloc, &read(alloc, FIRST)?, steps)?;
-    run.learn(alloc, &read(alloc, SECOND)?, steps)?;
-    let learned = run.learn(alloc, &read(alloc, OTHER)?, steps)?;
+    let mut run = Run::new(alloc, RunId::of(key(1, 1)));
+    run.learn(alloc, &batch(alloc, FIRST)?, steps)?;
+    run.learn(alloc, &batch(alloc, SECOND)?, steps)?;
+    let learned = run.learn(alloc, &batch(alloc, OTHER)?, steps)?;
     Ok((run, learned))
 }
 
@@ -20,8 +20,8 @@ fn a_run_switches_to_a_greater_version(rt: HostRuntime) -> Result<(), Fail> {
     let mut steps: Steps<Test> = Steps::new();
     let (run, learned) = switched(alloc, &mut steps)?;
     assert_eq!(rt; learned, Learned::New { switched: true });
-    assert_eq!(rt; run.tip(), Some(key_of(2, 2)));
-    let losing = run.state_of(alloc, key_of(1, 2), &mut steps)?;
+    assert_eq!(rt; run.tip(), Some(key(2, 2)));
+    let losing = run.state_of(alloc, key(1, 2), &mut steps)?;
     assert_eq!(rt;
         losing.map(|state| (state.next(), state.signals())),
         Some((4, 1))

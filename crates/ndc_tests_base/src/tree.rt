@@ -1,4 +1,4 @@
-use crate::worked::{FIRST, OTHER, SECOND, key_of, read};
+use crate::given::{FIRST, OTHER, SECOND, batch, item, key};
 use ndc_event::{BatchKey, RunId};
 use ndc_history::Item;
 use ndc_tree::{Inserted, Tree, TreeError};
@@ -7,10 +7,10 @@ use std::test::Fail;
 
 // A run of three batches, of which the third forks off behind the first, and what became of that one.
 fn forked(alloc: Global) -> Result<(Tree, Inserted), TreeError> {
-    let mut tree = Tree::new(alloc, RunId::of(key_of(1, 1)));
-    tree.insert(&read(alloc, FIRST)?)?;
-    tree.insert(&read(alloc, SECOND)?)?;
-    let inserted = tree.insert(&read(alloc, OTHER)?)?;
+    let mut tree = Tree::new(alloc, RunId::of(key(1, 1)));
+    tree.insert(&batch(alloc, FIRST)?)?;
+    tree.insert(&batch(alloc, SECOND)?)?;
+    let inserted = tree.insert(&batch(alloc, OTHER)?)?;
     Ok((tree, inserted))
 }
 
@@ -34,8 +34,8 @@ fn path(tree: &Tree, alloc: Global, tip: BatchKey) -> Result<Vec<BatchKey>, Allo
 fn a_branch_forks_off(rt: HostRuntime) -> Result<(), Fail> {
     let alloc = rt.alloc();
     let (tree, inserted) = forked(alloc)?;
-    let (first, second, branch) = (key_of(1, 1), key_of(1, 2), key_of(2, 2));
-    let (at, end) = (Item { id: 2, version: 1 }, Item { id: 3, version: 2 });
+    let (first, second, branch) = (key(1, 1), key(1, 2), key(2, 2));
+    let (at, end) = (item(2, 1), item(3, 2));
     assert_eq!(rt; inserted, Inserted::Forked { branch, at });
     assert_eq!(rt;
         tree.branches(alloc)?.as_slice(),
