@@ -1,4 +1,4 @@
--- Dumps without the lines of their view: the heading and the batches alone.
+-- Dumps that are read of the heading and the batches alone.
 use Rattle.std.specs.Prelude.{ℕ, ◌+◌, List, [], ◌++◌, length, codes, None, Result, Ok}
 use Rattle.std.specs.List.{flat_map}
 use Rattle.ndc_event.specs.Outcome.{◌>>=◌}
@@ -14,10 +14,6 @@ use Rattle.ndc_dump.specs.Lines.{differ_at, lines_of}
 use Rattle.ndc_dump.specs.Migrated.{standing_for}
 use Rattle.ndc_dump.specs.Read.{dump_with, shown_or}
 use Rattle.ndc_dump.specs.declared.dump.Dump.{Dump}
-
--- the heading and the batches of a workflow, a line each
-abbrev pub bare_text : Name → Name → List Batch → List ℕ
-bare_text domain workflow batches = codes "dump 2 " ++ domain ++ codes " " ++ workflow ++ codes "\n" ++ flat_map (λ b. batch_text b ++ codes "\n") batches
 
 -- the dump whose heading and batches these lines are, with no line behind them
 unfoldable pub bare_dump_on : List (List ℕ) → Result Dump DumpError

@@ -18,6 +18,6 @@ pub mod worked_dumps;
 pub use bare::read_bare_dump;
 pub use dump::Dump;
 pub use ndc_dump_causes::{DumpError, KeyCause, LineCause};
-pub use ndc_dump_show::dump_text;
+pub use ndc_dump_show::{bare_text, dump_text};
 pub use read::read_dump;
 pub use tree::tree_text;

@@ -4,4 +4,4 @@
 pub mod line;
 pub mod print;
 
-pub use print::dump_text;
+pub use print::{bare_text, dump_text};

@@ -1,5 +1,6 @@
-ghost use Rattle.std.specs.Prelude.{◌≡◌, ◌++◌, codes, OnOk, IfOk};
+ghost use Rattle.std.specs.Prelude.{◌≡◌, ◌++◌, codes, map, OnOk, IfOk};
 ghost use Rattle.std.specs.List.{flat_map};
+ghost use Rattle.ndc_dump_show.specs.Bare.{bare_text};
 ghost use Rattle.ndc_text.specs.Text.{batch_text};
 ghost use Rattle.ndc_text.specs.Views.{branch_state_lines, run_state_lines, dump_text};
 
@@ -96,5 +97,24 @@ pub fn dump_text(
     push_batches(alloc, &mut text, view.batches.as_slice())?;
     push_runs(alloc, &mut text, view.runs.as_slice())?;
     text.extend_from_slice(b"end\n")?;
+    Ok(text)
+}
+
+/// The dump of batches alone, without the lines of a view: a first line with the domain and the workflow, then a line for
+/// each batch, in the order in which they are given. An engine that knows its batches and nothing else prints so what
+/// `read_bare_dump` of `ndc_dump` reads.
+pub fn bare_text(
+    alloc: Global,
+    domain: &Name,
+    workflow: &Name,
+    batches: &[&Batch],
+) -> Result<Vec<u8>, AllocError>
+    ensures { IfOk result (λ text. text.items ≡ bare_text domain.now workflow.now (map (λ b. b.now) batches.now)) }
+{
+    let mut text = Vec::new(alloc);
+    push_heading(&mut text, b"dump 2 ".as_slice(), domain, workflow)?;
+    for batch in batches {
+        push_batch(alloc, &mut text, batch)?;
+    }
     Ok(text)
 }

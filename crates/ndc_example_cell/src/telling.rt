@@ -1,8 +1,7 @@
 //! What is told, piece by piece.
-ghost use Rattle.std.specs.Prelude.{◌≡◌, ◌++◌, decimal, OnOk};
-
 use ndc_command::Refusal;
 use ndc_dump_show::dump_text;
+use ndc_dump_show::line::{push_key, push_number};
 use ndc_event::{BatchKey, Name};
 use ndc_shard::{Arrived, Shard, Written};
 use ndc_state::Steps;
@@ -11,19 +10,10 @@ use std::alloc::{AllocError, Global};
 /// Marks the counters of steps of what is shown.
 struct Looking;
 
-/// Appends a word and a number behind it.
-fn push_count(text: &mut Vec<u8>, word: &[u8], number: u64) -> Result<(), AllocError>
-    ensures { OnOk result (text.new.items ≡ text.old.items ++ word.now ++ decimal number) }
-{
-    let mut buffer = itoa::Buffer::new();
-    text.extend_from_slice(word)?;
-    text.extend_from_slice(buffer.format(number).as_bytes())
-}
-
 /// Appends a word and a key, and ends the line.
 fn end_with_key(text: &mut Vec<u8>, word: &[u8], key: BatchKey) -> Result<(), AllocError> {
-    push_count(text, word, key.version)?;
-    push_count(text, b".", key.task)?;
+    text.extend_from_slice(word)?;
+    push_key(text, key)?;
     text.extend_from_slice(b"\n")
 }
 
@@ -73,7 +63,8 @@ pub(crate) fn tell_arrived(
 
 /// Tells a count.
 pub(crate) fn tell_count(text: &mut Vec<u8>, what: &[u8], count: usize) -> Result<(), AllocError> {
-    push_count(text, what, count as u64)?;
+    text.extend_from_slice(what)?;
+    push_number(text, count as u64)?;
     text.extend_from_slice(b"\n")
 }
 

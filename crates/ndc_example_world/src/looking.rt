@@ -5,6 +5,7 @@ ghost use Rattle.ndc_script_types.specs.WellFormed.{IsCluster, IsWellFormedHeade
 use crate::telling::{push_answer, push_count};
 use ndc_domain::ClusterNo;
 use ndc_dump::dump_text;
+use ndc_dump_show::line::push_key;
 use ndc_event::{BatchKey, Name};
 use ndc_model_cells::shard_of;
 use ndc_script_types::Header;
@@ -62,8 +63,8 @@ pub(crate) fn tell_learned(
     workflow: &Name,
     key: BatchKey,
 ) -> Result<(), AllocError> {
-    push_count(text, b"it has learned ", key.version)?;
-    push_count(text, b".", key.task)?;
+    text.extend_from_slice(b"it has learned ")?;
+    push_key(text, key)?;
     let is = cell.has_learned(domain, workflow, key);
     push_answer(text, b": ", is)
 }

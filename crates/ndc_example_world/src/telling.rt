@@ -1,16 +1,12 @@
 //! What is told, piece by piece.
-ghost use Rattle.std.specs.Prelude.{◌≡◌, ◌++◌, decimal, OnOk};
-
+use ndc_dump_show::line::push_number;
 use ndc_world::Summary;
 use std::alloc::AllocError;
 
 /// Appends a word and a number behind it.
-pub(crate) fn push_count(text: &mut Vec<u8>, word: &[u8], number: u64) -> Result<(), AllocError>
-    ensures { OnOk result (text.new.items ≡ text.old.items ++ word.now ++ decimal number) }
-{
-    let mut buffer = itoa::Buffer::new();
+pub(crate) fn push_count(text: &mut Vec<u8>, word: &[u8], number: u64) -> Result<(), AllocError> {
     text.extend_from_slice(word)?;
-    text.extend_from_slice(buffer.format(number).as_bytes())
+    push_number(text, number)
 }
 
 /// `yes` or `no`.

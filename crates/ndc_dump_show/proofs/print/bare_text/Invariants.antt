@@ -1,9 +1,9 @@
 use Rattle.std.proofs.Common.{◌≡◌, ◌++◌, codes, drop, map}
 use Rattle.std.specs.List.{flat_map}
-use Rattle.ndc_dump.specs.Bare.{bare_text}
+use Rattle.ndc_dump_show.specs.Bare.{bare_text}
 use Rattle.ndc_event.specs.declared.batch.Batch.{Batch}
 use Rattle.ndc_text.specs.Text.{batch_text}
-use Rattle.ndc_example_world.proofs.dumping.bare_text.Given as goal
+use Rattle.ndc_dump_show.proofs.print.bare_text.Given as goal
 
 -- what is printed, with the lines of the batches that are left, is all of it
 abbrev pub invariant-loop-batch : goal.invariant-loop-batch
