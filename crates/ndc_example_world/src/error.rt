@@ -16,6 +16,8 @@ pub(crate) enum StoryError {
     NoCluster,
     /// The world has run as many lines as it may.
     Full,
+    /// The world is spent.
+    Spent,
     /// Memory is wanting.
     Memory,
 }
@@ -29,6 +31,7 @@ impl StoryError {
             StoryError::Dump => "what was printed is no dump",
             StoryError::NoCluster => "the header has no such cluster",
             StoryError::Full => "the world has run as many lines as it may",
+            StoryError::Spent => "the world is spent",
             StoryError::Memory => "out of memory",
         }
     }

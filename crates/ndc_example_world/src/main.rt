@@ -7,6 +7,7 @@ mod error;
 mod looking;
 mod making;
 mod running;
+mod stage;
 mod story;
 mod telling;
 
