@@ -10,11 +10,22 @@ use ndc_domain::{Clusters, DomainTable, Members};
 use ndc_event::{BatchKey, Name};
 use std::alloc::Global;
 
+/// What a cell is asked. It is let go in one place.
+struct Asked {
+    command: Command,
+}
+
+impl Drop for Asked {
+    fn drop(self) {
+        let Asked { command: _command } = self;
+    }
+}
+
 /// What the cells are asked, and by which records of the domain they write: those of both at first, and those that B has
 /// behind its failover.
 struct Scene {
-    start: Command,
-    signal: Command,
+    start: Asked,
+    signal: Asked,
     records: DomainTable,
     moved: DomainTable,
 }
@@ -75,8 +86,12 @@ fn scene_of(alloc: Global, clusters: &Clusters, domain: &Name) -> Result<Scene, 
     let name = Name::new(alloc, b"paid")?;
     let input = Name::new(alloc, b"now")?;
     Ok(Scene {
-        start: Command::Start { workflow_type },
-        signal: Command::Signal { name, input },
+        start: Asked {
+            command: Command::Start { workflow_type },
+        },
+        signal: Asked {
+            command: Command::Signal { name, input },
+        },
         records,
         moved,
     })
@@ -87,10 +102,10 @@ fn write(
     pair: &mut Pair,
     who: &[u8],
     table: &DomainTable,
-    command: &Command,
+    asked: &Asked,
     text: &mut Vec<u8>,
 ) -> Result<(), StoryError> {
-    let written = pair.write(table, command)?;
+    let written = pair.write(table, &asked.command)?;
     tell_written(text, who, &written)?;
     Ok(())
 }
