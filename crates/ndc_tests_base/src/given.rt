@@ -10,15 +10,15 @@ use std::alloc::{AllocError, Global};
 pub(crate) struct Test;
 
 /// The text of the first batch of a run.
-pub(crate) const FIRST: &str =
+const FIRST: &str =
     "{\"domain\":\"alpha\",\"events\":[{\"eventId\":1,\"eventType\":\"WorkflowExecutionStarted\",\"version\":1,\"workflowType\":\"order\"},{\"eventId\":2,\"eventType\":\"DecisionTaskScheduled\",\"version\":1}],\"parent\":null,\"run\":\"00000000-0000-0001-0000-000000000001\",\"task\":1,\"version\":1,\"workflow\":\"w1\"}";
 
 /// The text of one with a signal, behind it.
-pub(crate) const SECOND: &str =
+const SECOND: &str =
     "{\"domain\":\"alpha\",\"events\":[{\"eventId\":3,\"eventType\":\"WorkflowExecutionSignaled\",\"input\":\"x\",\"signalName\":\"ping\",\"version\":1}],\"parent\":{\"task\":1,\"version\":1},\"run\":\"00000000-0000-0001-0000-000000000001\",\"task\":2,\"version\":1,\"workflow\":\"w1\"}";
 
 /// The text of another one, of a greater version.
-pub(crate) const OTHER: &str =
+const OTHER: &str =
     "{\"domain\":\"alpha\",\"events\":[{\"eventId\":3,\"eventType\":\"WorkflowExecutionSignaled\",\"input\":\"y\",\"signalName\":\"pong\",\"version\":2}],\"parent\":{\"task\":1,\"version\":1},\"run\":\"00000000-0000-0001-0000-000000000001\",\"task\":2,\"version\":2,\"workflow\":\"w1\"}";
 
 /// The batch of a text, where its ids are small.
@@ -33,6 +33,35 @@ pub(crate) fn batch(alloc: Global, text: &str) -> Result<Batch, AllocError>
         .iter()
         .all(|event| event.id <= 1_000_000_000_000);
     if is_small { Ok(batch) } else { Err(AllocError) }
+}
+
+/// The batches of a run that forks: the third goes on behind the first. They are let go in one place.
+pub(crate) struct ForkedRun {
+    pub first: Batch,
+    pub second: Batch,
+    pub other: Batch,
+}
+
+impl Drop for ForkedRun {
+    fn drop(self) {
+        let ForkedRun {
+            first: _first,
+            second: _second,
+            other: _other,
+        } = self;
+    }
+}
+
+/// The batches of a run that forks, without a fault and with small ids.
+pub(crate) fn forked(alloc: Global) -> Result<ForkedRun, AllocError>
+    ensures faultless { IfOk result (λ forked. (fault_of forked.first ≡ None) × (fault_of forked.second ≡ None) × (fault_of forked.other ≡ None)) }
+    ensures ids { IfOk result (λ forked. All (λ event. event.id ≤ 10 ^ 12) forked.first.events × All (λ event. event.id ≤ 10 ^ 12) forked.second.events × All (λ event. event.id ≤ 10 ^ 12) forked.other.events) }
+{
+    Ok(ForkedRun {
+        first: batch(alloc, FIRST)?,
+        second: batch(alloc, SECOND)?,
+        other: batch(alloc, OTHER)?,
+    })
 }
 
 /// A name.

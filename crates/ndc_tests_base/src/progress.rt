@@ -41,24 +41,40 @@ fn tell(alloc: Global, progress: &mut Progress, details: &str) -> Result<Option<
     Ok(Some(progress.tell(activity, 1, name(alloc, details)?)?))
 }
 
-/// Version and beat of a copy of the held report, where there is one.
+/// Version and beat of the held report, where there is one.
 fn held(alloc: Global, progress: &Progress) -> Result<Option<(u64, u64)>, AllocError> {
-    match progress.find(&activity(alloc)?.try_copy()?) {
-        Some(report) => {
-            let copy = report.try_copy()?;
-            Ok(Some((copy.version, copy.beat)))
-        }
+    let activity = activity(alloc)?;
+    match progress.find(&activity) {
+        Some(report) => Ok(Some((report.version, report.beat))),
         None => Ok(None),
+    }
+}
+
+/// What two clusters hold. Both are let go in one place.
+struct Two {
+    one: Progress,
+    other: Progress,
+}
+
+impl Drop for Two {
+    fn drop(self) {
+        let Two {
+            one: _one,
+            other: _other,
+        } = self;
     }
 }
 
 #[test]
 fn what_is_told_is_taken_over(rt: HostRuntime) -> Result<(), Fail> {
     let alloc = rt.alloc();
-    let (mut one, mut two) = (Progress::new(alloc), Progress::new(alloc));
-    assert_eq!(rt; tell(alloc, &mut one, "p10")?, Some(1));
-    assert_eq!(rt; tell(alloc, &mut one, "p20")?, Some(2));
-    assert_eq!(rt; two.merge(&one)?, 1);
-    assert_eq!(rt; held(alloc, &two)?, Some((1, 2)));
+    let mut two = Two {
+        one: Progress::new(alloc),
+        other: Progress::new(alloc),
+    };
+    assert_eq!(rt; tell(alloc, &mut two.one, "p10")?, Some(1));
+    assert_eq!(rt; tell(alloc, &mut two.one, "p20")?, Some(2));
+    assert_eq!(rt; two.other.merge(&two.one)?, 1);
+    assert_eq!(rt; held(alloc, &two.other)?, Some((1, 2)));
     Ok(())
 }

@@ -1,4 +1,4 @@
-use crate::given::{FIRST, OTHER, SECOND, Test, batch, key};
+use crate::given::{Test, forked, key};
 use ndc_event::RunId;
 use ndc_run::{Learned, Run, RunError};
 use ndc_state::Steps;
@@ -7,10 +7,11 @@ use std::test::Fail;
 
 // A run that goes on with its third batch, and what became of that one.
 fn switched(alloc: Global, steps: &mut Steps<Test>) -> Result<(Run, Learned), RunError> {
+    let batches = forked(alloc)?;
     let mut run = Run::new(alloc, RunId::of(key(1, 1)));
-    run.learn(alloc, &batch(alloc, FIRST)?, steps)?;
-    run.learn(alloc, &batch(alloc, SECOND)?, steps)?;
-    let learned = run.learn(alloc, &batch(alloc, OTHER)?, steps)?;
+    run.learn(alloc, &batches.first, steps)?;
+    run.learn(alloc, &batches.second, steps)?;
+    let learned = run.learn(alloc, &batches.other, steps)?;
     Ok((run, learned))
 }
 

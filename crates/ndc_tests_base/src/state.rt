@@ -67,15 +67,28 @@ fn push_after(lines: &mut Vec<u8>, state: &mut State, batch: &Batch) -> Result<(
     Ok(())
 }
 
+// Appends what a state shows behind two batches and between them.
+fn push_all(
+    alloc: Global,
+    first: &Batch,
+    second: &Batch,
+    lines: &mut Vec<u8>,
+) -> Result<(), StateError>
+    requires first { All (λ event. event.id ≤ 10 ^ 12) first.now.events }
+    requires second { All (λ event. event.id ≤ 10 ^ 12) second.now.events }
+{
+    let mut state = state_behind(alloc, first)?;
+    push_marked(lines, &mut state, second)?;
+    push_line(lines, &state)?;
+    push_refilled(lines, &state, first)?;
+    push_after(lines, &mut state, second)
+}
+
 // What a state shows.
 fn shown(alloc: Global) -> Result<Vec<u8>, StateError> {
     let (first, second) = (batch(alloc, FIRST)?, batch(alloc, SECOND)?);
-    let mut state = state_behind(alloc, &first)?;
     let mut lines = Vec::new(alloc);
-    push_marked(&mut lines, &mut state, &second)?;
-    push_line(&mut lines, &state)?;
-    push_refilled(&mut lines, &state, &first)?;
-    push_after(&mut lines, &mut state, &second)?;
+    push_all(alloc, &first, &second, &mut lines)?;
     Ok(lines)
 }
 

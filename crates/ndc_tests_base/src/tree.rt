@@ -1,4 +1,4 @@
-use crate::given::{FIRST, OTHER, SECOND, batch, item, key};
+use crate::given::{self, item, key};
 use ndc_event::{BatchKey, RunId};
 use ndc_history::Item;
 use ndc_tree::{Inserted, Tree, TreeError};
@@ -7,10 +7,11 @@ use std::test::Fail;
 
 // A run of three batches, of which the third forks off behind the first, and what became of that one.
 fn forked(alloc: Global) -> Result<(Tree, Inserted), TreeError> {
+    let batches = given::forked(alloc)?;
     let mut tree = Tree::new(alloc, RunId::of(key(1, 1)));
-    tree.insert(&batch(alloc, FIRST)?)?;
-    tree.insert(&batch(alloc, SECOND)?)?;
-    let inserted = tree.insert(&batch(alloc, OTHER)?)?;
+    tree.insert(&batches.first)?;
+    tree.insert(&batches.second)?;
+    let inserted = tree.insert(&batches.other)?;
     Ok((tree, inserted))
 }
 
