@@ -1,5 +1,5 @@
 -- The words that the program is called with: in which form a dump is told, and the clusters whose names are to be told.
-use Rattle.std.specs.Prelude.{ℕ, ◌==◌, List, [], ◌∷◌, ◌++◌, codes, Option, Some, None, Result, Ok, Err, if◌then◌else◌}
+use Rattle.std.specs.Prelude.{ℕ, ◌==◌, ◌&&◌, List, [], ◌∷◌, ◌++◌, codes, Option, Some, None, Result, Ok, Err, if◌then◌else◌}
 use Rattle.std.specs.List.{slice_split}
 use Rattle.std.specs.Str.{bytes_eq}
 use Rattle.ndc_domain.specs.Clusters.{ClusterList, clusters_of}
@@ -9,7 +9,7 @@ use Rattle.ndc_event.specs.Outcome.{◌>>=◌}
 use Rattle.ndc_event.specs.declared.name.Name.{Name}
 use Rattle.ndc_script_words.specs.Number.{number_of}
 use Rattle.ndc_explain.specs.declared.asked.Form.{Form}
-use Rattle.ndc_explain.specs.declared.asked.Form.TheVariants.{Text}
+use Rattle.ndc_explain.specs.declared.asked.Form.TheVariants.{Text, Picture, TreePicture}
 use Rattle.ndc_explain.specs.declared.asked.Request.{Request}
 use Rattle.ndc_explain.specs.declared.error.WordsError.{WordsError}
 use Rattle.ndc_explain.specs.declared.error.WordsError.TheVariants.{Refused}

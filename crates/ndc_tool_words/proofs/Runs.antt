@@ -20,7 +20,7 @@ use Rattle.ndc_tool_words.specs.Command.{option_rule}
 use Rattle.ndc_tool_words.specs.declared.words.Asked.{Asked}
 use Rattle.ndc_tool_words.proofs.Dashes.{no_value}
 use Rattle.ndc_tool_words.proofs.Pairs.{Pair, each, has-value, name_of, no-more, none-of-each, one-more, options_of, row, value_in}
-use Rattle.ndc_tool_words.proofs.Sorts.{IsNone, alone_text, either-way, held, is_joined, is_option, is_refused, is_value, joined_text, rules, shape, sort}
+use Rattle.ndc_tool_words.proofs.Sorts.{IsNone, IsRefusedBy, IsValueBy, Sort, alone_text, either-way, held, is_joined, is_option, is_refused, is_value, joined_text, rules, shape, sort}
 
 abbrev rule : Flag → Rule
 rule f = filled (option_rule (name_of f))

@@ -18,7 +18,7 @@ use Rattle.ndc_tool_words.specs.Found.{asked_in}
 use Rattle.ndc_tool_words.specs.Words.{alone, asked_of, demo_of, make_of, run_of}
 use Rattle.ndc_tool_words.specs.declared.words.Asked.{Asked}
 use Rattle.ndc_tool_words.specs.declared.words.Asked.TheVariants.{Rebuild, Inspect}
-use Rattle.ndc_tool_words.proofs.Sorts.{bare-sort, either-way, same_text, shape}
+use Rattle.ndc_tool_words.proofs.Sorts.{Bare, bare-sort, either-way, same_text, shape}
 use Rattle.ndc_tool_words.proofs.Runs.{no-dashes, some-kind, turn-refused, turn-value-at}
 use Rattle.ndc_tool_words.proofs.Levels.{Same, alone-same, demo-same, demo_shape, else-nothing, first-empty, leaf, level, make-same, make_shape, run-same}
 

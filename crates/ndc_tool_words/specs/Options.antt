@@ -1,5 +1,5 @@
 -- The options of `run`.
-use Rattle.std.specs.Prelude.{ℕ, Bool, ◌==◌, is_some, codes, Option, None, Some, List, [], ◌∷◌, if◌then◌else◌}
+use Rattle.std.specs.Prelude.{ℕ, Bool, ◌==◌, is_some, codes, Option, None, Some, List, [], ◌∷◌, drop, if◌then◌else◌}
 use Rattle.std.specs.List.{starts_with}
 use Rattle.std.specs.Str.{bytes_eq}
 use Rattle.ndc_tool_words.specs.Reads.{◌>>=◌}
