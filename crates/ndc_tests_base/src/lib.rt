@@ -1,5 +1,5 @@
-//! Tests of calls that the program does not make: bytes in and out with faults, version histories, states at a mark, a
-//! restored path, a tree, a run, and reports that are merged.
+//! Tests of small parts by hand: bytes in and out with faults, version histories, states at a mark, a restored path, a
+//! tree, a run, and reports that are merged.
 #![tactic(auto)]
 
 #[cfg(test)]
