@@ -101,7 +101,7 @@ impl<C: Cell + Drop> Cluster<C> {
         &self.cells()[shard as usize]
     }
 
-    /// Its cells do jobs side by side, on so many workers at most, 1 to 64, each worker on neighbouring cells. Each worker
+    /// Its cells do jobs side by side, on so many workers at most, 1 at least, each worker on neighbouring cells. Each worker
     /// first enters the gate with its number, counted from 0. The cells and the replies, in the order of the jobs, are those of
     /// the jobs done one after the other. The shard of each job is that of a cell, and each job may be done by the cell that
     /// the jobs before it leave. After want of memory there are no cells.

@@ -89,15 +89,21 @@ fn two_cells(alloc: Global) -> Result<Vec<ListCell>, AllocError>
     Ok(cells)
 }
 
+/// A cluster alone.
+fn one_cluster(alloc: Global) -> Result<Clusters, Fail> {
+    let mut members = Vec::new(alloc);
+    members.push((Name::new(alloc, b"A".as_slice())?, 1))?;
+    let clusters = Clusters::build(10, members)?;
+    Ok(clusters)
+}
+
 /// How many cells and replies a round without jobs leaves, whose two workers enter this gate.
 fn rounded<R: Threads + Sync, G: Gate>(
     rt: &R,
     alloc: Global,
     gate: &G,
 ) -> Result<(usize, usize), Fail> {
-    let mut members = Vec::new(alloc);
-    members.push((Name::new(alloc, b"A".as_slice())?, 1))?;
-    let clusters = Clusters::build(10, members)?;
+    let clusters = one_cluster(alloc)?;
     let table = DomainTable::new(alloc);
     let desk = Desk::new(&clusters, ClusterNo { number: 0 }, 100, &table);
     let jobs: Vec<ShardJob> = Vec::new(alloc);
@@ -130,9 +136,7 @@ fn is_spent<R: Threads + Sync, G: Gate>(
 ) -> Result<bool, Fail>
     requires { count ≤ 1000 }
 {
-    let mut members = Vec::new(alloc);
-    members.push((Name::new(alloc, b"A".as_slice())?, 1))?;
-    let clusters = Clusters::build(10, members)?;
+    let clusters = one_cluster(alloc)?;
     let table = DomainTable::new(alloc);
     let desk = Desk::new(&clusters, ClusterNo { number: 0 }, 100, &table);
     let jobs = jobs_for_two(alloc, count)?;
@@ -178,9 +182,7 @@ fn the_first_worker_waits_for_the_second(rt: HostRuntime) -> Result<(), Fail> {
 #[test]
 fn want_of_memory_ends_a_round(rt: HostRuntime) -> Result<(), Fail> {
     let alloc = rt.alloc();
-    let mut members = Vec::new(alloc);
-    members.push((Name::new(alloc, b"A".as_slice())?, 1))?;
-    let clusters = Clusters::build(10, members)?;
+    let clusters = one_cluster(alloc)?;
     let table = DomainTable::new(alloc);
     let desk = Desk::new(&clusters, ClusterNo { number: 0 }, 100, &table);
     let mut jobs = Vec::new(alloc);

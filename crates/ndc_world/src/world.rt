@@ -23,7 +23,7 @@ const MOST_LINES: u64 = 100_000;
 /// The world of a script that runs: all clusters with the links between them, and the greatest progress report of each
 /// activity that each cluster was told or took over. They stand for the world that the lines lead to. It counts the lines
 /// that were run, their answers and how many of these are refusals. After want of memory in a line or a settlement it is
-/// spent, and may only be dropped.
+/// spent: it still counts its lines, and all other calls but `has_room` ask for one that is not.
 pub struct World<'a, C: Reads + Drop> {
     header: &'a Header,
     replication: Replication<C>,
