@@ -12,4 +12,4 @@ any-allowed home [] cells = tt
 any-allowed home (asked ∷ jobs) cells = (tt, any-allowed home jobs (cells_behind home asked cells))
 
 pub round-requires-clause-allowed : goal.round-requires-clause-allowed
-round-requires-clause-allowed g c κs within = any-allowed c.new-desk.result c.as_slice-2.result.now _
+round-requires-clause-allowed g c κs within = any-allowed c.new-desk.result c.as_slice.result.now _
