@@ -7,7 +7,9 @@ use std::alloc::{AllocError, Global};
 /// What a cell has written from a place on, counted from 0 in the order of writing.
 #[derive(Drop)]
 pub struct Fresh {
+    /// The place of the first of them.
     pub from: u64,
+    /// The messages, in the order of writing.
     pub messages: Vec<Message>,
 }
 

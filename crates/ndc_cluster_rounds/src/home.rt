@@ -4,8 +4,11 @@ use std::marker::Model;
 /// Where the cells of a cluster stand: all clusters, which of them it is, and the limit of histories, at most 204,800.
 #[derive(Drop)]
 pub struct Home<'a> {
+    /// All clusters, in the order that each of them knows.
     pub clusters: &'a Clusters,
+    /// Which of them it is.
     pub me: ClusterNo,
+    /// The greatest number of events on a branch that a command or a reset may leave, at most 204,800.
     pub limit: u64,
 }
 

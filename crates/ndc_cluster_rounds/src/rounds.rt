@@ -168,8 +168,11 @@ fn pay_for_threads<G: Gate, C: Cell + Drop>(pieces: &[Piece<G, C>]) -> bool {
 /// each cell what it has written from some place on.
 #[derive(Drop)]
 pub struct Rounded<C: Drop> {
+    /// The cells, by shard.
     pub cells: Vec<C>,
+    /// The replies, in the order of the jobs.
     pub replies: Vec<JobReply>,
+    /// For each cell what it has written from some place on; none where the jobs were not done in pieces.
     pub fresh: Option<Vec<Fresh>>,
 }
 

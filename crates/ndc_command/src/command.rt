@@ -41,13 +41,21 @@ pub enum Command {
 /// One action of a completed decision. The last four close the run.
 #[derive(Clone, Debug, Drop)]
 pub enum Action {
+    /// An activity of this id and type is scheduled.
     Activity { id: Name, activity_type: Name },
+    /// A timer of this id is started.
     Timer { id: Name },
+    /// The timer of this id is canceled.
     Untimer { id: Name },
+    /// A child workflow of this id and type is initiated.
     Child { id: Name, workflow_type: Name },
+    /// A marker of this name is recorded.
     Marker { name: Name },
+    /// Closes the run with this result.
     Complete { result: Name },
+    /// Closes the run with this reason.
     Fail { reason: Name },
+    /// Closes the run as canceled, where that was asked for.
     Canceled,
     /// Closes the run and begins a new one of this type.
     Continue { workflow_type: Name },

@@ -20,6 +20,7 @@ pub const MAX_VERSION: u64 = 10_000_000_000_000;
 /// A cluster, by its place among the clusters, counted from 0.
 #[derive(Clone, Copy, Debug, PartialEq, Eq, PartialOrd, Ord, Hash)]
 pub struct ClusterNo {
+    /// The place, counted from 0.
     pub number: u32,
 }
 

@@ -8,6 +8,7 @@ use thiserror::Error;
 /// What a cluster knows of a domain.
 #[derive(Debug, Drop)]
 pub struct DomainRecord {
+    /// The domain's name.
     pub name: Name,
     /// The failover version; its writer is the domain's active cluster.
     pub version: u64,

@@ -17,6 +17,7 @@ pub struct Event {
     pub id: u64,
     /// The failover version that it was written with.
     pub version: u64,
+    /// What happened.
     pub kind: EventKind,
 }
 
@@ -123,14 +124,19 @@ pub enum BatchFault {
 /// Events of one version that were written together in one run.
 #[derive(Debug, Drop)]
 pub struct Batch {
+    /// The domain of the workflow.
     pub domain: Name,
+    /// The workflow, to which clusters write batches.
     pub workflow: Name,
+    /// The run whose history it goes on with.
     pub run: RunId,
+    /// Its key, by which other batches name it.
     pub key: BatchKey,
     /// The batch of the same run that it goes below; none in a run's first batch.
     pub parent: Option<BatchKey>,
     /// The batch that closed the run before, where that one continued as this run.
     pub carrier: Option<BatchKey>,
+    /// Its events, in the order of their ids.
     pub events: Events,
 }
 

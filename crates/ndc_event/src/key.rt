@@ -9,7 +9,9 @@ use uuid::Uuid;
 /// number. Keys are ordered by version, then task.
 #[derive(Clone, Copy, Debug, PartialEq, Eq, PartialOrd, Ord, Hash)]
 pub struct BatchKey {
+    /// The failover version; 0 to 10^13 in the text of a batch.
     pub version: u64,
+    /// The task number; 1 to 10^12 in the text of a batch.
     pub task: u64,
 }
 
@@ -28,6 +30,7 @@ impl BatchKey {
 /// The id of a run: the version of its first batch times 2^64, plus that batch's task.
 #[derive(Clone, Copy, Debug, PartialEq, Eq, PartialOrd, Ord, Hash)]
 pub struct RunId {
+    /// The id as a number.
     pub value: u128,
 }
 
@@ -59,8 +62,11 @@ impl RunId {
 /// written with.
 #[derive(Clone, Copy, Debug, PartialEq, Eq, PartialOrd, Ord)]
 pub struct Origin {
+    /// The run in which the signal was first written.
     pub run: RunId,
+    /// The id of the event there, counted from 1.
     pub event: u64,
+    /// The version of the event there.
     pub version: u64,
 }
 

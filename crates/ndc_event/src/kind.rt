@@ -8,6 +8,7 @@ use std::alloc::AllocError;
 /// What happened in an event, with its attributes.
 #[derive(Clone, Debug, Drop, PartialEq, Eq)]
 pub enum EventKind {
+    /// A run of this type began.
     WorkflowExecutionStarted {
         workflow_type: Name,
     },
@@ -17,70 +18,94 @@ pub enum EventKind {
         input: Name,
         origin: Option<Origin>,
     },
+    /// It was asked to cancel the run, which goes on until it is closed.
     WorkflowExecutionCancelRequested,
+    /// The run closed with this result.
     WorkflowExecutionCompleted {
         result: Name,
     },
+    /// The run closed with this reason.
     WorkflowExecutionFailed {
         reason: Name,
     },
+    /// The run closed as canceled.
     WorkflowExecutionCanceled,
+    /// The run was closed from outside, with this reason.
     WorkflowExecutionTerminated {
         reason: Name,
     },
+    /// The run closed, and goes on as this new run, of this type.
     WorkflowExecutionContinuedAsNew {
         new_execution_run_id: RunId,
         workflow_type: Name,
     },
+    /// A decision is wanted.
     DecisionTaskScheduled,
+    /// A worker began to decide.
     DecisionTaskStarted,
+    /// It was decided; the events of the actions come behind it.
     DecisionTaskCompleted,
+    /// The decision failed, with this cause.
     DecisionTaskFailed {
         cause: Name,
     },
+    /// It was not decided in time.
     DecisionTaskTimedOut,
+    /// An activity of this id and type is to be done.
     ActivityTaskScheduled {
         activity_id: Name,
         activity_type: Name,
     },
+    /// A worker began the activity.
     ActivityTaskStarted {
         activity_id: Name,
     },
+    /// The activity was done, with this result.
     ActivityTaskCompleted {
         activity_id: Name,
         result: Name,
     },
+    /// The activity failed, with this reason.
     ActivityTaskFailed {
         activity_id: Name,
         reason: Name,
     },
+    /// The activity was not done in time.
     ActivityTaskTimedOut {
         activity_id: Name,
     },
+    /// A timer of this id was set.
     TimerStarted {
         timer_id: Name,
     },
+    /// The timer ran out.
     TimerFired {
         timer_id: Name,
     },
+    /// The timer was taken back.
     TimerCanceled {
         timer_id: Name,
     },
+    /// A child workflow of this id and type is to be started.
     StartChildWorkflowExecutionInitiated {
         workflow_id: Name,
         workflow_type: Name,
     },
+    /// The child workflow began.
     ChildWorkflowExecutionStarted {
         workflow_id: Name,
     },
+    /// The child workflow closed with this result.
     ChildWorkflowExecutionCompleted {
         workflow_id: Name,
         result: Name,
     },
+    /// The child workflow closed with this reason.
     ChildWorkflowExecutionFailed {
         workflow_id: Name,
         reason: Name,
     },
+    /// A decision left a marker of this name.
     MarkerRecorded {
         marker_name: Name,
     },

@@ -16,8 +16,11 @@ pub type Places = Items<u64>;
 /// A handover of a domain that is open: from the cluster that was active to the one that is to be.
 #[derive(Debug, Drop)]
 pub struct Handover {
+    /// The domain that is handed over.
     pub domain: Name,
+    /// The cluster that was active.
     pub from: ClusterNo,
+    /// The cluster that is to be active.
     pub to: ClusterNo,
     /// The version of the record before the handover.
     pub old: u64,

@@ -4,7 +4,9 @@ use thiserror::Error;
 /// The last event id that was written with a version.
 #[derive(Clone, Copy, Debug, PartialEq, Eq)]
 pub struct Item {
+    /// The event id, counted from 1.
     pub id: u64,
+    /// The version.
     pub version: u64,
 }
 

@@ -103,7 +103,9 @@ fn seat_all(
 /// the order in which they were asked for.
 #[derive(Drop)]
 pub struct Indexers {
+    /// Those that are told as the script runs.
     pub asked: Vec<Seat>,
+    /// Those that are told all of it late.
     pub late: Vec<Seat>,
 }
 

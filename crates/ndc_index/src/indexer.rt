@@ -74,8 +74,12 @@ pub trait Indexer: Drop {
 /// What is counted of the events that an indexer is told.
 #[derive(Clone, Copy, Debug, PartialEq, Eq)]
 pub enum Counted {
+    /// Events that begin a run.
     Starts,
+    /// Events that close a run.
     Closes,
+    /// Signals that are no copies.
     Originals,
+    /// Signals that repeat another one.
     Copies,
 }

@@ -13,8 +13,11 @@ use std::alloc::{AllocError, Global};
 /// number of its calls that went well is kept.
 #[derive(Drop)]
 pub struct Seat {
+    /// The name by which it was asked for.
     pub name: Name,
+    /// How many of its calls went well.
     pub calls: u64,
+    /// The indexer; none behind a call that failed.
     pub indexer: Option<Box<dyn Indexer>>,
 }
 

@@ -5,7 +5,9 @@ use std::alloc::AllocError;
 /// A batch that became learned at a cluster.
 #[derive(Debug, Drop)]
 pub struct Seen {
+    /// The cluster.
     pub cluster: ClusterNo,
+    /// The batch.
     pub batch: Batch,
 }
 

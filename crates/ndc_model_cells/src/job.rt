@@ -29,14 +29,18 @@ pub enum Job {
 /// A job for the cell of a shard, counted from 0.
 #[derive(Debug, Drop)]
 pub struct ShardJob {
+    /// The shard, counted from 0.
     pub shard: u32,
+    /// What its cell is to do.
     pub job: Job,
 }
 
 /// The keys of what a command or a reset has written: its first batch, and the other one, where there are two.
 #[derive(Clone, Copy, Debug, PartialEq, Eq)]
 pub struct Written {
+    /// The key of the first batch.
     pub key: BatchKey,
+    /// That of the other one, where there are two.
     pub second: Option<BatchKey>,
 }
 
@@ -70,6 +74,7 @@ pub enum Outcome {
 /// What a cell replies to a job.
 #[derive(Drop)]
 pub struct JobReply {
+    /// What the job's call answered.
     pub outcome: Outcome,
     /// The batches that the job made learned in its cell, in the order in which indexers are told of them.
     pub learned: Batches,

@@ -8,6 +8,7 @@ use std::alloc::AllocError;
 /// carries, where it carries one. Both are learned together.
 #[derive(Debug, Drop)]
 pub struct Message {
+    /// The batch that is sent.
     pub batch: Batch,
     /// For each version on the path to the batch the last event id written with it.
     pub history: VersionHistory,

@@ -4,8 +4,11 @@ use std::alloc::AllocError;
 /// The place of a batch: its workflow, and its key there.
 #[derive(Debug, Drop)]
 pub struct Place {
+    /// The domain of the workflow.
     pub domain: Name,
+    /// The workflow.
     pub workflow: Name,
+    /// The key of the batch there.
     pub key: BatchKey,
 }
 

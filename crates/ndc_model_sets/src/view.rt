@@ -32,7 +32,9 @@ pub type BranchViews = Items<BranchView>;
 /// What a cluster shows of a run.
 #[derive(Drop)]
 pub struct RunView {
+    /// The id of the run.
     pub run: RunId,
+    /// Whether it goes on.
     pub status: RunStatus,
     /// How its current branch closed; none before.
     pub close: Option<CloseKind>,

@@ -4,8 +4,11 @@ use std::alloc::AllocError;
 /// An activity, by the event that scheduled it.
 #[derive(Debug, Drop, PartialEq, Eq, Hash)]
 pub struct ActivityRef {
+    /// The domain of the workflow.
     pub domain: Name,
+    /// The workflow.
     pub workflow: Name,
+    /// The run that scheduled the activity.
     pub run: RunId,
     /// The id of the event that scheduled the activity.
     pub scheduled: u64,
@@ -33,11 +36,13 @@ impl ActivityRef {
 /// What was told of an activity. Reports of one activity are ordered by version, then beat.
 #[derive(Debug, Drop)]
 pub struct Report {
+    /// The activity.
     pub activity: ActivityRef,
     /// The version of the record of the cluster that told it.
     pub version: u64,
     /// The number of the report among those of its version, counted from 1.
     pub beat: u64,
+    /// What was told.
     pub details: Name,
 }
 

@@ -4,8 +4,11 @@ use std::alloc::AllocError;
 /// A signal by its origin: the signal event that it comes from, with what it says.
 #[derive(Debug, Drop)]
 pub struct Stray {
+    /// The signal event.
     pub origin: Origin,
+    /// The name of the signal.
     pub name: Name,
+    /// What comes with it.
     pub input: Name,
 }
 

@@ -15,7 +15,9 @@ use ndc_script_words::{
 /// An action, and how many words behind its first belong to it.
 #[derive(Drop)]
 pub struct Group {
+    /// The action.
     pub action: Action,
+    /// How many words behind its first belong to it.
     pub operands: usize,
 }
 

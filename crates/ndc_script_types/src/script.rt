@@ -7,6 +7,7 @@ use thiserror::Error;
 /// What a script's cells are made of.
 #[derive(Debug, Drop)]
 pub struct Header {
+    /// The clusters, one to eight, in the order of their lines.
     pub clusters: Clusters,
     /// Into how many shards each cluster cuts its workflows, 1 to 64.
     pub shards: u32,
@@ -17,9 +18,13 @@ pub struct Header {
 /// One command of a burst, with the number of its line in the text, from 1.
 #[derive(Debug, Drop)]
 pub struct BurstJob {
+    /// The number of its line in the text, counted from 1.
     pub number: u64,
+    /// The domain of the workflow.
     pub domain: Name,
+    /// The workflow.
     pub workflow: Name,
+    /// The command.
     pub command: Command,
 }
 
@@ -251,7 +256,9 @@ pub enum Act {
 /// A line of a script with its number in the text, from 1.
 #[derive(Debug, Drop)]
 pub struct Line {
+    /// Its number in the text, counted from 1.
     pub number: u64,
+    /// What the line asks for.
     pub act: Act,
 }
 
@@ -261,7 +268,9 @@ pub type Lines = Items<Line>;
 /// A script: what it runs on, and what it asks for, line by line.
 #[derive(Debug, Drop)]
 pub struct Script {
+    /// What it runs on.
     pub header: Header,
+    /// What it asks for, in order.
     pub lines: Lines,
 }
 

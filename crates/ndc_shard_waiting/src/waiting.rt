@@ -64,6 +64,7 @@ fn forget_all(shortcuts: &mut Shortcuts, messages: &[Message])
 /// A batch that is put off, and what it misses.
 #[derive(Clone, Copy, Debug, PartialEq, Eq)]
 pub struct PutOff {
+    /// The key of the batch.
     pub key: BatchKey,
     /// The key of the nearest ancestor that has not arrived.
     pub missing: BatchKey,

@@ -10,6 +10,7 @@ use std::alloc::{AllocError, Global};
 /// What comes of the arrival of a message.
 #[derive(Drop)]
 pub struct Arrival {
+    /// Whether the batch was learned, put off or known.
     pub outcome: Arrived,
     /// The batches that became learned, in key order.
     pub learned: Batches,

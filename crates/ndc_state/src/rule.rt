@@ -4,10 +4,15 @@ use thiserror::Error;
 /// How a run came to its end.
 #[derive(Clone, Copy, Debug, PartialEq, Eq)]
 pub enum CloseKind {
+    /// With a result.
     Completed,
+    /// With a reason.
     Failed,
+    /// Since it was asked to cancel it.
     Canceled,
+    /// From outside.
     Terminated,
+    /// It goes on as another run.
     Continued,
 }
 

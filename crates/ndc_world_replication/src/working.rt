@@ -25,8 +25,11 @@ use std::thread::Threads;
 /// Jobs that a cluster has done, with the reply to each.
 #[derive(Drop)]
 pub struct Done {
+    /// The cluster.
     pub cluster: ClusterNo,
+    /// The jobs, in order.
     pub jobs: Vec<ShardJob>,
+    /// The reply to each of them.
     pub replies: Vec<JobReply>,
     /// How many cells were to apply their strays again, by shard from 0: of these, the ones without a job here are idle and
     /// were passed by.
@@ -36,7 +39,9 @@ pub struct Done {
 /// The jobs of a cluster that works: those in which messages arrived, and those in which strays were applied again.
 #[derive(Drop)]
 pub struct Worked {
+    /// Jobs in which messages arrived.
     pub arrived: Done,
+    /// Jobs in which strays were applied again.
     pub reapplied: Done,
 }
 

@@ -45,7 +45,9 @@ fn tell(tally: &mut Tally, seen: &mut Vec<Seen>, done: Done) -> Result<(), Alloc
 /// What jobs came to: how much, and what they made learned, in the order of being told.
 #[derive(Drop)]
 pub struct Telling {
+    /// How much they came to.
     pub tally: Tally,
+    /// What they made learned, in the order of being told.
     pub seen: Vec<Seen>,
 }
 
