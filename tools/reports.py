@@ -103,7 +103,7 @@ def end(refused):
 
 
 def status_of(main):
-    """Runs a tool, and returns its status. A reader that has seen enough ends it without a word."""
+    """Runs a tool, and returns its status. A reader that has seen enough ends it without a word, a file that is not there with 2."""
     try:
         status = main()
         sys.stdout.flush()
@@ -111,3 +111,6 @@ def status_of(main):
     except BrokenPipeError:
         os.dup2(os.open(os.devnull, os.O_WRONLY), sys.stdout.fileno())
         return 1
+    except OSError as fault:
+        print(f"{os.path.basename(sys.argv[0])}: {fault.filename}: {fault.strerror}", file=sys.stderr)
+        return 2
