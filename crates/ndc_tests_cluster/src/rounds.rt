@@ -1,10 +1,9 @@
 ghost use Rattle.std.specs.List.{AllByRecursion};
 ghost use Rattle.std.specs.Prelude.{◌≡◌, ◌<◌, ◌≤◌, length, IfOk};
 
-use crate::given::ListCell;
+use crate::given::{ListCell, two_clusters};
 use ndc_cluster_rounds::{Cell, Desk, round};
-use ndc_domain::{ClusterNo, Clusters, DomainTable};
-use ndc_event::Name;
+use ndc_domain::{ClusterNo, DomainTable};
 use ndc_model_cells::{Job, ShardJob};
 use ndc_port::{Gate, OpenGate, PairGate};
 use std::alloc::{AllocError, Global};
@@ -89,21 +88,13 @@ fn two_cells(alloc: Global) -> Result<Vec<ListCell>, AllocError>
     Ok(cells)
 }
 
-/// A cluster alone.
-fn one_cluster(alloc: Global) -> Result<Clusters, Fail> {
-    let mut members = Vec::new(alloc);
-    members.push((Name::new(alloc, b"A".as_slice())?, 1))?;
-    let clusters = Clusters::build(10, members)?;
-    Ok(clusters)
-}
-
 /// How many cells and replies a round without jobs leaves, whose two workers enter this gate.
 fn rounded<R: Threads + Sync, G: Gate>(
     rt: &R,
     alloc: Global,
     gate: &G,
 ) -> Result<(usize, usize), Fail> {
-    let clusters = one_cluster(alloc)?;
+    let clusters = two_clusters(alloc)?;
     let table = DomainTable::new(alloc);
     let desk = Desk::new(&clusters, ClusterNo { number: 0 }, 100, &table);
     let jobs: Vec<ShardJob> = Vec::new(alloc);
@@ -136,7 +127,7 @@ fn is_spent<R: Threads + Sync, G: Gate>(
 ) -> Result<bool, Fail>
     requires { count ≤ 1000 }
 {
-    let clusters = one_cluster(alloc)?;
+    let clusters = two_clusters(alloc)?;
     let table = DomainTable::new(alloc);
     let desk = Desk::new(&clusters, ClusterNo { number: 0 }, 100, &table);
     let jobs = jobs_for_two(alloc, count)?;
@@ -182,7 +173,7 @@ fn the_first_worker_waits_for_the_second(rt: HostRuntime) -> Result<(), Fail> {
 #[test]
 fn want_of_memory_ends_a_round(rt: HostRuntime) -> Result<(), Fail> {
     let alloc = rt.alloc();
-    let clusters = one_cluster(alloc)?;
+    let clusters = two_clusters(alloc)?;
     let table = DomainTable::new(alloc);
     let desk = Desk::new(&clusters, ClusterNo { number: 0 }, 100, &table);
     let mut jobs = Vec::new(alloc);
