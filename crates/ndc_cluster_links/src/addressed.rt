@@ -81,7 +81,7 @@ fn is_message_learned<C: Cell>(cell: &C, sent: &Message) -> bool
     if !is_learned(cell, &sent.batch) {
         return false;
     }
-    match &sent.second {
+    match sent.second.as_ref() {
         Some(second) => is_learned(cell, second),
         None => true,
     }

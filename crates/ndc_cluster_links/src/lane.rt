@@ -137,7 +137,7 @@ impl Lane {
     }
 
     /// Whether a queue was read up to its end.
-    fn has_read(&self, queue: &Queue) -> bool
+    pub(crate) fn has_read(&self, queue: &Queue) -> bool
         ensures { IsTrue result → self.now.levels.read ≡ queue_len queue.now }
     {
         self.levels.read == queue.len()

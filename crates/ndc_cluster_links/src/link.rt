@@ -43,7 +43,7 @@ impl Model for Link {
     ghost invariant = { IsLinkInside };
 }
 
-/// Pulls all entries for each shard, and counts what is put in flight.
+/// Pulls all entries for each shard, and counts what is put in flight. A queue that was read up to its end is passed by.
 fn pull_lanes(
     lanes: &mut Vec<Lane>,
     table: &DomainTable,
@@ -62,8 +62,12 @@ fn pull_lanes(
 {
     let mut count = 0;
     for shard in 0..lanes.len() {
+        let queue = &queues[shard];
         let lane = &mut lanes[shard];
-        count += lane.pull(table, reader, None, &queues[shard])?;
+        if lane.has_read(queue) {
+            continue;
+        }
+        count += lane.pull(table, reader, None, queue)?;
     }
     Ok(count)
 }
@@ -222,6 +226,24 @@ impl Link {
             return true;
         }
         false
+    }
+
+    /// Whether all entries of the queue of a shard are done, so that nothing is due for it. Takes no memory.
+    pub fn is_done_for(&self, shard: usize, queue: &Queue) -> bool
+        requires { shard < length self.now.lanes }
+        ensures { IsTrue result → (lane_in self.now shard).levels.done ≡ queue_len queue.now }
+    {
+        let lane = &self.lanes[shard];
+        lane.levels().done == queue.len()
+    }
+
+    /// Whether nothing is in flight for a shard. Takes no memory.
+    pub fn is_quiet_for(&self, shard: usize) -> bool
+        requires { shard < length self.now.lanes }
+        ensures { IsTrue result → flight_in shard self.now ≡ [] }
+    {
+        let lane = &self.lanes[shard];
+        lane.flight().is_empty()
     }
 
     /// Whether it is known that nothing is in flight, for any shard. Takes no memory.

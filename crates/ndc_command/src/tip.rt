@@ -5,7 +5,7 @@ use crate::command::{Actions, Command};
 use crate::judge::push_actions;
 use crate::refusal::{CommandError, Refusal};
 use crate::stage::{Stage, needs_pending, needs_started, needs_waiting, stage_of};
-use ndc_event::{EventKind, Name, RunId};
+use ndc_event::{EventKind, Name, Rare, RunId};
 use ndc_state::State;
 use std::alloc::AllocError;
 
@@ -112,7 +112,7 @@ impl<'a> Tip<'a> {
         let kind = EventKind::WorkflowExecutionSignaled {
             signal_name: name.try_copy()?,
             input: input.try_copy()?,
-            origin: None,
+            origin: Rare::none(),
         };
         self.push_woken(kind, kinds)?;
         Ok(())

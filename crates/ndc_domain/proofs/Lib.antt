@@ -11,3 +11,4 @@ pub mod MergeLaws
 pub mod CallLaws
 pub mod ActiveLaws
 pub mod NoNews
+pub mod Counts

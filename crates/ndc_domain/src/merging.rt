@@ -1,9 +1,8 @@
-ghost use Rattle.std.specs.Prelude.{◌≡◌, ◌++◌, max, IfOk, OnOk};
-ghost use Rattle.ndc_domain.specs.Records.{Rise, record_of};
-ghost use Rattle.ndc_domain.specs.Merge.{merged_record, merged, brings, is_news, merge_count};
+ghost use Rattle.std.specs.Prelude.{◌≡◌, ◌++◌, max, if◌then◌else◌, IfOk, OnOk};
+ghost use Rattle.ndc_domain.specs.Records.{Rise};
+ghost use Rattle.ndc_domain.specs.Merge.{merged_record, merged, brings, merge_count};
 
 use crate::record::DomainRecord;
-use crate::table::place_of;
 use std::alloc::{AllocError, Global};
 use std::cmp::Ordering;
 
@@ -41,29 +40,41 @@ fn brings(ours: &DomainRecord, theirs: &DomainRecord) -> bool
         || ours.members.union(theirs.members) != ours.members
 }
 
-/// Whether their record is added to ours or changes one.
-fn is_news(records: &[DomainRecord], other: &DomainRecord) -> bool
-    requires { Rise records.now }
-    ensures { result ≡ is_news (record_of records.now other.now.name) other.now }
+/// One where their record changes ours, else none.
+fn change_count(ours: &DomainRecord, theirs: &DomainRecord) -> u64
+    ensures { result ≡ if brings ours.now theirs.now then 1 else 0 }
 {
-    match place_of(records, &other.name) {
-        Ok(place) => brings(&records[place], other),
-        Err(_) => true,
-    }
+    u64::from(brings(ours, theirs))
 }
 
-/// How many of their records are added to ours or change one.
+/// How many of their records are added to ours or change one. Both are gone over once, side by side.
 pub(crate) fn merge_count(records: &[DomainRecord], others: &[DomainRecord]) -> u64
-    requires { Rise records.now }
+    requires ours { Rise records.now }
+    requires theirs { Rise others.now }
     ensures { result ≡ merge_count records.now others.now }
 {
     let mut count = 0;
-    for other in others {
-        if is_news(records, other) {
-            count += 1;
+    let mut ours = 0;
+    let mut theirs = 0;
+    while ours < records.len() && theirs < others.len() {
+        let one = &records[ours];
+        let other = &others[theirs];
+        match one.name.cmp(&other.name) {
+            Ordering::Less => {
+                ours += 1;
+            }
+            Ordering::Equal => {
+                count += change_count(one, other);
+                ours += 1;
+                theirs += 1;
+            }
+            Ordering::Greater => {
+                count += 1;
+                theirs += 1;
+            }
         }
     }
-    count
+    count + (others.len() - theirs) as u64
 }
 
 /// Puts copies of the records behind the others.

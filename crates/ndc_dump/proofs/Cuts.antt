@@ -1,5 +1,7 @@
 -- How a text falls into its first line and the rest.
-use Rattle.std.proofs.Common.{◌≡◌, ℕ, suc, ◌<◌, ◌≤◌, Bool, true, false, ◌==◌, List, [], ◌∷◌, length, take, drop, refl, ap, arith, cond}
+use Rattle.std.proofs.Common.{◌≡◌, ℕ, suc, ◌+◌, min, ◌<◌, ◌≤◌, Bool, true, false, ◌==◌, List, [], ◌∷◌, length, take, drop, refl, ap, arith, cond}
+use Rattle.std.proofs.Math.Nat.{min-eq_left}
+use native.Mathlib.Numerals.{unary_clauses}
 use Rattle.ndc_dump.specs.Lines.{onto_line, lines_of, line_len, without_end}
 
 lines-cut : (b : ℕ) (bs : List ℕ) → lines_of (b ∷ bs) ≡ take (line_len (b ∷ bs)) (b ∷ bs) ∷ lines_of (drop (line_len (b ∷ bs)) (b ∷ bs))
@@ -32,6 +34,13 @@ pub front-within : (line : List ℕ) → length (without_end line) ≤ length li
 front-within [] = omega arith
 front-within (b ∷ bs) =
     elim (b == 10) as (λ (t : Bool). length (cond t [] (b ∷ without_end bs)) ≤ length (b ∷ bs)) [ true ↦ omega arith | false ↦ omega (arith, front-within bs) ]
+
+-- the first line is what stands in front of its end, and the end, where there is one
+pub line_len-end : (bs : List ℕ) → min (length (without_end bs) + 1) (length bs) ≡ line_len bs
+line_len-end [] = refl
+line_len-end (b ∷ bs) =
+    elim (b == 10) as (λ (t : Bool). min (length (cond t [] (b ∷ without_end bs)) + 1) (length (b ∷ bs)) ≡ cond t 1 (suc (line_len bs)))
+    [ true ↦ min-eq_left (omega arith) | false ↦ simp unary_clauses (ap suc (simp unary_clauses at (line_len-end bs))) ]
 
 pub front-of : (line : List ℕ) → take (length (without_end line)) line ≡ without_end line
 front-of [] = refl

@@ -16,3 +16,4 @@ pub mod Printed
 pub mod Migration
 pub mod Dumped
 pub mod BareDumps
+pub mod PieceLemmas

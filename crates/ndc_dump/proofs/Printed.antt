@@ -24,7 +24,7 @@ use Rattle.ndc_text.proofs.Exact.{text_again}
 use Rattle.ndc_dump_causes.specs.declared.error.LineCause.TheVariants as cause
 use Rattle.ndc_dump.specs.declared.frame.Heading.{Heading}
 use Rattle.ndc_dump.specs.Bare.{bare_dump_of, bare_dump_on}
-use Rattle.ndc_dump_show.specs.Bare.{bare_text}
+use Rattle.ndc_text.specs.Bare.{bare_text}
 use Rattle.ndc_dump.specs.Batches.{batch_on, batches_on, is_behind, is_own, is_same_as, out_of_order, view_lines}
 use Rattle.ndc_dump.specs.Frame.{begins_batch, begins_first, body_of, framed, heading_by, heading_in, heading_of, named}
 use Rattle.ndc_dump.specs.Lines.{differ_at, lines_of, onto_line, without_end}

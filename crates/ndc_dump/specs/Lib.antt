@@ -7,3 +7,6 @@ pub mod Bare
 pub mod Groups
 pub mod Marks
 pub mod Printed
+pub mod Faults
+pub mod Telling
+pub mod Input

@@ -1,19 +1,26 @@
 // Bytes cut into lines.
 ghost use Rattle.std.specs.Prelude.{◌≡◌, ◌<◌, length, map, IfOk, IfSome, IfNone, [], ◌∷◌};
-ghost use Rattle.ndc_dump.specs.Lines.{differ_at, line_len, lines_of, without_end};
+ghost use Rattle.ndc_dump.specs.Lines.{line_len, lines_of, without_end};
 
 use std::alloc::{AllocError, Global};
+
+/// How many bytes stand in front of the first line end.
+fn end_of(bytes: &[u8]) -> usize
+    ensures { result ≡ length (without_end bytes.now) }
+{
+    for (at, byte) in bytes.iter().enumerate() {
+        if *byte == b'\n' {
+            return at;
+        }
+    }
+    bytes.len()
+}
 
 /// The length of the first line of a text, its line end included.
 fn line_len(bytes: &[u8]) -> usize
     ensures { result ≡ line_len bytes.now }
 {
-    for (at, byte) in bytes.iter().enumerate() {
-        if *byte == b'\n' {
-            return at + 1;
-        }
-    }
-    bytes.len()
+    (end_of(bytes) + 1).min(bytes.len())
 }
 
 /// The first line of a text and what stands behind it; nothing where the text is empty.
@@ -39,18 +46,6 @@ pub(crate) fn lines_of(alloc: Global, bytes: &[u8]) -> Result<Vec<&[u8]>, AllocE
         rest = after;
     }
     Ok(lines)
-}
-
-/// How many bytes stand in front of the line end.
-fn end_of(line: &[u8]) -> usize
-    ensures { result ≡ length (without_end line.now) }
-{
-    for (at, byte) in line.iter().enumerate() {
-        if *byte == b'\n' {
-            return at;
-        }
-    }
-    line.len()
 }
 
 /// A line without its line end.

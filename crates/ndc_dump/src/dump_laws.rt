@@ -10,7 +10,7 @@ ghost use Rattle.ndc_text.specs.Views.{dump_text};
 ghost use Rattle.ndc_text.specs.declared.form.TextForm.TheVariants.{Two};
 ghost use Rattle.ndc_dump.specs.declared.dump.Dump.{Dump as Read};
 ghost use Rattle.ndc_dump_causes.specs.Causes.{sound_or};
-ghost use Rattle.ndc_dump_show.specs.Bare.{bare_text};
+ghost use Rattle.ndc_text.specs.Bare.{bare_text};
 ghost use Rattle.ndc_dump.specs.Bare.{bare_dump_of};
 ghost use Rattle.ndc_dump.specs.Frame.{IsHeaded};
 ghost use Rattle.ndc_dump_causes.specs.Given.{AreRead};

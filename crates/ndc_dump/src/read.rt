@@ -19,10 +19,10 @@ use crate::frame::{begins_batch, body_of, heading_of};
 use crate::migrated::standing_for;
 use crate::showing::runs_of;
 use ndc_dump_causes::{DumpError, LineCause, sound_or};
-use ndc_dump_show::print::push_runs;
 use ndc_event::Batch;
 use ndc_model_sets::{Batches, RunView, RunViews, View};
 use ndc_text::TextForm;
+use ndc_text::dump::push_runs;
 use std::alloc::{AllocError, Global};
 
 /// How many lines stand in front of the first that is none of a batch.

@@ -10,10 +10,10 @@ ghost use Rattle.ndc_dump.specs.Marks.{batch_head, current_key, marked_line, mar
 use crate::path::path_keys;
 use crate::run_batches::{RunBatches, grouped};
 use ndc_dump_causes::keys::KeySet;
-use ndc_dump_show::line::{push_branch_line, push_key, push_mark, push_number, push_run_line};
-use ndc_dump_show::print::push_heading;
 use ndc_event::{Batch, BatchKey, Event, Name};
 use ndc_model_sets::{BranchView, RunView, View, first_id, last_id};
+use ndc_text::dump::push_heading;
+use ndc_text::line::{push_branch_line, push_key, push_mark, push_number, push_run_line};
 use std::alloc::{AllocError, Global};
 
 /// Appends a parent's key, or a dash.

@@ -47,11 +47,14 @@ fn signal_in(kind: &EventKind) -> Result<Option<Signal>, AllocError>
         EventKind::WorkflowExecutionSignaled {
             signal_name,
             input,
-            origin: None,
-        } => Ok(Some(Signal {
-            name: signal_name.try_copy()?,
-            input: input.try_copy()?,
-        })),
+            origin,
+        } => match origin.as_ref() {
+            None => Ok(Some(Signal {
+                name: signal_name.try_copy()?,
+                input: input.try_copy()?,
+            })),
+            Some(_) => Ok(None),
+        },
         _ => Ok(None),
     }
 }
@@ -161,8 +164,11 @@ fn is_unfit_copy(known: &Originals, kind: &EventKind) -> bool
         EventKind::WorkflowExecutionSignaled {
             signal_name,
             input,
-            origin: Some(origin),
-        } => known.misfits(*origin, signal_name, input),
+            origin,
+        } => match origin.as_ref() {
+            None => false,
+            Some(origin) => known.misfits(*origin, signal_name, input),
+        },
         _ => false,
     }
 }

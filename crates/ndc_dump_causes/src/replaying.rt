@@ -79,7 +79,7 @@ fn push_origin(origins: &mut Vec<Origin>, run: RunId, event: &Event) -> Result<(
 {
     match &event.kind {
         EventKind::WorkflowExecutionSignaled { origin, .. } => {
-            origins.push(origin_of(run, event, *origin))?;
+            origins.push(origin_of(run, event, origin))?;
             Ok(())
         }
         _ => Ok(()),

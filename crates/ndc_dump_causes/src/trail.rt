@@ -113,7 +113,7 @@ impl Trail {
     {
         match &event.kind {
             EventKind::WorkflowExecutionSignaled { origin, .. } => {
-                let again = self.list(origin_of(run, event, *origin))?;
+                let again = self.list(origin_of(run, event, origin))?;
                 Ok(again)
             }
             _ => Ok(false),

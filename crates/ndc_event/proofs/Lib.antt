@@ -2,3 +2,4 @@ pub mod Ascii
 pub mod SameKind
 pub mod Texts
 pub mod Fronts
+pub mod SortedLemmas

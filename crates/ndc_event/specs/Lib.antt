@@ -5,3 +5,6 @@ pub mod Key
 pub mod Kind
 pub mod Batch
 pub mod Attributes
+pub mod Sorted
+pub mod Rare
+pub mod Events

@@ -1,4 +1,4 @@
-ghost use Rattle.std.specs.Prelude.{◌≡◌, ◌+◌, ◌==◌, MatchResult, None, Some, IsTrue, ◌↔◌};
+ghost use Rattle.std.specs.Prelude.{◌≡◌, ◌+◌, ◌==◌, IfOk, MatchResult, None, Some, IsTrue, ◌↔◌};
 ghost use Rattle.std.specs.List.{list_all};
 ghost use Rattle.ndc_event.specs.Batch.{follow_from, are_consecutive, are_of_version, is_first_fit, is_parent_fit, is_carrier_fit, fault_of};
 
@@ -11,7 +11,7 @@ use std::sync::Arc;
 use thiserror::Error;
 
 /// One event of a run's history.
-#[derive(Clone, Debug, Drop, PartialEq, Eq)]
+#[derive(Clone, Debug, Drop)]
 pub struct Event {
     /// The place in the run's history, counted from 1.
     pub id: u64,
@@ -39,46 +39,86 @@ impl Event {
     }
 }
 
-/// A list of events, in order. Copies share the events.
+/// Events that are held alone, or shared with copies.
+#[derive(Debug, Drop)]
+enum Held {
+    Own(Vec<Event>),
+    Shared(Arc<Vec<Event>, Global>),
+}
+
+/// A list of events, in order: its value is the list. It is made of a `Vec`, which it holds alone, or shares with its
+/// copies.
 #[derive(Debug, Drop)]
 pub struct Events {
-    items: Arc<Vec<Event>, Global>,
+    held: Held,
 }
 
 impl Model for Events {
     ghost use Rattle.std.specs.Prelude.{List};
-    ghost use Rattle.std.specs.Arc.{arc_value};
     ghost use Rattle.ndc_event.specs.declared.batch.Event.{Event};
+    ghost use Rattle.ndc_event.specs.Events.{events_of};
 
     ghost Value = { List Event };
 
-    ghost view = { λ events. (arc_value events.items).items };
+    ghost view = { λ events. events_of events.held };
 }
 
 impl Events {
     ghost use Rattle.std.specs.Prelude.{◌≡◌, ◌↔◌, IfOk, IsTrue};
 
-    /// The list of these events.
-    pub fn new(alloc: Global, items: Vec<Event>) -> Result<Events, AllocError>
+    /// The list of these events, held alone. It takes no memory.
+    pub fn of(items: Vec<Event>) -> Events
+        ensures { result ≡ items.items }
+    {
+        Events {
+            held: Held::Own(items),
+        }
+    }
+
+    /// The list of these events, which its copies share.
+    pub fn shared(alloc: Global, items: Vec<Event>) -> Result<Events, AllocError>
         ensures { IfOk result (λ events. events ≡ items.items) }
     {
         let items = Arc::new(alloc, items)?;
-        Ok(Events { items })
+        Ok(Events {
+            held: Held::Shared(items),
+        })
     }
 
     /// The events, to be read.
     pub fn as_slice(&self) -> &[Event]
         ensures { result.now ≡ self.now }
     {
-        self.items.as_slice()
+        match &self.held {
+            Held::Own(items) => items.as_slice(),
+            Held::Shared(items) => items.as_slice(),
+        }
     }
 
-    /// The same list, over the same events: in the same time for any number of them.
+    /// The events, given back. It takes memory only where copies share them, which are left as they are.
+    pub fn into_vec(self) -> Result<Vec<Event>, AllocError>
+        ensures { IfOk result (λ items. items.items ≡ self) }
+    {
+        let Events { held } = self;
+        match held {
+            Held::Own(items) => Ok(items),
+            Held::Shared(items) => match Arc::try_unwrap(items) {
+                Ok(items) => Ok(items),
+                Err(items) => copied(&items),
+            },
+        }
+    }
+
+    /// The same list: over the same events, in the same time for any number of them, where they are shared; else over
+    /// copies of them.
     pub fn try_copy(&self) -> Result<Events, AllocError>
         ensures { IfOk result (λ copy. copy ≡ self.now) }
     {
-        let items = Arc::try_clone(&self.items)?;
-        Ok(Events { items })
+        let held = match &self.held {
+            Held::Own(items) => Held::Own(copied(items)?),
+            Held::Shared(items) => Held::Shared(Arc::try_clone(items)?),
+        };
+        Ok(Events { held })
     }
 
     /// Whether these are the same events.
@@ -87,6 +127,13 @@ impl Events {
     {
         are_same(self.as_slice(), other.as_slice())
     }
+}
+
+/// Copies of the events.
+fn copied(items: &Vec<Event>) -> Result<Vec<Event>, AllocError>
+    ensures { IfOk result (λ copies. copies.items ≡ items.now.items) }
+{
+    items.clone()
 }
 
 /// Whether two lists hold the same events.
@@ -201,6 +248,16 @@ impl Batch {
             && self.domain == other.domain
             && self.workflow == other.workflow
             && self.events.is_same(&other.events)
+    }
+}
+
+impl Clone for Batch {
+    ghost use Rattle.std.specs.Prelude.{◌≡◌};
+
+    ghost is_clone = { λ batch copy. copy ≡ batch };
+
+    fn clone(&self) -> Result<Batch, AllocError> {
+        self.try_copy()
     }
 }
 

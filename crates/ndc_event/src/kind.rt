@@ -3,10 +3,11 @@ ghost use Rattle.std.specs.Option.{option_copied};
 
 use crate::key::{Origin, RunId};
 use crate::name::Name;
+use crate::rare::Rare;
 use std::alloc::AllocError;
 
 /// What happened in an event, with its attributes.
-#[derive(Clone, Debug, Drop, PartialEq, Eq)]
+#[derive(Clone, Debug, Drop)]
 pub enum EventKind {
     /// A run of this type began.
     WorkflowExecutionStarted {
@@ -16,7 +17,7 @@ pub enum EventKind {
     WorkflowExecutionSignaled {
         signal_name: Name,
         input: Name,
-        origin: Option<Origin>,
+        origin: Rare<Origin>,
     },
     /// It was asked to cancel the run, which goes on until it is closed.
     WorkflowExecutionCancelRequested,
@@ -313,7 +314,7 @@ impl EventKind {
         ensures { result ≡ copied_origin self.now }
     {
         match self {
-            EventKind::WorkflowExecutionSignaled { origin, .. } => *origin,
+            EventKind::WorkflowExecutionSignaled { origin, .. } => origin.as_ref().copied(),
             EventKind::WorkflowExecutionStarted { .. }
             | EventKind::WorkflowExecutionCancelRequested
             | EventKind::WorkflowExecutionCompleted { .. }

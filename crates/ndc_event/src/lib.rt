@@ -6,9 +6,14 @@ mod items;
 mod key;
 mod kind;
 mod name;
+mod rare;
 
 pub use batch::{Batch, BatchFault, Event, Events};
 pub use items::Items;
 pub use key::{BatchKey, Origin, RunId};
 pub use kind::EventKind;
 pub use name::{Name, NameError};
+pub use rare::Rare;
+
+/// Want of memory, where it is the only error.
+pub type OutOfMemory = std::alloc::AllocError;

@@ -1,10 +1,10 @@
 //! What is told, piece by piece.
 use ndc_command::Refusal;
-use ndc_dump_show::dump_text;
-use ndc_dump_show::line::{push_key, push_number};
 use ndc_event::{BatchKey, Name};
 use ndc_shard::{Arrived, Shard, Written};
 use ndc_state::Steps;
+use ndc_text::dump_text;
+use ndc_text::line::{push_key, push_number};
 use std::alloc::{AllocError, Global};
 
 /// Marks the counters of steps of what is shown.

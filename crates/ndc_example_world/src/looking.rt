@@ -5,11 +5,11 @@ ghost use Rattle.ndc_script_types.specs.WellFormed.{IsCluster, IsWellFormedHeade
 use crate::telling::{push_answer, push_count};
 use ndc_domain::ClusterNo;
 use ndc_dump::dump_text;
-use ndc_dump_show::line::push_key;
 use ndc_event::{BatchKey, Name};
 use ndc_script_types::Header;
 use ndc_shard::{Shard, shard_of};
 use ndc_state::Steps;
+use ndc_text::line::push_key;
 use ndc_world::World;
 use std::alloc::{AllocError, Global};
 

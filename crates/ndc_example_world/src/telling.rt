@@ -1,5 +1,5 @@
 //! What is told, piece by piece.
-use ndc_dump_show::line::push_number;
+use ndc_text::line::push_number;
 use ndc_world::Summary;
 use std::alloc::AllocError;
 

@@ -2,11 +2,14 @@
 use Rattle.std.proofs.Common.{◌≡◌, ℕ, List, inl, inr, Option, sym, subst}
 use Rattle.ndc_port.specs.Bytes.{AppendsFront}
 use Rattle.ndc_port.proofs.Steps.{Sent_start, Sent_stop}
-use Rattle.ndc_dump_faults.specs.Telling.{Streams}
+use Rattle.ndc_dump.specs.Input.{InputFails, most_bytes}
+use Rattle.ndc_dump.specs.Telling.{Streams}
+use Rattle.ndc_dump.specs.declared.input.InputFault.{InputFault}
+use Rattle.ndc_dump.specs.declared.input.InputFault.TheVariants as input
 use Rattle.ndc_explain.specs.declared.fault.Fault.{Fault}
 use Rattle.ndc_explain.specs.declared.fault.Fault.TheVariants as fault
 use Rattle.ndc_explain.specs.declared.asked.Request.{Request}
-use Rattle.ndc_explain.specs.Top.{DumpFault, ExplainFault, ExplainsFront}
+use Rattle.ndc_explain.specs.Top.{ExplainFault, ExplainsFront, of_input}
 
 -- where nothing was written, a front of any text was
 pub nothing_written : (before after : Option (List ℕ)) (text : List ℕ) → after ≡ before → AppendsFront before after text
@@ -14,14 +17,12 @@ nothing_written before after text same = subst (λ (w : Option (List ℕ)). Appe
 
 module _ (request : Request) where
   -- a fault of reading is one of explaining, which has written nothing
-  pub dump_fault : (old new : Streams) (f : Fault) → new.written ≡ old.written → DumpFault old.left old.source_faults new.source_faults f → ExplainFault request old new f
-  dump_fault old new fault.Words same r = absurd r
-  dump_fault old new (fault.DumpLine line cause) same r = (r, same)
-  dump_fault old new (fault.DumpBatch key cause) same r = (r, same)
-  dump_fault old new fault.Read same r = (r, same)
-  dump_fault old new fault.Write same r = absurd r
-  dump_fault old new fault.Limit same r = (r, same)
-  dump_fault old new fault.Memory same r = same
+  pub input_fault : (old new : Streams) (f : InputFault) → new.written ≡ old.written → InputFails most_bytes old.left old.source_faults new.source_faults f → ExplainFault request old new (of_input f)
+  input_fault old new input.Read same r = (r, same)
+  input_fault old new input.Limit same r = (r, same)
+  input_fault old new (input.Line line cause) same r = (r, same)
+  input_fault old new (input.Key key cause) same r = (r, same)
+  input_fault old new input.Memory same r = same
 
   -- whatever the fault, a front of the explanation was written
   pub told_end : (old new : Streams) (f : Fault) → ExplainFault request old new f → ExplainsFront request old.left old.written new.written

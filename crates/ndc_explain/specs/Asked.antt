@@ -11,8 +11,8 @@ use Rattle.ndc_script_words.specs.Number.{number_of}
 use Rattle.ndc_explain.specs.declared.asked.Form.{Form}
 use Rattle.ndc_explain.specs.declared.asked.Form.TheVariants.{Text, Picture, TreePicture}
 use Rattle.ndc_explain.specs.declared.asked.Request.{Request}
-use Rattle.ndc_explain.specs.declared.error.WordsError.{WordsError}
-use Rattle.ndc_explain.specs.declared.error.WordsError.TheVariants.{Refused}
+use Rattle.ndc_tool_words.specs.declared.error.WordsError.{WordsError}
+use Rattle.ndc_tool_words.specs.declared.error.WordsError.TheVariants.{Refused}
 
 -- the number that a word is, or else the words are refused
 abbrev pub number_or : Option ℕ → Result ℕ WordsError

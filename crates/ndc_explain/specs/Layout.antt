@@ -1,5 +1,5 @@
 -- The layout of a picture: a lane for each version, and in it one block below the other, each below its parent's.
-use Rattle.std.specs.Prelude.{ℕ, Bool, true, false, is_some, ◌==◌, ◌+◌, ◌-◌, ◌*◌, ◌^◌, min, nat_lt, List, [], ◌∷◌, length, Option, Some, None, if◌then◌else◌}
+use Rattle.std.specs.Prelude.{ℕ, Bool, true, false, is_some, ◌==◌, ◌+◌, ◌-◌, ◌*◌, ◌^◌, max, min, nat_lt, List, [], ◌∷◌, length, Option, Some, None, if◌then◌else◌}
 use Rattle.ndc_event.specs.declared.batch.Batch.{Batch}
 use Rattle.ndc_event.specs.declared.key.BatchKey.{BatchKey}
 use Rattle.ndc_model_sets.specs.Sets.{earlier_of}
@@ -12,10 +12,6 @@ use Rattle.ndc_explain.specs.Places.{Placed, bottom_of, nothing_placed, place_at
 -- the sum of two lengths; the greatest that can be told where it is longer
 abbrev pub plus : ℕ → ℕ → ℕ
 plus one two = min (one + two) (2 ^ 64 - 1)
-
--- the greater of two lengths
-abbrev pub greater : ℕ → ℕ → ℕ
-greater one two = if nat_lt one two then two else one
 
 -- how many lines a block has below its key and its run, for so many events: one each, and behind six of them one more
 abbrev pub lines_for : ℕ → ℕ
@@ -38,7 +34,7 @@ lane_of version now =
 
 -- where a block of this height goes: below what is in the lane and below the block of the earlier batch
 abbrev pub top_for : Option BatchKey → Layout → ℕ
-top_for earlier now = plus (greater now.bottom (bottom_of (place_at earlier now.places))) 28
+top_for earlier now = plus (max now.bottom (bottom_of (place_at earlier now.places))) 28
 
 abbrev pub place_for : Option BatchKey → ℕ → Layout → Place
 place_for earlier height now = record { left = now.left; top = top_for earlier now; bottom = plus (top_for earlier now) height }
@@ -49,7 +45,7 @@ with_place block place now = record {
   version = now.version;
   left = now.left;
   bottom = place.bottom;
-  depth = greater now.depth place.bottom;
+  depth = max now.depth place.bottom;
   places = with_batches place block now.places;
 }
 
@@ -79,7 +75,7 @@ abbrev pub width_of : Layout → ℕ
 width_of layout = plus layout.left 330
 
 abbrev pub depth_of : Layout → ℕ
-depth_of layout = plus (greater layout.depth 180) 20
+depth_of layout = plus (max layout.depth 180) 20
 
 -- whether a block has a place
 abbrev pub is_placed : Placed → List Batch → Bool

@@ -1,16 +1,28 @@
 -- The program as a whole: what it writes, the faults that end it, and what it tells of them.
-use Rattle.std.specs.Prelude.{◌≡◌, ◌⊎◌, ℕ, ◌==◌, ◌<◌, ◌≤◌, Bool, ⊤, List, [], length, codes, Option, Some, None, Err, IsOkAnd, IfSome, if◌then◌else◌}
+use Rattle.std.specs.Prelude.{◌≡◌, ◌⊎◌, ℕ, ◌==◌, ◌<◌, ◌≤◌, Bool, List, [], length, codes, Option, Some, None, Err, IsOkAnd, IfSome, if◌then◌else◌}
 use Rattle.ndc_port.specs.Bytes.{Appends, AppendsFront}
 use Rattle.ndc_port.specs.Fault.{Rose}
 use Rattle.ndc_dump.specs.Read.{dump_of}
+use Rattle.ndc_dump_causes.specs.declared.error.DumpError.{DumpError}
 use Rattle.ndc_dump_causes.specs.declared.error.DumpError.TheVariants as error
-use Rattle.ndc_dump_faults.specs.Faults.{dump_batch_line, dump_line}
-use Rattle.ndc_dump_faults.specs.Telling.{Streams, most_bytes}
+use Rattle.ndc_dump.specs.Faults.{dump_batch_line, dump_line}
+use Rattle.ndc_dump.specs.Input.{most_bytes}
+use Rattle.ndc_dump.specs.Telling.{Streams, TellsErrorAs}
+use Rattle.ndc_dump.specs.declared.input.InputFault.{InputFault}
+use Rattle.ndc_dump.specs.declared.input.InputFault.TheVariants as input
 use Rattle.ndc_explain.specs.Explanation.{findings, leaves_any}
 use Rattle.ndc_explain.specs.Told.{told_of}
 use Rattle.ndc_explain.specs.declared.asked.Request.{Request}
 use Rattle.ndc_explain.specs.declared.fault.Fault.{Fault}
 use Rattle.ndc_explain.specs.declared.fault.Fault.TheVariants as fault
+
+-- the fault that ends the program where its input was not read
+abbrev pub of_input : InputFault → Fault
+of_input input.Read = fault.Read
+of_input input.Limit = fault.Limit
+of_input (input.Line line cause) = fault.DumpLine line cause
+of_input (input.Key key cause) = fault.DumpBatch key cause
+of_input input.Memory = fault.Memory
 
 -- the status that the program ends with after a fault
 abbrev pub status_of : Fault → ℕ
@@ -25,12 +37,12 @@ status_of fault.Memory = 8
 -- the line that tells of a fault
 abbrev pub fault_line : Fault → List ℕ
 fault_line fault.Words = codes "ndc_explain: words: [--picture|--picture=text] [--clusters NAME=INITIAL,.. --increment INCREMENT]\n"
-fault_line (fault.DumpLine line cause) = dump_line line cause
-fault_line (fault.DumpBatch key cause) = dump_batch_line key cause
-fault_line fault.Read = codes "ndc: read fault\n"
-fault_line fault.Write = codes "ndc: write fault\n"
-fault_line fault.Limit = codes "ndc: input limit\n"
-fault_line fault.Memory = codes "ndc: out of memory\n"
+fault_line (fault.DumpLine line cause) = dump_line (codes "ndc_explain") line cause
+fault_line (fault.DumpBatch key cause) = dump_batch_line (codes "ndc_explain") key cause
+fault_line fault.Read = codes "ndc_explain: read fault\n"
+fault_line fault.Write = codes "ndc_explain: write fault\n"
+fault_line fault.Limit = codes "ndc_explain: input limit\n"
+fault_line fault.Memory = codes "ndc_explain: out of memory\n"
 
 -- the line for a status that needs no more than a constant line
 abbrev pub status_line : ℕ → Option (List ℕ)
@@ -46,6 +58,10 @@ status_line status =
 abbrev pub told_status : Bool → ℕ
 told_status leaves = if leaves then 1 else 0
 
+-- the line on a faulty dump was written, or a front of it and a fault came
+abbrev pub TellsDumpError : Option (List ℕ) → Option (List ℕ) → ℕ → ℕ → DumpError → Type 0
+TellsDumpError before after faults_before faults_after error = TellsErrorAs (codes "ndc_explain") before after faults_before faults_after error
+
 -- all was read, it was a dump, it was told whole in the form that was asked for, and this is whether it leaves something
 abbrev pub Explains : Request → Bool → Option (List ℕ) → Option (List ℕ) → Option (List ℕ) → Option (List ℕ) → Type 0
 Explains request leaves left rest before after =
@@ -60,23 +76,13 @@ StopsExplaining request left before after =
 abbrev pub ExplainsFront : Request → Option (List ℕ) → Option (List ℕ) → Option (List ℕ) → Type 0
 ExplainsFront request left before after = (after ≡ before) ⊎ StopsExplaining request left before after
 
--- why reading a dump ends with a fault
-abbrev pub DumpFault : Option (List ℕ) → ℕ → ℕ → Fault → Type 0
-DumpFault left before after fault.Words = ⊥
-DumpFault left before after (fault.DumpLine line cause) = IfSome left (λ bytes. (length bytes ≤ most_bytes) × (dump_of bytes ≡ Err (error.Line line cause)))
-DumpFault left before after (fault.DumpBatch key cause) = IfSome left (λ bytes. (length bytes ≤ most_bytes) × (dump_of bytes ≡ Err (error.Key key cause)))
-DumpFault left before after fault.Read = Rose before after
-DumpFault left before after fault.Write = ⊥
-DumpFault left before after fault.Limit = IfSome left (λ bytes. most_bytes < length bytes)
-DumpFault left before after fault.Memory = ⊤
-
 -- why explaining a dump ends with a fault, between what was there and what is there
 abbrev pub ExplainFault : Request → Streams → Streams → Fault → Type 0
 ExplainFault request old new fault.Words = ⊥
 ExplainFault request old new (fault.DumpLine line cause) =
-    DumpFault old.left old.source_faults new.source_faults (fault.DumpLine line cause) × (new.written ≡ old.written)
+    IfSome old.left (λ bytes. (length bytes ≤ most_bytes) × (dump_of bytes ≡ Err (error.Line line cause))) × (new.written ≡ old.written)
 ExplainFault request old new (fault.DumpBatch key cause) =
-    DumpFault old.left old.source_faults new.source_faults (fault.DumpBatch key cause) × (new.written ≡ old.written)
+    IfSome old.left (λ bytes. (length bytes ≤ most_bytes) × (dump_of bytes ≡ Err (error.Key key cause))) × (new.written ≡ old.written)
 ExplainFault request old new fault.Read = Rose old.source_faults new.source_faults × (new.written ≡ old.written)
 ExplainFault request old new fault.Write = Rose old.out_faults new.out_faults × StopsExplaining request old.left old.written new.written
 ExplainFault request old new fault.Limit = IfSome old.left (λ bytes. most_bytes < length bytes) × (new.written ≡ old.written)

@@ -1,17 +1,17 @@
 //! The words that the program is called with.
-ghost use Rattle.std.specs.Prelude.{◌≡◌, ◌==◌, map, IfOk, if◌then◌else◌};
+ghost use Rattle.std.specs.Prelude.{◌≡◌, ◌==◌, map, IfOk};
 ghost use Rattle.std.specs.List.{slice_split};
 ghost use Rattle.std.specs.String.{string_bytes};
 ghost use Rattle.ndc_domain.specs.Clusters.{clusters_of};
 ghost use Rattle.ndc_event.specs.Outcome.{Gives};
-ghost use Rattle.ndc_explain.specs.declared.error.WordsError.TheVariants.{Memory};
+ghost use Rattle.ndc_tool_words.specs.declared.error.WordsError.TheVariants.{Memory};
 ghost use Rattle.ndc_script_words.specs.Number.{number_of};
 ghost use Rattle.ndc_explain.specs.Asked.{asked_of, clusters_on, clusters_or, member_in, member_of, member_with, members_on, name_on, named_by, number_or, request_for};
 
-use crate::error::WordsError;
 use ndc_domain::Clusters;
 use ndc_event::{Name, NameError};
 use ndc_script_words::number_of;
+use ndc_tool_words::{WordsError, parts_of};
 use std::alloc::{AllocError, Global};
 
 /// The number that a word is.
@@ -50,13 +50,6 @@ fn sides_of<'a>(alloc: Global, text: &'a [u8]) -> Result<Vec<&'a [u8]>, AllocErr
     ensures { IfOk result (λ parts. map (λ part. part.now) parts.items ≡ slice_split (λ byte. byte == 61) text.now) }
 {
     text.split(|byte| *byte == b'=').collect(alloc)
-}
-
-/// What stands between the commas of a text.
-fn parts_of<'a>(alloc: Global, text: &'a [u8]) -> Result<Vec<&'a [u8]>, AllocError>
-    ensures { IfOk result (λ parts. map (λ part. part.now) parts.items ≡ slice_split (λ byte. byte == 44) text.now) }
-{
-    text.split(|byte| *byte == b',').collect(alloc)
 }
 
 /// The member that the two sides of an equals sign are.

@@ -259,7 +259,7 @@ fn copied_by(kind: &EventKind) -> Option<Origin>
     ensures { result ≡ copied_by kind.now }
 {
     match kind {
-        EventKind::WorkflowExecutionSignaled { origin, .. } => *origin,
+        EventKind::WorkflowExecutionSignaled { origin, .. } => origin.as_ref().copied(),
         _ => None,
     }
 }

@@ -8,9 +8,9 @@ use crate::loss::push_losses;
 use crate::piece::{Piece, push_pieces};
 use crate::writer::writer_name;
 use ndc_domain::Clusters;
-use ndc_dump_show::line::push_run_line;
 use ndc_event::{BatchKey, Event, RunId};
 use ndc_model_sets::{BranchView, RunView};
+use ndc_text::line::push_run_line;
 use std::alloc::{AllocError, Global};
 
 /// The branch that leads.

@@ -1,5 +1,5 @@
 //! The picture of a dump in characters: the newest block first, and a column for each branch that goes on.
-ghost use Rattle.std.specs.Prelude.{◌≡◌, ◌++◌, false, is_some, map, OnOk};
+ghost use Rattle.std.specs.Prelude.{◌≡◌, ◌++◌, false, map, OnOk};
 ghost use Rattle.std.specs.List.{flat_map};
 ghost use Rattle.ndc_explain.specs.Graph.{between_text, block_events, block_head, copy_text, fate_text, is_inside, joint_line, joint_of, joint_text, kind_word, more_words, node_text, row_text, tree_picture_of};
 
@@ -12,9 +12,9 @@ use crate::writer::writer_name;
 use ndc_domain::Clusters;
 use ndc_dump::Dump;
 use ndc_dump_causes::keys::KeySet;
-use ndc_dump_show::print::push_heading;
 use ndc_event::{Batch, BatchKey, Origin};
 use ndc_history::Item;
+use ndc_text::dump::push_heading;
 use std::alloc::{AllocError, Global};
 use std::marker::Model;
 

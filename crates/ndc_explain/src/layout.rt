@@ -1,7 +1,7 @@
 //! The layout of a picture: a lane for each version, and in it one block below the other, each below its parent's.
 ghost use Rattle.std.specs.Prelude.{◌≡◌, ◌≤◌, IfOk, map};
 ghost use Rattle.ndc_model_sets.specs.Sets.{earlier_of};
-ghost use Rattle.ndc_explain.specs.Layout.{depth_of, greater, height_for, is_lane, layout_of, lines_for, plus, width_of};
+ghost use Rattle.ndc_explain.specs.Layout.{depth_of, height_for, is_lane, layout_of, lines_for, plus, width_of};
 
 use crate::blocks::{Block, kinds_of, summary_of};
 use crate::places::{Place, Places, bottom_of};
@@ -14,13 +14,6 @@ pub(crate) fn plus(one: u64, two: u64) -> u64
     ensures { result ≡ plus one two }
 {
     one.saturating_add(two)
-}
-
-/// The greater of two lengths.
-fn greater(one: u64, two: u64) -> u64
-    ensures { result ≡ greater one two }
-{
-    if one < two { two } else { one }
 }
 
 /// How many lines a block has for so many events.
@@ -104,10 +97,8 @@ impl Layout {
     fn top_for(&self, earlier: Option<BatchKey>) -> u64
         ensures { result ≡ top_for earlier self.now }
     {
-        plus(
-            greater(self.bottom, bottom_of(self.places.place_at(earlier))),
-            28,
-        )
+        let above = bottom_of(self.places.place_at(earlier));
+        plus(self.bottom.max(above), 28)
     }
 
     /// The place of a block of this height that comes behind this batch.
@@ -127,7 +118,7 @@ impl Layout {
         ensures { OnOk result (self.new ≡ with_place (map (λ b. b.now) batches.now) place self.old) }
     {
         self.bottom = place.bottom;
-        self.depth = greater(self.depth, place.bottom);
+        self.depth = self.depth.max(place.bottom);
         self.places.add_batches(place, batches)
     }
 
@@ -181,7 +172,7 @@ impl Layout {
     pub(crate) fn depth(&self) -> u64
         ensures { result ≡ depth_of self.now }
     {
-        plus(greater(self.depth, 180), 20)
+        plus(self.depth.max(180), 20)
     }
 }
 

@@ -6,7 +6,6 @@ mod asked;
 mod blocks;
 mod branches;
 mod columns;
-mod error;
 mod fault;
 mod graph;
 pub mod laws;

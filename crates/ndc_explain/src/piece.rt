@@ -6,9 +6,9 @@ ghost use Rattle.ndc_text.specs.Views.{key_text};
 ghost use Rattle.ndc_explain.specs.Pieces.{behind_space, by_text, carrier_text, escaped, escaped_by_text, escaped_text, piece_text, shared_text, span_text};
 
 use crate::summary::Summary;
-use ndc_dump_show::line::{push_item, push_key, push_number};
 use ndc_event::{BatchKey, RunId};
 use ndc_history::Item;
+use ndc_text::line::{push_item, push_key, push_number};
 use std::alloc::AllocError;
 
 /// A piece of a line.

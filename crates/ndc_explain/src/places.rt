@@ -4,7 +4,7 @@ ghost use Rattle.std.specs.Option.{option_copied};
 ghost use Rattle.ndc_explain.specs.Places.{bottom_of};
 
 use indexmap::IndexMap;
-use ndc_event::{Batch, BatchKey, Event, EventKind, Origin, RunId};
+use ndc_event::{Batch, BatchKey, Event, EventKind, Origin, Rare, RunId};
 use ndc_state::origin_of;
 use std::alloc::{AllocError, Global};
 use std::marker::Model;
@@ -98,7 +98,11 @@ impl Places {
     {
         match &event.kind {
             EventKind::WorkflowExecutionSignaled { origin, .. } => {
-                self.add_own(place, origin_of(run, event, None), *origin)
+                self.add_own(
+                    place,
+                    origin_of(run, event, &Rare::none()),
+                    origin.as_ref().copied(),
+                )
             }
             _ => Ok(()),
         }

@@ -63,10 +63,10 @@ impl Settlers {
             EventKind::WorkflowExecutionSignaled { origin, .. } => {
                 let settler = Settler {
                     key: batch.key,
-                    is_copy: origin.is_some(),
+                    is_copy: origin.as_ref().is_some(),
                 };
                 self.known
-                    .insert(origin_of(batch.run, event, *origin), settler)?;
+                    .insert(origin_of(batch.run, event, origin), settler)?;
                 Ok(())
             }
             _ => Ok(()),

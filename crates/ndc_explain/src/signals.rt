@@ -28,7 +28,7 @@ fn push_signal(list: &mut Vec<Stray>, run: RunId, event: &Event) -> Result<(), A
             origin,
         } => {
             list.push(Stray {
-                origin: origin_of(run, event, *origin),
+                origin: origin_of(run, event, origin),
                 name: signal_name.try_copy()?,
                 input: input.try_copy()?,
             })?;

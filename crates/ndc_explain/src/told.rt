@@ -17,10 +17,10 @@ use crate::signals::{each_signal, push_fates, waiting_count};
 use crate::standing::standing;
 use ndc_domain::Clusters;
 use ndc_dump::Dump;
-use ndc_dump_show::print::push_heading;
 use ndc_event::{BatchKey, Event, Name, RunId};
 use ndc_model_sets::{RunStatus, RunView, View};
 use ndc_reapply::Stray;
+use ndc_text::dump::push_heading;
 use std::alloc::{AllocError, Global};
 use std::marker::Model;
 

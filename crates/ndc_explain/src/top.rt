@@ -1,47 +1,24 @@
 //! The program's top call, over any source and sinks: it reads a dump and tells it.
-ghost use Rattle.std.specs.Prelude.{◌≡◌, ◌≤◌, ◌<◌, true, false, Ok, Err, Some, [], ◌∷◌, map, length, IfOk, IfErr, IfSome, IsOk, IsErr, IsErrAnd, OnOk, OnErr};
+ghost use Rattle.std.specs.Prelude.{◌≡◌, ◌≤◌, ◌<◌, true, false, Ok, Err, [], ◌∷◌, map, length, IfOk, IfErr, IfSome, IsOk, IsErr, IsErrAnd, OnOk, OnErr};
 ghost use Rattle.std.specs.String.{string_bytes};
 ghost use Rattle.ndc_port.specs.Bytes.{Appends, AppendsFront};
 ghost use Rattle.ndc_port.specs.Fault.{Rose};
 ghost use Rattle.ndc_dump.specs.Read.{dump_of};
-ghost use Rattle.ndc_dump_faults.specs.Telling.{IsAmong, Tells, TellsDumpError, most_bytes};
+ghost use Rattle.ndc_dump.specs.Input.{most_bytes};
+ghost use Rattle.ndc_dump.specs.Telling.{IsAmong, Tells};
 ghost use Rattle.ndc_explain.specs.Asked.{asked_of};
 ghost use Rattle.ndc_explain.specs.Explanation.{findings, leaves_any};
 ghost use Rattle.ndc_explain.specs.Told.{told_of};
-ghost use Rattle.ndc_explain.specs.Top.{status_of, status_line, told_status, fault_line, Explains, ExplainsFront, DumpFault, ExplainFault};
-ghost use Rattle.ndc_explain.specs.declared.error.WriteError.TheVariants as write;
+ghost use Rattle.ndc_explain.specs.Top.{status_of, status_line, told_status, fault_line, Explains, ExplainsFront, ExplainFault, TellsDumpError};
+ghost use Rattle.ndc_dump.specs.declared.error.PrintError.TheVariants as print;
 
 use crate::asked::{Request, asked_of};
-use crate::error::{WordsError, WriteError};
 use crate::fault::Fault;
 use crate::told::told;
-use ndc_dump::{Dump, DumpError, read_dump};
-use ndc_port::{ReadError, Sink, Source, read_all, write_all};
+use ndc_dump::{Dump, MOST_BYTES, PrintError, read_input};
+use ndc_port::{Sink, Source, write_all};
+use ndc_tool_words::WordsError;
 use std::alloc::Global;
-
-/// How many bytes the input may have.
-const MOST_BYTES: usize = 16_777_216;
-
-/// Reads a dump.
-fn read_input<S: Source>(alloc: Global, source: &mut S) -> Result<Dump, Fault>
-    ensures dump { IfOk result (λ dump. IfSome (S.left source.old) (λ bytes. (length bytes ≤ most_bytes) × (dump_of bytes ≡ Ok dump))) }
-    ensures end { OnOk result (IfSome (S.left source.old) (λ _. S.left source.new ≡ Some [])) }
-    ensures fault { IfErr result (DumpFault (S.left source.old) (S.faults source.old) (S.faults source.new)) }
-    ensures count { S.faults source.old ≤ S.faults source.new }
-{
-    let bytes = match read_all(alloc, source, MOST_BYTES) {
-        Ok(bytes) => bytes,
-        Err(ReadError::Fault) => return Err(Fault::Read),
-        Err(ReadError::TooLong) => return Err(Fault::Limit),
-        Err(ReadError::Memory) => return Err(Fault::Memory),
-    };
-    match read_dump(alloc, bytes.as_slice()) {
-        Ok(dump) => Ok(dump),
-        Err(DumpError::Line { line, cause }) => Err(Fault::DumpLine { line, cause }),
-        Err(DumpError::Key { key, cause }) => Err(Fault::DumpBatch { key, cause }),
-        Err(DumpError::Memory) => Err(Fault::Memory),
-    }
-}
 
 /// Tells a dump in one piece, in the form that was asked for, and answers whether it leaves something given up or waiting.
 fn write_explanation<K: Sink>(
@@ -49,12 +26,12 @@ fn write_explanation<K: Sink>(
     request: &Request,
     dump: &Dump,
     out: &mut K,
-) -> Result<bool, WriteError>
+) -> Result<bool, PrintError>
     ensures whole { OnOk result (Appends (K.written out.old) (K.written out.new) (told_of request.now dump.now)) }
     ensures leaves { IfOk result (λ leaves. leaves ≡ leaves_any (findings dump.now.view)) }
     ensures front { OnErr result (AppendsFront (K.written out.old) (K.written out.new) (told_of request.now dump.now)) }
-    ensures cause { result ≡ Err write.Write → Rose (K.faults out.old) (K.faults out.new) }
-    ensures unwritten { result ≡ Err write.Memory → K.written out.new ≡ K.written out.old }
+    ensures cause { result ≡ Err print.Write → Rose (K.faults out.old) (K.faults out.new) }
+    ensures unwritten { result ≡ Err print.Memory → K.written out.new ≡ K.written out.old }
     ensures count { K.faults out.old ≤ K.faults out.new }
 {
     let told = told(alloc, request, dump)?;
@@ -76,14 +53,11 @@ fn explain_dump<S: Source, K: Sink>(
     ensures source_count { S.faults source.old ≤ S.faults source.new }
     ensures out_count { K.faults out.old ≤ K.faults out.new }
 {
-    let dump = match read_input(alloc, source) {
-        Ok(dump) => dump,
-        Err(fault) => return Err(fault),
-    };
+    let dump = read_input(alloc, source, MOST_BYTES)?;
     match write_explanation(alloc, request, &dump, out) {
         Ok(leaves) => Ok(leaves),
-        Err(WriteError::Write) => Err(Fault::Write),
-        Err(WriteError::Memory) => Err(Fault::Memory),
+        Err(PrintError::Write) => Err(Fault::Write),
+        Err(PrintError::Memory) => Err(Fault::Memory),
     }
 }
 

@@ -40,7 +40,7 @@ fn main(rt: HostRuntime) -> ExitCode {
         Ok(status) => ExitCode::from(status),
         // No memory for the words.
         Err(_) => {
-            let _told = eprintln!(&rt; "ndc: out of memory");
+            let _told = eprintln!(&rt; "ndc_explain: out of memory");
             ExitCode::from(8)
         }
     }

@@ -1,4 +1,4 @@
-ghost use Rattle.std.specs.Prelude.{◌≡◌, ◌≤◌, ◌^◌, length};
+ghost use Rattle.std.specs.Prelude.{◌≡◌, length};
 ghost use Rattle.ndc_model_cells.specs.Writing.{is_writer};
 ghost use Rattle.ndc_domain.specs.Clusters.{writer_of};
 ghost use Rattle.ndc_domain.specs.Records.{record_of};
@@ -54,15 +54,14 @@ fn version_not_below(table: &DomainTable, domain: &Name, new: u64) -> Option<u64
 
 /// Whether each shard is done up to its place; or the first one that is not.
 fn lagging(places: &[u64], levels: &[Levels]) -> Result<(), ReadyError>
-    requires alike { length levels.now ≡ length places.now }
-    requires numbered { length places.now ≤ 2 ^ 32 }
+    requires { length levels.now ≡ length places.now }
     ensures { result ≡ lagging_from 0 places.now levels.now }
 {
     for shard in 0..places.len() {
         let (place, level) = (places[shard], &levels[shard]);
         let done = level.done;
         if done < place {
-            let shard = shard as u32;
+            let shard = shard as u64;
             return Err(ReadyError::NotYet { shard, done, place });
         }
     }
@@ -70,7 +69,7 @@ fn lagging(places: &[u64], levels: &[Levels]) -> Result<(), ReadyError>
 }
 
 impl Handover {
-    ghost use Rattle.std.specs.Prelude.{◌≡◌, ◌≤◌, ◌^◌, length, IfOk, OnErr};
+    ghost use Rattle.std.specs.Prelude.{◌≡◌, length, IfOk, OnErr};
     ghost use Rattle.ndc_event.specs.Outcome.{Gives};
     ghost use Rattle.ndc_graceful.specs.Begin.{begin_of};
     ghost use Rattle.ndc_graceful.specs.Ready.{ready_of};
@@ -119,7 +118,7 @@ impl Handover {
     /// is one of which it came to be a member late, and by its table. Refused with [`ReadyError::Overtaken`] where
     /// the target's record has a version not below the new one, then [`ReadyError::BootstrapDue`] where it is
     /// late, and [`ReadyError::NotYet`] for the first shard that is not done up to its place. Takes no memory.
-    /// There is one `Levels` a place, and a shard's number is a `u32`.
+    /// There is one `Levels` a place.
     #[tactic(auto, unfolding(crate::specs::Ready::ready_of))]
     pub fn ready(
         &self,
@@ -128,7 +127,6 @@ impl Handover {
         table: &DomainTable,
     ) -> Result<(), ReadyError>
         requires alike { length levels.now ≡ length self.now.places }
-        requires numbered { length levels.now ≤ 2 ^ 32 }
         ensures { result ≡ ready_of self.now levels.now late table.now }
     {
         if let Some(version) = version_not_below(table, &self.domain, self.new) {
@@ -215,5 +213,5 @@ pub enum ReadyError {
     #[error("the target has not been brought what was written before it was a member")]
     BootstrapDue,
     #[error("in shard {shard} the target is done up to {done} of {place}")]
-    NotYet { shard: u32, done: u64, place: u64 },
+    NotYet { shard: u64, done: u64, place: u64 },
 }

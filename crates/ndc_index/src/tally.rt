@@ -57,7 +57,7 @@ fn is_original(kind: &EventKind) -> bool
     ensures { result ≡ counts which.Originals kind.now }
 {
     match kind {
-        EventKind::WorkflowExecutionSignaled { origin, .. } => origin.is_none(),
+        EventKind::WorkflowExecutionSignaled { origin, .. } => origin.as_ref().is_none(),
         _ => false,
     }
 }
@@ -67,7 +67,7 @@ fn is_copy(kind: &EventKind) -> bool
     ensures { result ≡ counts which.Copies kind.now }
 {
     match kind {
-        EventKind::WorkflowExecutionSignaled { origin, .. } => origin.is_some(),
+        EventKind::WorkflowExecutionSignaled { origin, .. } => origin.as_ref().is_some(),
         _ => false,
     }
 }

@@ -1,6 +1,4 @@
-ghost use Rattle.std.specs.Prelude.{◌≡◌, IfOk};
-
-use ndc_event::Batch;
+use ndc_event::{Batch, Rare};
 use ndc_history::VersionHistory;
 use std::alloc::AllocError;
 
@@ -13,17 +11,7 @@ pub struct Message {
     /// For each version on the path to the batch the last event id written with it.
     pub history: VersionHistory,
     /// The first batch of the run as which the batch's run goes on.
-    pub second: Option<Batch>,
-}
-
-/// The same batch, where there is one.
-fn copy_second(second: &Option<Batch>) -> Result<Option<Batch>, AllocError>
-    ensures { IfOk result (λ copy. copy ≡ second.now) }
-{
-    match second {
-        Some(batch) => Ok(Some(batch.try_copy()?)),
-        None => Ok(None),
-    }
+    pub second: Rare<Batch>,
 }
 
 impl Message {
@@ -36,7 +24,7 @@ impl Message {
         Ok(Message {
             batch: self.batch.try_copy()?,
             history: self.history.try_copy()?,
-            second: copy_second(&self.second)?,
+            second: self.second.clone()?,
         })
     }
 }

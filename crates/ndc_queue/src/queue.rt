@@ -1,5 +1,9 @@
-ghost use Rattle.std.specs.Prelude.{◌≡◌, ◌≤◌, drop, length, take, IfOk};
+ghost use Rattle.std.specs.Prelude.{◌≡◌, ◌≤◌, ◌*◌, drop, length, take, IfOk};
+ghost use Rattle.std.specs.List.{AllByRecursion};
+ghost use Rattle.ndc_queue.specs.Queues.{IsEmptied};
 
+use ndc_event::{Events, Rare};
+use ndc_history::VersionHistory;
 use ndc_model_cells::Message;
 use std::alloc::{AllocError, Global};
 use std::marker::Model;
@@ -9,26 +13,32 @@ pub const MAX_ENTRIES: u64 = 1_000_000_000_000;
 
 /// The messages that a cell has written, in order. The first ones may have been dropped. Seen as how many these are,
 /// and the list of the others.
+///
+/// What is dropped is let go at once. To take it out of `entries` moves all that is kept, so that waits until it is more
+/// than half; meanwhile its places stay, each with the names and keys of its batch. Room for as many entries as there were
+/// at once stays until the queue is let go.
 #[derive(Debug, Drop)]
 pub struct Queue {
     /// The kept entries, behind dropped ones that have not been taken out yet.
     entries: Vec<Message>,
-    /// How many of `entries` are dropped ones: at most half of them.
+    /// How many of `entries` are dropped ones: at most half of them. They are emptied.
     idle: usize,
     /// How many entries were dropped in all.
     first: u64,
 }
 
 impl Model for Queue {
-    ghost use Rattle.std.specs.Prelude.{◌≤◌, ◌+◌, ◌*◌, ◌^◌, drop, length};
-    ghost use Rattle.ndc_queue.specs.Queues.{QueueValue};
+    ghost use Rattle.std.specs.Prelude.{◌≤◌, ◌+◌, ◌*◌, ◌^◌, drop, length, take};
+    ghost use Rattle.std.specs.List.{AllByRecursion};
+    ghost use Rattle.ndc_queue.specs.Queues.{IsEmptied, QueueValue};
 
     ghost Value = { QueueValue };
 
     ghost view = { λ queue. record { first = queue.first; kept = drop queue.idle queue.entries.items } };
 
     ghost invariant = { λ queue. (2 * queue.idle ≤ length queue.entries.items)
-        × (queue.first + length (drop queue.idle queue.entries.items) ≤ 10 ^ 12) };
+        × (queue.first + length (drop queue.idle queue.entries.items) ≤ 10 ^ 12)
+        × AllByRecursion IsEmptied (take queue.idle queue.entries.items) };
 }
 
 /// Takes the first entries out.
@@ -39,6 +49,42 @@ fn take_out(entries: &mut Vec<Message>, count: usize)
     let left = entries.len() - count;
     entries.rotate_left(count);
     entries.truncate(left);
+}
+
+/// Empties the entries at these places: lets go their events, their version histories and what they carry.
+fn empty(entries: &mut Vec<Message>, from: usize, to: usize)
+    requires from { from ≤ to }
+    requires to { to ≤ length entries.old.items }
+    ensures emptied { AllByRecursion IsEmptied (take from entries.old.items)
+        → AllByRecursion IsEmptied (take to entries.new.items) }
+    ensures kept { drop to entries.new.items ≡ drop to entries.old.items }
+    ensures len { length entries.new.items ≡ length entries.old.items }
+{
+    let alloc = *entries.allocator();
+    for place in from..to {
+        let entry = &mut entries[place];
+        entry.batch.events = Events::of(Vec::new(alloc));
+        entry.history = VersionHistory::new(alloc);
+        entry.second = Rare::none();
+    }
+}
+
+/// Drops the entries before a place, of which the first ones are idle, and answers how many are idle then: none where they
+/// are taken out, since they are more than half, and else all of them.
+fn drop_front(entries: &mut Vec<Message>, idle: usize, place: usize) -> usize
+    requires idle { idle ≤ place }
+    requires place { place ≤ length entries.old.items }
+    requires emptied { AllByRecursion IsEmptied (take idle entries.old.items) }
+    ensures kept { drop result entries.new.items ≡ drop place entries.old.items }
+    ensures most { 2 * result ≤ length entries.new.items }
+    ensures emptied { AllByRecursion IsEmptied (take result entries.new.items) }
+{
+    if entries.len() / 2 < place {
+        take_out(entries, place);
+        return 0;
+    }
+    empty(entries, idle, place);
+    place
 }
 
 /// The first entries, at most so many.
@@ -64,9 +110,9 @@ fn copies(alloc: Global, entries: &[Message]) -> Result<Vec<Message>, AllocError
 }
 
 impl Queue {
-    ghost use Rattle.std.specs.Prelude.{◌≡◌, ◌≤◌, ◌^◌, Err, IfOk, OnErr, OnOk, take};
+    ghost use Rattle.std.specs.Prelude.{◌≡◌, ◌≤◌, ◌^◌, Err, IfOk, IsErr, OnErr, OnOk, take};
     ghost use Rattle.ndc_queue.specs.Lists.{kept_from};
-    ghost use Rattle.ndc_queue.specs.Queues.{new_queue, pushed, queue_len, trimmed};
+    ghost use Rattle.ndc_queue.specs.Queues.{IsFull, new_queue, pushed, queue_len, trimmed};
 
     /// The queue without an entry. Takes no memory.
     pub fn new(alloc: Global) -> Queue
@@ -79,11 +125,12 @@ impl Queue {
         }
     }
 
-    /// Puts an entry last. Where memory runs out, the queue stays as it was; a queue of [`MAX_ENTRIES`] entries
+    /// Puts an entry last. Where memory runs out, the queue stays as it was; a full queue, of [`MAX_ENTRIES`] entries,
     /// answers so too.
     pub fn push(&mut self, message: Message) -> Result<(), AllocError>
         ensures pushed { OnOk result (self.new ≡ pushed message self.old) }
         ensures unchanged { OnErr result (self.new ≡ self.old) }
+        ensures full { IsFull self.old → IsErr result }
     {
         let kept = (self.entries.len() - self.idle) as u64;
         if MAX_ENTRIES - self.first <= kept {
@@ -104,8 +151,8 @@ impl Queue {
         copies(*self.entries.allocator(), front(entries, count))
     }
 
-    /// Drops all entries below a level, which is not above `len`. Takes no memory, and moves an entry at most as often
-    /// as entries before it were dropped.
+    /// Drops all entries below a level, which is not above `len`, and lets go what they hold. Takes no memory, and moves an
+    /// entry at most as often as entries before it were dropped.
     pub fn trim(&mut self, level: u64)
         requires { level ≤ queue_len self.old }
         ensures { self.new ≡ trimmed level self.old }
@@ -113,12 +160,9 @@ impl Queue {
         if level <= self.first {
             return;
         }
-        self.idle += (level - self.first) as usize;
+        let place = self.idle + (level - self.first) as usize;
+        self.idle = drop_front(&mut self.entries, self.idle, place);
         self.first = level;
-        if self.entries.len() / 2 < self.idle {
-            take_out(&mut self.entries, self.idle);
-            self.idle = 0;
-        }
     }
 
     /// How many entries were dropped. Takes no memory.

@@ -2,19 +2,19 @@ ghost use Rattle.std.specs.Prelude.{◌≡◌, ◌++◌, IfOk, OnOk, IsTrue, map
 ghost use Rattle.ndc_reapply.specs.Reapplied.{copy_of, reapplied};
 
 use crate::stray::Stray;
-use ndc_event::EventKind;
+use ndc_event::{EventKind, Rare};
 use ndc_state::State;
 use std::alloc::{AllocError, Global};
 
 /// Appends a copy of each signal, in order.
-fn push_copies(kinds: &mut Vec<EventKind>, list: &[Stray]) -> Result<(), AllocError>
+fn push_copies(alloc: Global, kinds: &mut Vec<EventKind>, list: &[Stray]) -> Result<(), AllocError>
     ensures ok { OnOk result (kinds.new.items ≡ kinds.old.items ++ map copy_of list.now) }
 {
     for stray in list {
         kinds.push(EventKind::WorkflowExecutionSignaled {
             signal_name: stray.name.try_copy()?,
             input: stray.input.try_copy()?,
-            origin: Some(stray.origin),
+            origin: Rare::of(alloc, Some(stray.origin))?,
         })?;
     }
     Ok(())
@@ -35,7 +35,7 @@ pub fn reapply_events(
 {
     let mut kinds = Vec::new(alloc);
     state.push_failover_close(alloc, version, &mut kinds)?;
-    push_copies(&mut kinds, list)?;
+    push_copies(alloc, &mut kinds, list)?;
     state.push_wake(&mut kinds)?;
     Ok(kinds)
 }

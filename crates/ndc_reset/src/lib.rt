@@ -4,4 +4,4 @@
 pub mod laws;
 mod plan;
 
-pub use plan::{ResetError, plan_reset};
+pub use plan::{ResetError, plan_reset, plan_reset_of};

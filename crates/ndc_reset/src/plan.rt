@@ -1,9 +1,9 @@
-ghost use Rattle.std.specs.Prelude.{◌≡◌, ◌+◌, ◌++◌, IfOk, OnOk, codes, count_by};
+ghost use Rattle.std.specs.Prelude.{◌≡◌, ◌+◌, ◌++◌, IfOk, OnOk, codes, count_by, map};
 ghost use Rattle.ndc_event.specs.Outcome.{Gives};
 ghost use Rattle.ndc_reset.specs.Reset.{is_completed, is_signal, is_kept, is_point, repeated, repeated_kinds, events_before, signals_onward, reset_kinds, reset_of};
 ghost use Rattle.ndc_reset.specs.declared.plan.ResetError.TheVariants.{Memory};
 
-use ndc_event::{Event, EventKind, Name, NameError, RunId};
+use ndc_event::{Event, EventKind, Name, NameError, Rare, RunId};
 use ndc_state::origin_of;
 use std::alloc::{AllocError, AllocFailed, Global};
 use thiserror::Error;
@@ -71,17 +71,20 @@ fn is_kept(event: &Event, point: u64) -> bool
 }
 
 /// Whether a completed decision of the history has this id.
-fn is_point(history: &[Event], point: u64) -> bool
-    ensures { result ≡ is_point point history.now }
+fn is_point(history: &[&Event], point: u64) -> bool
+    ensures { result ≡ is_point point (map (λ e. e.now) history.now) }
 {
-    history
-        .iter()
-        .any(|event| event.id == point && is_completed(&event.kind))
+    for event in history {
+        if event.id == point && is_completed(&event.kind) {
+            return true;
+        }
+    }
+    false
 }
 
 /// How many kinds the new run begins with.
-fn count_kinds(history: &[Event], point: u64) -> u64
-    ensures { result ≡ count_by (is_kept point) history.now + 2 }
+fn count_kinds(history: &[&Event], point: u64) -> u64
+    ensures { result ≡ count_by (is_kept point) (map (λ e. e.now) history.now) + 2 }
 {
     let mut count: u64 = 2;
     for event in history {
@@ -93,7 +96,7 @@ fn count_kinds(history: &[Event], point: u64) -> u64
 }
 
 /// The kind of the event as another run repeats it.
-fn repeated(run: RunId, event: &Event) -> Result<EventKind, AllocError>
+fn repeated(alloc: Global, run: RunId, event: &Event) -> Result<EventKind, AllocError>
     ensures { IfOk result (λ kind. kind ≡ repeated run event.now.id event.now.version event.now.kind) }
 {
     match &event.kind {
@@ -104,7 +107,7 @@ fn repeated(run: RunId, event: &Event) -> Result<EventKind, AllocError>
         } => Ok(EventKind::WorkflowExecutionSignaled {
             signal_name: signal_name.try_copy()?,
             input: input.try_copy()?,
-            origin: Some(origin_of(run, event, *origin)),
+            origin: Rare::of(alloc, Some(origin_of(run, event, origin)))?,
         }),
         kind => kind.try_copy(),
     }
@@ -112,16 +115,17 @@ fn repeated(run: RunId, event: &Event) -> Result<EventKind, AllocError>
 
 /// Appends the kinds of the events before the point.
 fn push_before(
+    alloc: Global,
     kinds: &mut Vec<EventKind>,
-    history: &[Event],
+    history: &[&Event],
     run: RunId,
     point: u64,
 ) -> Result<(), AllocError>
-    ensures ok { OnOk result (kinds.new.items ≡ kinds.old.items ++ repeated_kinds run (events_before point history.now)) }
+    ensures ok { OnOk result (kinds.new.items ≡ kinds.old.items ++ repeated_kinds run (events_before point (map (λ e. e.now) history.now))) }
 {
     for event in history {
         if event.id < point {
-            kinds.push(repeated(run, event)?)?;
+            kinds.push(repeated(alloc, run, event)?)?;
         }
     }
     Ok(())
@@ -129,16 +133,17 @@ fn push_before(
 
 /// Appends copies of the signals from the point on.
 fn push_onward(
+    alloc: Global,
     kinds: &mut Vec<EventKind>,
-    history: &[Event],
+    history: &[&Event],
     run: RunId,
     point: u64,
 ) -> Result<(), AllocError>
-    ensures ok { OnOk result (kinds.new.items ≡ kinds.old.items ++ repeated_kinds run (signals_onward point history.now)) }
+    ensures ok { OnOk result (kinds.new.items ≡ kinds.old.items ++ repeated_kinds run (signals_onward point (map (λ e. e.now) history.now))) }
 {
     for event in history {
         if !(event.id < point) && is_signal(&event.kind) {
-            let copy = repeated(run, event)?;
+            let copy = repeated(alloc, run, event)?;
             kinds.push(copy)?;
         }
     }
@@ -156,23 +161,24 @@ fn reset_cause(alloc: Global) -> Result<Name, AllocError>
     }
 }
 
-/// The kinds of the new run.
+/// The kinds of the new run, with room for so many from the start.
 #[tactic(auto, unfolding(crate::specs::Reset::reset_kinds))]
 fn reset_kinds(
     alloc: Global,
-    history: &[Event],
+    history: &[&Event],
     run: RunId,
     point: u64,
+    count: usize,
 ) -> Result<Vec<EventKind>, AllocError>
-    ensures { IfOk result (λ kinds. kinds.items ≡ reset_kinds run point history.now) }
+    ensures { IfOk result (λ kinds. kinds.items ≡ reset_kinds run point (map (λ e. e.now) history.now)) }
 {
-    let mut kinds = Vec::new(alloc);
-    push_before(&mut kinds, history, run, point)?;
+    let mut kinds = Vec::with_capacity(alloc, count)?;
+    push_before(alloc, &mut kinds, history, run, point)?;
     kinds.push(EventKind::DecisionTaskFailed {
         cause: reset_cause(alloc)?,
     })?;
     kinds.push(EventKind::DecisionTaskScheduled)?;
-    push_onward(&mut kinds, history, run, point)?;
+    push_onward(alloc, &mut kinds, history, run, point)?;
     Ok(kinds)
 }
 
@@ -181,7 +187,6 @@ fn reset_kinds(
 /// and a copy, with its origin, of each signal from `event` on. Refused with [`ResetError::NoSuchPoint`] where
 /// no DecisionTaskCompleted of the history has this id, and otherwise with [`ResetError::HistoryFull`] where
 /// there would be more than `limit` kinds.
-#[tactic(auto, using(crate::proofs::CountLemmas::count_is_length), unfolding(crate::specs::Reset::reset_of))]
 pub fn plan_reset(
     alloc: Global,
     history: &[Event],
@@ -191,12 +196,29 @@ pub fn plan_reset(
 ) -> Result<Vec<EventKind>, ResetError>
     ensures { Gives Memory (λ kinds. kinds.items) result (reset_of history.now run event limit) }
 {
+    let lent: Vec<&Event> = history.iter().collect(alloc)?;
+    plan_reset_of(alloc, lent.as_slice(), run, event, limit)
+}
+
+/// What [`plan_reset`] answers, of a history whose events are lent one by one: they stand in several batches.
+#[tactic(auto, using(crate::proofs::CountLemmas::count_is_length), unfolding(crate::specs::Reset::reset_of))]
+pub fn plan_reset_of(
+    alloc: Global,
+    history: &[&Event],
+    run: RunId,
+    event: u64,
+    limit: u64,
+) -> Result<Vec<EventKind>, ResetError>
+    ensures { Gives Memory (λ kinds. kinds.items) result
+        (reset_of (map (λ e. e.now) history.now) run event limit) }
+{
     if !is_point(history, event) {
         return Err(ResetError::NoSuchPoint);
     }
-    if limit < count_kinds(history, event) {
+    let count = count_kinds(history, event);
+    if limit < count {
         return Err(ResetError::HistoryFull);
     }
-    let kinds = reset_kinds(alloc, history, run, event)?;
+    let kinds = reset_kinds(alloc, history, run, event, count as usize)?;
     Ok(kinds)
 }

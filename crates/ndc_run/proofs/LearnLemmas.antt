@@ -1,5 +1,5 @@
 -- What a run is once a batch has joined it.
-use Rattle.std.proofs.Common.{◌≡◌, ℕ, zero, suc, ◌+◌, ◌<◌, ◌≤◌, ◌^◌, Bool, true, false, not, ◌&&◌, All, List, [], ◌∷◌, length, get_or, ◌↔◌, inl, inr, Option, Some, None, Result, Ok, Err, if◌then◌else◌, refl, sym, ◌∙◌, subst, ap, arith}
+use Rattle.std.proofs.Common.{◌≡◌, ℕ, zero, suc, ◌+◌, ◌<◌, ◌≤◌, ◌^◌, Bool, true, false, not, ◌&&◌, All, List, [], ◌∷◌, length, get_or, ◌↔◌, inl, inr, Option, Some, None, Result, Ok, Err, IsOk, if◌then◌else◌, refl, sym, ◌∙◌, subst, ap, arith}
 use Rattle.std.specs.Prelude.{is_some}
 use Rattle.std.specs.Option.{option_map}
 use Rattle.ndc_event.specs.Key.{key_lt, key_eq}
@@ -28,6 +28,7 @@ use Rattle.ndc_tree.specs.declared.answer.Inserted.TheVariants.{Known, Extended,
 use Rattle.ndc_tree.specs.declared.answer.TreeError.{TreeError}
 use Rattle.ndc_model_sets.specs.Reading.{current_key}
 use Rattle.ndc_model_sets.specs.Keys.{is_key_among, is_key}
+use Rattle.ndc_tree.specs.Inserting.{inserted}
 use Rattle.ndc_tree.specs.Tips.{tip_keys}
 use Rattle.ndc_tree.specs.Tree.{TreeValue, IsTree, Joins}
 use Rattle.ndc_tree.proofs.PathLemmas.{path_is}
@@ -39,7 +40,7 @@ use Rattle.ndc_run.specs.declared.answer.RunError.TheVariants.{MissingParent, No
 use Rattle.ndc_run.specs.declared.run.Branch.{Branch}
 use Rattle.ndc_run.specs.declared.run.Run.TheInside.{Inside}
 use Rattle.ndc_run.specs.Leading.{leading_of, beside_of}
-use Rattle.ndc_run.specs.Learning.{of_state_error, or_error, state_with, passes_by, joined, is_known, leads_over, current_path, BeginsWith}
+use Rattle.ndc_run.specs.Learning.{of_state_error, of_tree_error, or_error, state_with, passes_by, joined, learned, is_known, leads_over, current_path, BeginsWith}
 use Rattle.ndc_run.specs.Run.{IsRun, IsKept, state_before}
 use Rattle.ndc_run.specs.RunFields.{AreRunFields, IsBeside, IsRunInside}
 use Rattle.ndc_run.proofs.BehindLemmas.{few-behind}
@@ -289,6 +290,22 @@ not-known place e h = by place e h
     by Known f k = absurd (cc)
     by (Extended branch) f k = absurd (cc)
     by (Forked branch at) f k = absurd (cc)
+
+-- what becomes of a batch that the tree takes is what becomes of one that joins
+pub learned_where_taken : (run : RunId) (batches : List Batch) (b : Batch) → IsOk (inserted run batches b) → joined run batches b ≡ learned run batches b
+learned_where_taken run batches b taken = by (inserted run batches b) taken
+  where
+    by : (r : Result Inserted TreeError) → IsOk r → joined run batches b ≡ (or_error of_tree_error r >>= (λ place. joined run batches b))
+    by (Ok place) ok = refl
+    by (Err e) ok = absurd (cc)
+
+-- the tree takes a batch that its run takes
+pub taken_by_tree : (run : RunId) (batches : List Batch) (b : Batch) → IsOk (learned run batches b) → IsOk (inserted run batches b)
+taken_by_tree run batches b taken = by (inserted run batches b) taken
+  where
+    by : (r : Result Inserted TreeError) → IsOk (or_error of_tree_error r >>= (λ place. joined run batches b)) → IsOk r
+    by (Ok place) ok = refl
+    by (Err e) ok = absurd (cc)
 
 -- what is answered of a batch that was taken in tells whether the old current path is a front of the new one
 pub switched-of : (run : RunId) (batches : List Batch) (new : Batch) (after : TreeValue) (switched : Bool) → IsTree run batches → Joins run batches new

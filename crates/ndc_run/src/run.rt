@@ -54,7 +54,7 @@ impl Drop for Run {
 }
 
 impl Run {
-    ghost use Rattle.std.specs.Prelude.{◌≡◌, ◌≢◌, ◌+◌, ◌≤◌, ◌^◌, ◌↔◌, [], All, length, map, Bool, true, false, None, Some, Ok, Err, is_some, IfOk, IfErr, OnOk, OnErr};
+    ghost use Rattle.std.specs.Prelude.{◌≡◌, ◌≢◌, ◌+◌, ◌≤◌, ◌^◌, ◌↔◌, [], All, length, map, Bool, true, false, None, Some, Ok, Err, is_some, IsOk, IfOk, IfErr, OnOk, OnErr};
     ghost use Rattle.ndc_event.specs.Batch.{fault_of};
     ghost use Rattle.ndc_event.specs.Outcome.{Gives};
     ghost use Rattle.ndc_event.specs.declared.key.BatchKey.{BatchKey as Key};
@@ -70,6 +70,7 @@ impl Run {
     ghost use Rattle.ndc_state.specs.Counted.{counted};
     ghost use Rattle.ndc_state.specs.Replay.{CountsWithin};
     ghost use Rattle.ndc_model_sets.specs.Reading.{current_key};
+    ghost use Rattle.ndc_tree.specs.Inserting.{inserted};
     ghost use Rattle.ndc_tree.specs.Tree.{Joins};
 
     /// The run without a batch.
@@ -134,6 +135,32 @@ impl Run {
         if is_known(self.tree.judge(batch)?) {
             return Ok(Learned::Known);
         }
+        self.take_in(alloc, batch, steps)
+    }
+
+    /// Takes in a batch that fits the run's tree, so that the tree neither refuses nor knows it: what [`Run::learn`] does
+    /// once the tree has judged. For who knows that already. Refused with [`RunError::Invalid`] for the first event that is
+    /// forbidden on its path, with its first rule. After an error the run is as it was. A batch that goes on from the
+    /// current branch takes a step for each of its events, any other at most 511 more.
+    pub fn join<L>(
+        &mut self,
+        alloc: Global,
+        batch: &Batch,
+        steps: &mut Steps<L>,
+    ) -> Result<Learned, RunError>
+        requires fits { IsOk (inserted self.old.run self.old.batches batch.now) }
+        requires faultless { fault_of batch.now ≡ None }
+        requires ids { All (λ event. event.id ≤ 10 ^ 12) batch.now.events }
+        ensures answer { Gives Memory (λ done. done) result (learned self.old.run self.old.batches batch.now) }
+        ensures new { result ≢ Ok Known }
+        ensures grown { OnOk result (self.new ≡ record self.old { batches = arrived batch.now self.old.batches }) }
+        ensures err { OnErr result (self.new ≡ self.old) }
+        ensures extend_steps { OnOk result (batch.now.parent ≡ current_key self.old.run self.old.batches → steps.new ≡ counted steps.old (length batch.now.events)) }
+        ensures most_steps { CountsWithin steps.old (length batch.now.events + 511) steps.new }
+        ensures switched { (switched : Bool) → result ≡ Ok (New switched) → (switched ≡ false) ↔ BeginsWith (current_path self.new.run self.new.batches) (current_path self.old.run self.old.batches) }
+    {
+        // What holds of its tree is known here: the batch joins it.
+        let _tree = &self.tree;
         self.take_in(alloc, batch, steps)
     }
 

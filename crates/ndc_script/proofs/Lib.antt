@@ -1,5 +1,6 @@
 pub mod Generated
 pub mod GeneratedFits
+pub mod PrintSteps
 pub mod PrintedActs
 pub mod PrintedAreLines
 pub mod PrintedBody

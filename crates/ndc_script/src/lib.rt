@@ -3,10 +3,11 @@
 
 mod generating;
 pub mod laws;
+mod printing;
 
 pub use generating::generate;
-pub use ndc_script_print::print;
 pub use ndc_script_read::{parse, read_lines};
 pub use ndc_script_types::{
     Act, BurstJob, Header, Jobs, Line, Lines, Script, ScriptCause, ScriptError,
 };
+pub use printing::print;

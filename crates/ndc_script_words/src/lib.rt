@@ -10,7 +10,7 @@ mod verb;
 
 pub use header::{HeaderRead, header_of, within};
 pub use interning::Interner;
-pub use number::number_of;
+pub use number::{are_digits, has_leading_zero, number_of};
 pub use operand::{
     MAX_PLACE, TwoClusters, WorkflowAt, bad, both_known, known, named, numbered, place_of,
     shard_of, two_clusters, workflow_at,

@@ -6,14 +6,14 @@ ghost use Rattle.ndc_script_words.specs.Number.{is_digit, is_number, has_leading
 const MAX_DIGITS: usize = 18;
 
 /// Whether these are digits alone.
-fn are_digits(word: &[u8]) -> bool
+pub fn are_digits(word: &[u8]) -> bool
     ensures { result ≡ list_all is_digit word.now }
 {
     word.iter().all(|byte| 48 <= *byte && *byte <= 57)
 }
 
 /// Whether a number begins with a 0 that it should not have.
-fn has_leading_zero(word: &[u8]) -> bool
+pub fn has_leading_zero(word: &[u8]) -> bool
     ensures { result ≡ has_leading_zero word.now }
 {
     match word {

@@ -38,7 +38,7 @@ pub(crate) fn first_batch(
         key,
         parent: None,
         carrier,
-        events: Events::new(alloc, events)?,
+        events: Events::shared(alloc, events)?,
     })
 }
 
@@ -62,7 +62,7 @@ pub(crate) fn batch_below(
         key,
         parent: Some(tip.batch.key),
         carrier: None,
-        events: Events::new(alloc, events)?,
+        events: Events::shared(alloc, events)?,
     })
 }
 

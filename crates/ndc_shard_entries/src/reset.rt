@@ -14,7 +14,7 @@ use crate::tip::{Tip, tip_of};
 use crate::writing::next_key;
 use ndc_command::{CommandError, Refusal};
 use ndc_event::{Batch, BatchKey, Event, EventKind, Name, NameError, RunId};
-use ndc_reset::{ResetError, plan_reset};
+use ndc_reset::{ResetError, plan_reset_of};
 use ndc_shard_runs::Runs;
 use ndc_state::State;
 use std::alloc::{AllocError, Global};
@@ -53,14 +53,15 @@ pub fn reset_entries(
 /// The kinds of the new run.
 fn new_kinds(
     alloc: Global,
-    history: &[Event],
+    history: &[&Event],
     run: RunId,
     event: u64,
     limit: u64,
 ) -> Result<Vec<EventKind>, CommandError>
-    ensures { Gives Memory (λ kinds. kinds.items) result (reset_refused (reset_of history.now run event limit)) }
+    ensures { Gives Memory (λ kinds. kinds.items) result (reset_refused
+        (reset_of (map (λ e. e.now) history.now) run event limit)) }
 {
-    match plan_reset(alloc, history, run, event, limit) {
+    match plan_reset_of(alloc, history, run, event, limit) {
         Ok(kinds) => Ok(kinds),
         Err(ResetError::NoSuchPoint) => Err(CommandError::Refused(Refusal::NoSuchPoint)),
         Err(ResetError::HistoryFull) => Err(CommandError::Refused(Refusal::HistoryFull)),
@@ -148,8 +149,8 @@ fn both(alloc: Global, first: Option<Entry>, second: Entry) -> Result<Vec<Entry>
 }
 
 /// The events of the path to the batch of this key.
-fn history_to(alloc: Global, runs: &Runs, key: BatchKey) -> Result<Vec<Event>, AllocError>
-    ensures { IfOk result (λ events. events.items ≡ events_to key runs.now) }
+fn history_to(alloc: Global, runs: &Runs, key: BatchKey) -> Result<Vec<&Event>, AllocError>
+    ensures { IfOk result (λ events. map (λ e. e.now) events.items ≡ events_to key runs.now) }
 {
     match runs.path(alloc, key)? {
         None => Ok(Vec::new(alloc)),
@@ -158,22 +159,25 @@ fn history_to(alloc: Global, runs: &Runs, key: BatchKey) -> Result<Vec<Event>, A
 }
 
 /// The events of the batches, in order.
-fn events_of(alloc: Global, batches: &[&Batch]) -> Result<Vec<Event>, AllocError>
-    ensures { IfOk result (λ events. events.items ≡ history_of (map (λ b. b.now) batches.now)) }
+fn events_of<'b>(alloc: Global, batches: &[&'b Batch]) -> Result<Vec<&'b Event>, AllocError>
+    ensures { IfOk result (λ events. map (λ e. e.now) events.items ≡ history_of (map (λ b. b.now) batches.now)) }
 {
     let mut events = Vec::new(alloc);
     for batch in batches {
-        push_events(&mut events, batch.events.as_slice())?;
+        let more = batch.events.as_slice();
+        events.reserve(more.len())?;
+        push_events(&mut events, more)?;
     }
     Ok(events)
 }
 
 /// Appends the events.
-fn push_events(events: &mut Vec<Event>, more: &[Event]) -> Result<(), AllocError>
-    ensures { OnOk result (events.new.items ≡ events.old.items ++ more.now) }
+fn push_events<'b>(events: &mut Vec<&'b Event>, more: &'b [Event]) -> Result<(), AllocError>
+    ensures { OnOk result (map (λ e. e.now) events.new.items
+        ≡ map (λ e. e.now) events.old.items ++ more.now) }
 {
     for event in more {
-        events.push(event.try_copy()?)?;
+        events.push(event)?;
     }
     Ok(())
 }

@@ -1,8 +1,8 @@
 -- Lists in order in which one item takes the place of another.
 use Rattle.std.proofs.Common.{◌≡◌, ℕ, zero, suc, List, [], ◌∷◌, set, slice_get, Some, subst}
 use Rattle.std.specs.List.{AllByRecursion}
-use Rattle.ndc_tree.specs.Sorted.{InOrder}
-use Rattle.ndc_tree.proofs.SortedLemmas.{all_follow}
+use Rattle.ndc_event.specs.Sorted.{InOrder}
+use Rattle.ndc_event.proofs.SortedLemmas.{all_follow}
 
 module _ {X : Type 0} where
   -- what holds of each and of one holds of each with that one in the place of another

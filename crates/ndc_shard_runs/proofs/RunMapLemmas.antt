@@ -9,9 +9,9 @@ use Rattle.ndc_model_sets.specs.Branches.{same_run}
 use Rattle.ndc_tree.specs.Tree.{TreeValue}
 use Rattle.ndc_shard_runs.specs.RunMap.{AreInOrder, IsRunBefore, run_at, begun, grown, with_run, with_grown, with_batch, without_run}
 use Rattle.ndc_shard_runs.specs.Standing.{IsAt, IsGap}
-use Rattle.ndc_tree.specs.Sorted.{Hits, Parts}
+use Rattle.ndc_event.specs.Sorted.{Hits, Parts}
 use Rattle.ndc_shard_runs.proofs.LearnLemmas.{with-there, with-begun}
-use Rattle.ndc_tree.proofs.SortedLemmas.{searched, hit-within, part-within, order-insert, order-remove}
+use Rattle.ndc_event.proofs.SortedLemmas.{searched, hit-within, part-within, order-insert, order-remove}
 use Rattle.ndc_shard_runs.proofs.OrderLemmas.{order-set}
 
 -- how the id of a run compares with this one

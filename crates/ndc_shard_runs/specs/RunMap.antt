@@ -5,7 +5,7 @@ use Rattle.ndc_event.specs.declared.batch.Batch.{Batch}
 use Rattle.ndc_event.specs.declared.key.RunId.{RunId}
 use Rattle.ndc_model_sets.specs.Branches.{same_run}
 use Rattle.ndc_model_sets.specs.Sets.{arrived}
-use Rattle.ndc_tree.specs.Sorted.{InOrder}
+use Rattle.ndc_event.specs.Sorted.{InOrder}
 use Rattle.ndc_tree.specs.Tree.{TreeValue}
 
 -- the batches of a run among those of its workflow

@@ -1,13 +1,15 @@
-ghost use Rattle.std.specs.Prelude.{◌≡◌, [], false};
+ghost use Rattle.std.specs.Prelude.{◌≡◌, [], ◌∷◌, ◌++◌, false, IfSome, IsTrue};
 ghost use Rattle.std.specs.List.{cons_option, filter};
 ghost use Rattle.ndc_reapply.specs.Strays.{origins_of};
 ghost use Rattle.ndc_shard_runs.specs.Kept.{is_empty, is_unlisted};
 ghost use Rattle.ndc_model_sets.specs.Origins.{origins_in, signal_of, signals_in};
 ghost use Rattle.ndc_state.specs.Origins.{is_among, same_origin};
+ghost use Rattle.ndc_event.specs.Sorted.{InOrder};
+ghost use Rattle.ndc_state.specs.OriginList.{origin_before};
 
 use ndc_event::{Batch, Event, EventKind, Origin, RunId};
 use ndc_reapply::Stray;
-use ndc_state::origin_of;
+use ndc_state::{is_among_rising, origin_of, rises_with};
 use std::alloc::Global;
 use std::marker::Model;
 
@@ -104,7 +106,50 @@ impl Kept {
 fn drop_settled(list: &mut Vec<Stray>, batch: &Batch)
     ensures { list.new.items ≡ filter (is_unlisted (origins_in batch.now.run batch.now.events)) list.old.items }
 {
-    list.retain(|stray| stays(stray, batch));
+    if list.is_empty() {
+        return;
+    }
+    match rising_in(*list.allocator(), batch.run, batch.events.as_slice()) {
+        Some(origins) => drop_listed(list, origins.as_slice()),
+        None => list.retain(|stray| stays(stray, batch)),
+    }
+}
+
+/// Drops those whose origins stand in a list that rises.
+fn drop_listed(list: &mut Vec<Stray>, origins: &[Origin])
+    requires { InOrder origin_before origins.now }
+    ensures { list.new.items ≡ filter (is_unlisted origins.now) list.old.items }
+{
+    list.retain(|stray| !is_among_rising(origins, stray.origin));
+}
+
+/// The origins of the signals among the events of a run, where they rise and there is memory for them.
+fn rising_in(alloc: Global, run: RunId, events: &[Event]) -> Option<Vec<Origin>>
+    ensures origins { IfSome result (λ list. list.items ≡ origins_in run events.now) }
+    ensures rise { IfSome result (λ list. InOrder origin_before list.items) }
+{
+    let mut list = Vec::new(alloc);
+    for event in events {
+        if !push_rising(&mut list, run, event) {
+            return None;
+        }
+    }
+    Some(list)
+}
+
+/// Appends the origin of the event, where it is a signal; answers whether that is done and the list still rises.
+fn push_rising(list: &mut Vec<Origin>, run: RunId, event: &Event) -> bool
+    requires { InOrder origin_before list.old.items }
+    ensures pushed { IsTrue result → list.new.items ≡ list.old.items ++ origins_in run (event.now ∷ []) }
+    ensures rises { InOrder origin_before list.new.items }
+{
+    match &event.kind {
+        EventKind::WorkflowExecutionSignaled { origin, .. } => {
+            let origin = origin_of(run, event, origin);
+            rises_with(list.as_slice(), origin) && list.push(origin).is_ok()
+        }
+        _ => true,
+    }
 }
 
 /// Whether the batch does not settle the origin of the stray.
@@ -132,7 +177,7 @@ fn is_from(run: RunId, event: &Event, origin: Origin) -> bool
 {
     match &event.kind {
         EventKind::WorkflowExecutionSignaled { origin: from, .. } => {
-            is_same(origin, origin_of(run, event, *from))
+            is_same(origin, origin_of(run, event, from))
         }
         _ => false,
     }

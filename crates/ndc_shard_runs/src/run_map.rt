@@ -144,7 +144,7 @@ fn grow<L>(
     ensures extend_steps { OnOk result (batch.now.parent ≡ current_key run.old.run run.old.batches → steps.new ≡ counted steps.old (length batch.now.events)) }
     ensures most_steps { CountsWithin steps.old (length batch.now.events + 511) steps.new }
 {
-    match run.learn(alloc, batch, steps) {
+    match run.join(alloc, batch, steps) {
         Ok(_) => Ok(()),
         Err(RunError::Memory) => Err(AllocError),
         Err(_) => unreachable!(),

@@ -142,7 +142,7 @@ fn push_event(
             input,
             origin,
         } => {
-            let origin = origin_of(run, event, *origin);
+            let origin = origin_of(run, event, origin);
             if let Some(place) = place_of(states, origin, hint) {
                 return Ok(place);
             }

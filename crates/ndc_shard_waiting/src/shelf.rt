@@ -142,7 +142,7 @@ impl Shelf {
     {
         let before = key_before(key)?;
         let sent = self.messages.get(before)?;
-        if sent.second.is_none() {
+        if sent.second.as_ref().is_none() {
             return None;
         }
         Some(sent)
@@ -166,7 +166,7 @@ impl Shelf {
         let messages = self.messages.list(alloc)?;
         for sent in messages.as_slice() {
             batches.push(&sent.batch)?;
-            if let Some(second) = &sent.second {
+            if let Some(second) = sent.second.as_ref() {
                 batches.push(second)?;
             }
         }
@@ -191,7 +191,7 @@ impl Shelf {
         ensures waiting { AreWaiting self.now }
     {
         self.links.wake(sent.batch.key, todo)?;
-        if let Some(second) = &sent.second {
+        if let Some(second) = sent.second.as_ref() {
             self.links.wake(second.key, todo)?;
         }
         Ok(())

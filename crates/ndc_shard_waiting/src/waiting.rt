@@ -47,7 +47,7 @@ fn forget(shortcuts: &mut Shortcuts, sent: &Message)
     ensures { (one to : Key) → shortcut_at one shortcuts.new ≡ Some to → (shortcut_at one shortcuts.old ≡ Some to) × (batch_at one (both sent.now) ≡ None) }
 {
     shortcuts.forget(sent.batch.key);
-    if let Some(second) = &sent.second {
+    if let Some(second) = sent.second.as_ref() {
         shortcuts.forget(second.key);
     }
 }

@@ -34,7 +34,7 @@ fn batches_in(alloc: Global, messages: Vec<Message>) -> Result<Vec<Batch>, Alloc
     for sent in messages {
         let Message { batch, second, .. } = sent;
         batches.push(batch)?;
-        if let Some(second) = second {
+        if let Some(second) = second.into_option() {
             batches.push(second)?;
         }
     }

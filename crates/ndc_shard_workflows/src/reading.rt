@@ -13,7 +13,7 @@ ghost use Rattle.ndc_shard_workflows.specs.Workflow.{IsWorkflow};
 use crate::carried::{Carried, least_carried};
 use crate::next::next_carried;
 use crate::workflow::Workflow;
-use ndc_event::{Batch, BatchKey};
+use ndc_event::{Batch, BatchKey, Rare};
 use ndc_history::VersionHistory;
 use ndc_model_cells::Message;
 use ndc_shard_runs::Runs;
@@ -144,7 +144,7 @@ fn message_with(
     requires second { named second workflow.now.arrived ≡ find (carries batch.now) workflow.now.arrived }
     ensures { IfOk result (λ message. message ≡ message_of (learned workflow.now.arrived) workflow.now.arrived batch.now) }
 {
-    let second = copy_of(workflow, second)?;
+    let second = Rare::of(alloc, copy_of(workflow, second)?)?;
     let history = history_to(alloc, workflow, batch)?;
     Ok(Message {
         batch: batch.try_copy()?,

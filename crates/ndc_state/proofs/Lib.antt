@@ -5,3 +5,4 @@ pub mod RowLemmas
 pub mod ReplayLemmas
 pub mod OriginLemmas
 pub mod LawProofs
+pub mod OriginOrder

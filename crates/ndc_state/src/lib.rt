@@ -14,6 +14,7 @@ mod text;
 mod tracked;
 mod written;
 
+pub use listed::{is_among_rising, rises_with};
 pub use origins::origin_of;
 pub use pendings::Pending;
 pub use rule::{CloseKind, Rule, StateError};

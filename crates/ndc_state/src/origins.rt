@@ -2,7 +2,7 @@ ghost use Rattle.std.specs.Prelude.{◌≡◌};
 ghost use Rattle.ndc_state.specs.Origins.{origin_of};
 
 use crate::listed::Listed;
-use ndc_event::{Event, EventKind, Origin, RunId};
+use ndc_event::{Event, EventKind, Origin, Rare, RunId};
 use std::alloc::{AllocError, Global};
 use std::marker::Model;
 
@@ -27,16 +27,16 @@ impl Model for Origins {
 }
 
 /// The origin of a signal event of the run: the one that a copy names, or the event itself.
-pub fn origin_of(run: RunId, event: &Event, origin: Option<Origin>) -> Origin
-    ensures { result ≡ origin_of run event.now.id event.now.version origin }
+pub fn origin_of(run: RunId, event: &Event, origin: &Rare<Origin>) -> Origin
+    ensures { result ≡ origin_of run event.now.id event.now.version origin.now }
 {
-    match origin {
+    match origin.as_ref() {
         None => Origin {
             run,
             event: event.id,
             version: event.version,
         },
-        Some(origin) => origin,
+        Some(origin) => *origin,
     }
 }
 
@@ -136,7 +136,7 @@ impl Origins {
     {
         match &event.kind {
             EventKind::WorkflowExecutionSignaled { origin, .. } => {
-                self.insert(origin_of(run, event, *origin))?;
+                self.insert(origin_of(run, event, origin))?;
                 Ok(())
             }
             _ => Ok(()),

@@ -180,7 +180,7 @@ impl Tracked {
         let decision = self.outline.decision;
         match &event.kind {
             EventKind::WorkflowExecutionSignaled { origin, .. } => {
-                let origin = origin_of(self.outline.run, event, *origin);
+                let origin = origin_of(self.outline.run, event, origin);
                 needs(!self.origins.contains(origin), Rule::Origin)
             }
             EventKind::DecisionTaskStarted => needs(is_waiting(decision), Rule::Task),
@@ -273,7 +273,7 @@ impl Tracked {
             }
             EventKind::WorkflowExecutionSignaled { origin, .. } => {
                 self.origins
-                    .insert(origin_of(self.outline.run, event, *origin))?;
+                    .insert(origin_of(self.outline.run, event, origin))?;
                 Ok(())
             }
             EventKind::WorkflowExecutionCancelRequested => {

@@ -22,3 +22,25 @@ fn what_is_not_behind_is_refused(rt: HostRuntime) -> Result<(), Fail> {
     assert_eq!(rt; first.common(&second), None);
     Ok(())
 }
+
+#[test]
+fn what_follows_the_last_item_is_appendable(rt: HostRuntime) -> Result<(), Fail> {
+    let alloc = rt.alloc();
+    let two = history(alloc, &[(3, 1), (5, 2)])?;
+    // An item, and whether it is the last one of id 5 and version 2.
+    for (id, version, want) in [
+        (5, 2, true),
+        (3, 1, false),
+        (5, 1, false),
+        (4, 2, false),
+        (6, 2, false),
+    ] {
+        assert_eq!(rt;
+            two.appendable(item(id, version)),
+            want,
+            "{id} of {version}"
+        );
+    }
+    assert!(rt; !VersionHistory::new(alloc).appendable(item(5, 2)));
+    Ok(())
+}

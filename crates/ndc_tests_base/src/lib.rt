@@ -1,7 +1,13 @@
-//! Tests of small parts by hand: bytes in and out with faults, version histories, states at a mark, a restored path, a
-//! tree, a run, and reports that are merged.
+//! Tests of small parts by hand: bytes in and out with faults, names of domains, version histories, states at a mark, a
+//! restored path, a tree, a run, the current run, reports that are merged, and copies that nothing in the program makes.
 #![tactic(auto)]
 
+#[cfg(test)]
+mod command;
+#[cfg(test)]
+mod current;
+#[cfg(test)]
+mod domain;
 #[cfg(test)]
 mod given;
 #[cfg(test)]

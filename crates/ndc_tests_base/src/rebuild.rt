@@ -1,7 +1,7 @@
 ghost use Rattle.std.specs.Prelude.{◌≡◌, ◌≤◌, ◌^◌, All, IfOk};
 
 use crate::given::{Test, name};
-use ndc_event::{Batch, BatchKey, Event, EventKind, Events, Name, RunId};
+use ndc_event::{Batch, BatchKey, Event, EventKind, Events, Name, Rare, RunId};
 use ndc_rebuild::{Checkpoints, rebuild};
 use ndc_state::{State, StateError, Steps};
 use std::alloc::{AllocError, Global};
@@ -23,7 +23,7 @@ fn event(alloc: Global, id: u16) -> Result<Event, AllocError>
         EventKind::WorkflowExecutionSignaled {
             signal_name: name(alloc, "s")?,
             input: name(alloc, "i")?,
-            origin: None,
+            origin: Rare::none(),
         }
     };
     Ok(Event {
@@ -51,7 +51,7 @@ fn batch(alloc: Global, count: u16) -> Result<Batch, AllocError>
         },
         parent: None,
         carrier: None,
-        events: Events::new(alloc, events)?,
+        events: Events::of(events),
     })
 }
 

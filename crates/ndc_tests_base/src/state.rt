@@ -97,3 +97,19 @@ fn a_state_is_marked_and_copied(rt: HostRuntime) -> Result<(), Fail> {
     assert!(rt; shown(rt.alloc())?.as_slice() == SHOWN.as_bytes());
     Ok(())
 }
+
+// Whether the cancel was requested behind the first batch, and behind both.
+fn cancels(alloc: Global) -> Result<(bool, bool), StateError> {
+    let (first, second) = (batch(alloc, FIRST)?, batch(alloc, SECOND)?);
+    let mut state = state_behind(alloc, &first)?;
+    let before = state.cancel();
+    let mut steps: Steps<Test> = Steps::new();
+    state.apply_all(second.events.as_slice(), &mut steps)?;
+    Ok((before, state.cancel()))
+}
+
+#[test]
+fn a_cancel_is_requested_once_its_event_is_applied(rt: HostRuntime) -> Result<(), Fail> {
+    assert_eq!(rt; cancels(rt.alloc())?, (false, true));
+    Ok(())
+}

@@ -9,3 +9,4 @@ pub mod Again
 pub mod Found
 pub mod Exact
 pub mod Errors
+pub mod Joining

@@ -5,3 +5,4 @@ pub mod Walk
 pub mod Seen
 pub mod Read
 pub mod Views
+pub mod Bare

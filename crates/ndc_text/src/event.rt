@@ -11,7 +11,7 @@ use crate::member::{
     texts_at, version_in,
 };
 use crate::tag::{KindTag, tag_of};
-use ndc_event::{BatchKey, Event, EventKind, Origin};
+use ndc_event::{BatchKey, Event, EventKind, Origin, Rare};
 use serde_json::Value;
 use std::alloc::Global;
 
@@ -90,7 +90,7 @@ fn kind_at(
         KindTag::WorkflowExecutionSignaled => {
             let signal_name = name_at(alloc, value, "signalName")?;
             let input = name_at(alloc, value, "input")?;
-            let origin = origin_from(origin)?;
+            let origin = Rare::of(alloc, origin_from(origin)?)?;
             Ok(EventKind::WorkflowExecutionSignaled {
                 signal_name,
                 input,

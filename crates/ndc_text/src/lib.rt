@@ -1,15 +1,19 @@
-//! The text of a batch, both ways: one JSON object, read back exactly where it is what would be printed.
+//! The text of a batch, both ways: one JSON object, read back exactly where it is what would be printed. And what a
+//! cluster shows of a workflow, printed: its dump, and the lines of runs, branches and states.
 #![tactic(auto)]
 
+pub mod dump;
 mod error;
 mod event;
 mod form;
 mod laws;
+pub mod line;
 mod member;
 mod print;
 mod read;
 mod tag;
 
+pub use dump::{bare_text, dump_text};
 pub use error::TextError;
 pub use form::TextForm;
 pub use laws::{

@@ -6,7 +6,7 @@ ghost use Rattle.serde_json.specs.Written.{has_float};
 ghost use Rattle.ndc_event.specs.Key.{run_text};
 ghost use Rattle.ndc_text.specs.Text.{num, key_data, origin_data, with_origin, with_attributes, event_data, parent_data, with_carrier, batch_data, batch_text};
 
-use ndc_event::{Batch, BatchKey, Event, EventKind, Name, Origin, RunId};
+use ndc_event::{Batch, BatchKey, Event, EventKind, Name, Origin, Rare, RunId};
 use serde_json::{Map, Value};
 use std::alloc::{AllocError, Global};
 
@@ -60,17 +60,13 @@ fn origin_value(alloc: Global, origin: Origin) -> Result<Value, AllocError>
 }
 
 /// Puts the origin, where there is one.
-fn put_origin(
-    members: &mut Members,
-    alloc: Global,
-    origin: Option<Origin>,
-) -> Result<(), AllocError>
+fn put_origin(members: &mut Members, alloc: Global, origin: &Rare<Origin>) -> Result<(), AllocError>
     ensures { IfOk result (λ _. members_view members.new.entries
-        ≡ with_origin origin (members_view members.old.entries)) }
+        ≡ with_origin origin.now (members_view members.old.entries)) }
 {
-    match origin {
+    match origin.as_ref() {
         Some(origin) => {
-            let value = origin_value(alloc, origin)?;
+            let value = origin_value(alloc, *origin)?;
             serde_json::put(members, alloc, "origin", value)
         }
         None => Ok(()),
@@ -100,7 +96,7 @@ fn put_attributes(members: &mut Members, alloc: Global, kind: &EventKind) -> Res
             input,
             origin,
         } => {
-            put_origin(members, alloc, *origin)?;
+            put_origin(members, alloc, origin)?;
             put_name(members, alloc, "input", input)?;
             put_name(members, alloc, "signalName", signal_name)
         }

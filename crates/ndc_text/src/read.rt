@@ -113,7 +113,7 @@ fn events_at(alloc: Global, values: &[Value]) -> Result<Events, TextError>
     for value in values {
         list.push(event_at(alloc, value)?)?;
     }
-    Ok(Events::new(alloc, list)?)
+    Ok(Events::shared(alloc, list)?)
 }
 
 /// The ranges of its members, and then the objects inside, in order.

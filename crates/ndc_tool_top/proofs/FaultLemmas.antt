@@ -1,11 +1,14 @@
 -- What the fault that ends a call says of the line that tells of it, and of what is left in the source.
 use Rattle.std.proofs.Common.{◌≡◌, ℕ, List, [], Option, Some, None, IfSome, refl, sym, subst, arith}
 use Rattle.ndc_dump_causes.specs.declared.error.DumpError.TheVariants as error
-use Rattle.ndc_dump_faults.specs.Telling.{Tells, most_bytes}
+use Rattle.ndc_dump.specs.Input.{InputLeaves, most_bytes}
+use Rattle.ndc_dump.specs.Telling.{Tells}
+use Rattle.ndc_dump.specs.declared.input.InputFault.{InputFault}
+use Rattle.ndc_dump.specs.declared.input.InputFault.TheVariants as input
 use Rattle.ndc_port.specs.Bytes.{ConsumesAtMost}
 use Rattle.ndc_tool_words.specs.declared.words.Asked.{Asked}
 use Rattle.ndc_tool_top.specs.Asking.{IfRun, IfShown}
-use Rattle.ndc_tool_top.specs.Top.{LeavesAfter, LeavesSource, TellsSomeCause, TellsSomeLine, fault_line, status_of}
+use Rattle.ndc_tool_top.specs.Top.{LeavesAfter, LeavesSource, TellsSomeCause, TellsSomeLine, fault_line, of_input, status_of}
 use Rattle.ndc_tool_top.specs.declared.fault.Fault.{Fault}
 use Rattle.ndc_tool_top.specs.declared.fault.Fault.TheVariants as fault
 use Rattle.ndc_tool_top.proofs.AskingLemmas.{if_run, if_shown}
@@ -34,6 +37,14 @@ module _ (before after : Option (List ℕ)) (faults_before faults_after : ℕ) w
   tells-cause fault.Memory n s told e = absurd (cc)
 
 module _ (before after : Option (List ℕ)) where
+  -- what a dump that was not read leaves is what the fault leaves
+  pub left-input : (f : InputFault) → InputLeaves most_bytes before after f → LeavesAfter (of_input f) before after
+  left-input input.Read left = left
+  left-input input.Limit left = left
+  left-input (input.Line line cause) left = left
+  left-input (input.Key key cause) left = left
+  left-input input.Memory left = left
+
   -- what a fault leaves is what its status says
   left-after : (f : Fault) → LeavesAfter f before after → LeavesSource (status_of f) before after
   left-after fault.Words left = record { untouched = λ e. left; ended = λ e. absurd (cc); limit = λ e. absurd (cc); stopped = λ e. absurd (cc) }

@@ -3,7 +3,7 @@ use Rattle.std.proofs.Common.{◌≡◌, ℕ, ◌≤◌, List, length, Option, S
 use Rattle.ndc_dump.specs.Read.{dump_of}
 use Rattle.ndc_dump.specs.declared.dump.Dump.{Dump}
 use Rattle.ndc_dump.proofs.Dumped.{printed-of}
-use Rattle.ndc_dump_faults.specs.Telling.{most_bytes}
+use Rattle.ndc_dump.specs.Input.{most_bytes}
 use Rattle.ndc_model_sets.specs.View.{view_of}
 use Rattle.ndc_port.specs.Bytes.{Appends}
 use Rattle.ndc_text.specs.Views.{dump_text}

@@ -9,7 +9,8 @@ use Rattle.ndc_dump.specs.Lines.{lines_of}
 use Rattle.ndc_dump.specs.Read.{dump_of}
 use Rattle.ndc_dump.specs.declared.dump.Dump.{Dump}
 use Rattle.ndc_dump_causes.specs.declared.error.DumpError.TheVariants as error
-use Rattle.ndc_dump_faults.specs.Telling.{Streams, most_bytes}
+use Rattle.ndc_dump.specs.Input.{most_bytes}
+use Rattle.ndc_dump.specs.Telling.{Streams}
 use Rattle.ndc_tool_top.specs.declared.fault.Fault.{Fault}
 use Rattle.ndc_tool_top.specs.declared.fault.Fault.TheVariants as fault
 use Rattle.ndc_tool_top.specs.declared.show.ShownAs.{ShownAs}
@@ -39,25 +40,14 @@ abbrev pub PrintsAsRead : ShownAs → Option (List ℕ) → Option (List ℕ) �
 PrintsAsRead shown.Dump left before after = IfSome left (λ bytes. IsHeaded form.Two (lines_of bytes) → Appends before after bytes)
 PrintsAsRead shown.Tree left before after = ⊤
 
--- why reading a dump ends with a fault
-abbrev pub DumpFault : Option (List ℕ) → ℕ → ℕ → Fault → Type 0
-DumpFault left before after fault.Words = ⊥
-DumpFault left before after (fault.Script line cause) = ⊥
-DumpFault left before after (fault.DumpLine line cause) = IfSome left (λ bytes. (length bytes ≤ most_bytes) × (dump_of bytes ≡ Err (error.Line line cause)))
-DumpFault left before after (fault.DumpBatch key cause) = IfSome left (λ bytes. (length bytes ≤ most_bytes) × (dump_of bytes ≡ Err (error.Key key cause)))
-DumpFault left before after fault.Read = Rose before after
-DumpFault left before after fault.Write = ⊥
-DumpFault left before after fault.Limit = IfSome left (λ bytes. most_bytes < length bytes)
-DumpFault left before after fault.Memory = ⊤
-
 -- why showing a dump ends with a fault, between what was there and what is there
 abbrev pub ShowFault : ShownAs → Streams → Streams → Fault → Type 0
 ShowFault how old new fault.Words = ⊥
 ShowFault how old new (fault.Script line cause) = ⊥
 ShowFault how old new (fault.DumpLine line cause) =
-    DumpFault old.left old.source_faults new.source_faults (fault.DumpLine line cause) × (new.written ≡ old.written)
+    IfSome old.left (λ bytes. (length bytes ≤ most_bytes) × (dump_of bytes ≡ Err (error.Line line cause))) × (new.written ≡ old.written)
 ShowFault how old new (fault.DumpBatch key cause) =
-    DumpFault old.left old.source_faults new.source_faults (fault.DumpBatch key cause) × (new.written ≡ old.written)
+    IfSome old.left (λ bytes. (length bytes ≤ most_bytes) × (dump_of bytes ≡ Err (error.Key key cause))) × (new.written ≡ old.written)
 ShowFault how old new fault.Read = Rose old.source_faults new.source_faults × (new.written ≡ old.written)
 ShowFault how old new fault.Write = Rose old.out_faults new.out_faults × StopsShowing how old.left old.written new.written
 ShowFault how old new fault.Limit = IfSome old.left (λ bytes. most_bytes < length bytes) × (new.written ≡ old.written)

@@ -4,8 +4,11 @@ use Rattle.std.specs.List.{concat}
 use Rattle.ndc_script_types.specs.declared.script.ScriptCause.{ScriptCause}
 use Rattle.ndc_script_types.specs.declared.script.ScriptCause.TheVariants.{BadHeader, IncrementLimit, NoClusters, TooMany, SameName, SameInitial, NotBelowIncrement, BadLine, UnknownName, LineLimit}
 use Rattle.ndc_dump_causes.specs.declared.error.DumpError.{DumpError}
-use Rattle.ndc_dump_faults.specs.Faults.{dump_batch_line, dump_line}
-use Rattle.ndc_dump_faults.specs.Telling.{IsAmong, Tells, TellsDumpError, most_bytes}
+use Rattle.ndc_dump.specs.Faults.{dump_batch_line, dump_line}
+use Rattle.ndc_dump.specs.Input.{most_bytes}
+use Rattle.ndc_dump.specs.Telling.{IsAmong, Tells, TellsErrorAs}
+use Rattle.ndc_dump.specs.declared.input.InputFault.{InputFault}
+use Rattle.ndc_dump.specs.declared.input.InputFault.TheVariants as input
 use Rattle.ndc_port.specs.Bytes.{ConsumesAtMost}
 use Rattle.ndc_tool_top.specs.declared.fault.Fault.{Fault}
 use Rattle.ndc_tool_top.specs.declared.fault.Fault.TheVariants as fault
@@ -22,6 +25,14 @@ script_cause_name NotBelowIncrement = codes "NotBelowIncrement"
 script_cause_name BadLine = codes "BadLine"
 script_cause_name UnknownName = codes "UnknownName"
 script_cause_name LineLimit = codes "LineLimit"
+
+-- the fault that ends the program where no dump was read from its input
+abbrev pub of_input : InputFault → Fault
+of_input input.Read = fault.Read
+of_input input.Limit = fault.Limit
+of_input (input.Line line cause) = fault.DumpLine line cause
+of_input (input.Key key cause) = fault.DumpBatch key cause
+of_input input.Memory = fault.Memory
 
 -- the status that the program ends with after a fault
 abbrev pub status_of : Fault → ℕ
@@ -42,8 +53,8 @@ script_line line cause = concat (codes "ndc: script line " ∷ decimal line ∷ 
 abbrev pub fault_line : Fault → List ℕ
 fault_line fault.Words = codes "ndc: words: run [--workers N] [--index NAMES] [--late NAMES], rebuild, inspect, make N SEED, demo N\n"
 fault_line (fault.Script line cause) = script_line line cause
-fault_line (fault.DumpLine line cause) = dump_line line cause
-fault_line (fault.DumpBatch key cause) = dump_batch_line key cause
+fault_line (fault.DumpLine line cause) = dump_line (codes "ndc") line cause
+fault_line (fault.DumpBatch key cause) = dump_batch_line (codes "ndc") key cause
 fault_line fault.Read = codes "ndc: read fault\n"
 fault_line fault.Write = codes "ndc: write fault\n"
 fault_line fault.Limit = codes "ndc: input limit\n"
@@ -62,6 +73,10 @@ status_line status =
 -- whatever the script was, a line on a faulty script was written, or a front of it and a fault came
 abbrev pub TellsSomeLine : Option (List ℕ) → Option (List ℕ) → ℕ → ℕ → Type 0
 TellsSomeLine before after faults_before faults_after = (line : ℕ) × (cause : ScriptCause) × Tells before after faults_before faults_after (script_line line cause)
+
+-- the line on a faulty dump was written, or a front of it and a fault came
+abbrev pub TellsDumpError : Option (List ℕ) → Option (List ℕ) → ℕ → ℕ → DumpError → Type 0
+TellsDumpError before after faults_before faults_after error = TellsErrorAs (codes "ndc") before after faults_before faults_after error
 
 -- whatever the dump was, a line on a faulty dump was written, or a front of it and a fault came
 abbrev pub TellsSomeCause : Option (List ℕ) → Option (List ℕ) → ℕ → ℕ → Type 0

@@ -3,8 +3,7 @@ ghost use Rattle.ndc_port.specs.Bytes.{Appends, AppendsFront};
 ghost use Rattle.ndc_port.specs.Fault.{Rose};
 ghost use Rattle.ndc_tool_top.specs.Top.{script_cause_name, script_line};
 
-use ndc_dump::{KeyCause, LineCause};
-use ndc_dump_faults::{tell_batch, tell_line, write_pieces};
+use ndc_dump::{InputFault, KeyCause, LineCause, tell_batch, tell_line, write_pieces};
 use ndc_event::BatchKey;
 use ndc_port::{Failed, Sink, write_all};
 use ndc_script::ScriptCause;
@@ -28,6 +27,23 @@ pub enum Fault {
     Limit,
     /// Memory ran out.
     Memory,
+}
+
+impl From<InputFault> for Fault {
+    ghost use Rattle.std.specs.Prelude.{◌≡◌};
+    ghost use Rattle.ndc_tool_top.specs.Top.{of_input};
+
+    ghost from_gives = { λ fault e. e ≡ of_input fault };
+
+    fn from(fault: InputFault) -> Fault {
+        match fault {
+            InputFault::Read => Fault::Read,
+            InputFault::Limit => Fault::Limit,
+            InputFault::Line { line, cause } => Fault::DumpLine { line, cause },
+            InputFault::Key { key, cause } => Fault::DumpBatch { key, cause },
+            InputFault::Memory => Fault::Memory,
+        }
+    }
 }
 
 /// How a cause of a faulty script is printed.
@@ -83,8 +99,8 @@ impl Fault {
                 b"ndc: words: run [--workers N] [--index NAMES] [--late NAMES], rebuild, inspect, make N SEED, demo N\n",
             ),
             Fault::Script { line, cause } => tell_script(err, line, cause),
-            Fault::DumpLine { line, cause } => tell_line(err, line, cause),
-            Fault::DumpBatch { key, cause } => tell_batch(err, key, cause),
+            Fault::DumpLine { line, cause } => tell_line(err, b"ndc", line, cause),
+            Fault::DumpBatch { key, cause } => tell_batch(err, b"ndc", key, cause),
             Fault::Read => write_all(err, b"ndc: read fault\n"),
             Fault::Write => write_all(err, b"ndc: write fault\n"),
             Fault::Limit => write_all(err, b"ndc: input limit\n"),

@@ -2,7 +2,7 @@
 ghost use Rattle.std.specs.Prelude.{◌≡◌, ◌≢◌, ◌≤◌, ℕ, List, [], ◌∷◌, IfOk, IfSome, IsOkAnd, OnOk, OnErr};
 ghost use Rattle.ndc_port.specs.Bytes.{Appends, AppendsFront};
 ghost use Rattle.ndc_port.specs.Fault.{Rose};
-ghost use Rattle.ndc_dump_faults.specs.Telling.{IsAmong, Tells};
+ghost use Rattle.ndc_dump.specs.Telling.{IsAmong, Tells};
 ghost use Rattle.ndc_tool_top.specs.Top.{fault_line, status_line, status_of};
 
 use crate::fault::Fault;

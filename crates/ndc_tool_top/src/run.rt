@@ -6,13 +6,14 @@ ghost use Rattle.ndc_port.specs.Bytes.{ConsumesAtMost};
 ghost use Rattle.ndc_port.specs.Fault.{Rose};
 ghost use Rattle.ndc_script_read.specs.Body.{script_of};
 ghost use Rattle.ndc_world_report.specs.Seats.{AreNew};
-ghost use Rattle.ndc_dump_faults.specs.Telling.{IsAmong, most_bytes, Streams, Tells};
+ghost use Rattle.ndc_dump.specs.Input.{most_bytes};
+ghost use Rattle.ndc_dump.specs.Telling.{IsAmong, Streams, Tells};
 ghost use Rattle.ndc_tool_top.specs.Running.{FrontOfReport, ReadFault, RunFault, Succeeds, TellsError};
 ghost use Rattle.ndc_tool_top.specs.Top.{LeavesAfter, LeavesSource, TellsSomeLine, status_line, status_of};
 
 use crate::fault::Fault;
 use crate::output::end;
-use crate::top::MOST_BYTES;
+use ndc_dump::MOST_BYTES;
 use ndc_event::Name;
 use ndc_index::{ChooseError, Indexer, Indexers};
 use ndc_port::{Gate, ReadError, Sink, Source, read_all};

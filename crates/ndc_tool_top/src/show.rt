@@ -1,21 +1,20 @@
 //! What the program shows of a dump.
 ghost use Rattle.std.specs.Prelude.{◌≡◌, ◌≢◌, ◌≤◌, ◌<◌, Ok, Err, Some, [], ◌∷◌, length, IfOk, IfErr, IfSome, IsOk, IsErr, IsErrAnd, OnOk, OnErr};
-ghost use Rattle.ndc_port.specs.Bytes.{Appends, AppendsFront, ConsumesAtMost};
+ghost use Rattle.ndc_port.specs.Bytes.{Appends, AppendsFront};
 ghost use Rattle.ndc_port.specs.Fault.{Rose};
 ghost use Rattle.ndc_model_sets.specs.Sound.{IsSound};
 ghost use Rattle.ndc_model_sets.specs.View.{view_of};
 ghost use Rattle.ndc_dump.specs.Read.{dump_of};
-ghost use Rattle.ndc_world_report.specs.declared.error.RunError.TheVariants as run_error;
-ghost use Rattle.ndc_dump_faults.specs.Telling.{IsAmong, most_bytes, Tells, TellsDumpError};
-ghost use Rattle.ndc_tool_top.specs.Show.{DumpFault, PrintsAsRead, ShowFault, Shows, ShowsFront, shown_text};
-ghost use Rattle.ndc_tool_top.specs.Top.{LeavesAfter, LeavesSource, TellsSomeCause, status_line};
+ghost use Rattle.ndc_dump.specs.declared.error.PrintError.TheVariants as print;
+ghost use Rattle.ndc_dump.specs.Input.{most_bytes};
+ghost use Rattle.ndc_dump.specs.Telling.{IsAmong, Tells};
+ghost use Rattle.ndc_tool_top.specs.Show.{PrintsAsRead, ShowFault, Shows, ShowsFront, shown_text};
+ghost use Rattle.ndc_tool_top.specs.Top.{LeavesAfter, LeavesSource, TellsDumpError, TellsSomeCause, status_line};
 
 use crate::fault::Fault;
 use crate::output::end;
-use crate::top::MOST_BYTES;
-use ndc_dump::{Dump, DumpError, dump_text, read_dump, tree_text};
-use ndc_port::{ReadError, Sink, Source, read_all, write_all};
-use ndc_world_report::RunError;
+use ndc_dump::{Dump, MOST_BYTES, PrintError, dump_text, read_input, tree_text};
+use ndc_port::{Sink, Source, write_all};
 use std::alloc::{AllocError, Global};
 
 /// How a dump is shown.
@@ -46,43 +45,18 @@ fn write_shown<K: Sink>(
     how: ShownAs,
     dump: &Dump,
     out: &mut K,
-) -> Result<(), RunError>
+) -> Result<(), PrintError>
     requires shown { dump.now.view ≡ view_of dump.now.view.batches }
     requires sound { IsSound dump.now.view.batches }
     ensures whole { OnOk result (Appends (K.written out.old) (K.written out.new) (shown_text how dump.now)) }
     ensures front { OnErr result (AppendsFront (K.written out.old) (K.written out.new) (shown_text how dump.now)) }
-    ensures cause { result ≡ Err run_error.Write → Rose (K.faults out.old) (K.faults out.new) }
-    ensures unwritten { result ≡ Err run_error.Memory → K.written out.new ≡ K.written out.old }
+    ensures cause { result ≡ Err print.Write → Rose (K.faults out.old) (K.faults out.new) }
+    ensures unwritten { result ≡ Err print.Memory → K.written out.new ≡ K.written out.old }
     ensures count { K.faults out.old ≤ K.faults out.new }
 {
     let text = shown_text(alloc, how, dump)?;
     write_all(out, text.as_slice())?;
     Ok(())
-}
-
-/// Reads a dump.
-fn read_input<S: Source>(alloc: Global, source: &mut S) -> Result<Dump, Fault>
-    ensures dump { IfOk result (λ dump. IfSome (S.left source.old) (λ bytes. (length bytes ≤ most_bytes) × (dump_of bytes ≡ Ok dump))) }
-    ensures view { IfOk result (λ dump. dump.view ≡ view_of dump.view.batches) }
-    ensures sound { IfOk result (λ dump. IsSound dump.view.batches) }
-    ensures end { OnOk result (IfSome (S.left source.old) (λ _. S.left source.new ≡ Some [])) }
-    ensures within { OnOk result (ConsumesAtMost most_bytes (S.left source.old) (S.left source.new)) }
-    ensures rest { IfErr result (λ fault. LeavesAfter fault (S.left source.old) (S.left source.new)) }
-    ensures fault { IfErr result (DumpFault (S.left source.old) (S.faults source.old) (S.faults source.new)) }
-    ensures count { S.faults source.old ≤ S.faults source.new }
-{
-    let bytes = match read_all(alloc, source, MOST_BYTES) {
-        Ok(bytes) => bytes,
-        Err(ReadError::Fault) => return Err(Fault::Read),
-        Err(ReadError::TooLong) => return Err(Fault::Limit),
-        Err(ReadError::Memory) => return Err(Fault::Memory),
-    };
-    match read_dump(alloc, bytes.as_slice()) {
-        Ok(dump) => Ok(dump),
-        Err(DumpError::Line { line, cause }) => Err(Fault::DumpLine { line, cause }),
-        Err(DumpError::Key { key, cause }) => Err(Fault::DumpBatch { key, cause }),
-        Err(DumpError::Memory) => Err(Fault::Memory),
-    }
 }
 
 /// Reads a dump and shows it.
@@ -102,14 +76,11 @@ fn show<S: Source, K: Sink>(
     ensures source_count { S.faults source.old ≤ S.faults source.new }
     ensures out_count { K.faults out.old ≤ K.faults out.new }
 {
-    let dump = match read_input(alloc, source) {
-        Ok(dump) => dump,
-        Err(fault) => return Err(fault),
-    };
+    let dump = read_input(alloc, source, MOST_BYTES)?;
     match write_shown(alloc, how, &dump, out) {
         Ok(()) => Ok(()),
-        Err(RunError::Write) => Err(Fault::Write),
-        Err(RunError::Memory) => Err(Fault::Memory),
+        Err(PrintError::Write) => Err(Fault::Write),
+        Err(PrintError::Memory) => Err(Fault::Memory),
     }
 }
 

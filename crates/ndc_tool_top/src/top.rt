@@ -10,12 +10,13 @@ ghost use Rattle.ndc_port.specs.Fault.{Rose};
 ghost use Rattle.ndc_script_read.specs.Body.{script_of};
 ghost use Rattle.ndc_world_report.specs.Seats.{AreNew};
 ghost use Rattle.ndc_script.specs.Generate.{generated_script};
-ghost use Rattle.ndc_dump_faults.specs.Telling.{IsAmong, most_bytes, Tells, TellsDumpError};
+ghost use Rattle.ndc_dump.specs.Input.{most_bytes};
+ghost use Rattle.ndc_dump.specs.Telling.{IsAmong, Tells};
 ghost use Rattle.ndc_tool_top.specs.Asking.{IfDemo, IfMade, IfRun, IfShown, is_refused, is_run, is_shown};
 ghost use Rattle.ndc_tool_top.specs.Demo.{SaysSame, demo_text};
 ghost use Rattle.ndc_tool_top.specs.Running.{FrontOfReport, Succeeds, TellsError};
 ghost use Rattle.ndc_tool_top.specs.Show.{PrintsAsRead, Shows, ShowsFront};
-ghost use Rattle.ndc_tool_top.specs.Top.{LeavesSource, TellsSomeCause, TellsSomeLine, status_line};
+ghost use Rattle.ndc_tool_top.specs.Top.{LeavesSource, TellsDumpError, TellsSomeCause, TellsSomeLine, status_line};
 
 use crate::demo::demo_text;
 use crate::fault::Fault;
@@ -28,9 +29,6 @@ use ndc_port::{Gate, Sink, Source};
 use ndc_tool_words::{Asked, WordsError, read};
 use std::alloc::Global;
 use std::thread::Threads;
-
-/// How many bytes the input may have.
-pub const MOST_BYTES: usize = 16_777_216;
 
 /// Does what is asked for, and answers the status.
 fn perform<R: Threads + Sync, S: Source, K: Sink, E: Sink, G: Gate>(

@@ -10,5 +10,5 @@ mod words;
 pub mod words_laws;
 
 pub use error::WordsError;
-pub use names::Names;
+pub use names::{Names, parts_of};
 pub use words::{Asked, read};

@@ -47,7 +47,7 @@ fn begins_with_dash(text: &[u8]) -> bool
 }
 
 /// What stands between the commas of a text.
-fn parts_of<'a>(alloc: Global, text: &'a [u8]) -> Result<Vec<&'a [u8]>, AllocError>
+pub fn parts_of<'a>(alloc: Global, text: &'a [u8]) -> Result<Vec<&'a [u8]>, AllocError>
     ensures { IfOk result (λ parts. map (λ part. part.now) parts.items ≡ slice_split (λ byte. byte == 44) text.now) }
 {
     text.split(|byte| *byte == b',').collect(alloc)

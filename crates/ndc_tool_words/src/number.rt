@@ -3,22 +3,7 @@ ghost use Rattle.std.specs.List.{list_all};
 ghost use Rattle.ndc_script_words.specs.Number.{is_digit, has_leading_zero, value_on};
 ghost use Rattle.ndc_tool_words.specs.Numbers.{is_written, number_within};
 
-/// Whether these are digits alone.
-fn are_digits(word: &[u8]) -> bool
-    ensures { result ≡ list_all is_digit word.now }
-{
-    word.iter().all(|byte| 48 <= *byte && *byte <= 57)
-}
-
-/// Whether a number begins with a 0 that it should not have.
-fn has_leading_zero(word: &[u8]) -> bool
-    ensures { result ≡ has_leading_zero word.now }
-{
-    match word {
-        [] => false,
-        [byte, rest @ ..] => *byte == b'0' && !rest.is_empty(),
-    }
-}
+use ndc_script_words::{are_digits, has_leading_zero};
 
 /// Whether the word is a number.
 fn is_written(word: &[u8]) -> bool

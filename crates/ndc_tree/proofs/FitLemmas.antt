@@ -1,5 +1,5 @@
 -- A batch that fits a tree joins it.
-use Rattle.std.proofs.Common.{◌≡◌, ◌+◌, ◌<◌, ◌≤◌, Bool, true, false, not, ◌&&◌, ◌==◌, cond, List, [], ◌∷◌, inl, inr, Option, Some, None, if◌then◌else◌, refl, sym, ◌∙◌, subst, ap, arith}
+use Rattle.std.proofs.Common.{◌≡◌, ◌+◌, ◌<◌, ◌≤◌, Bool, true, false, not, ◌&&◌, ◌==◌, cond, List, [], ◌∷◌, inl, inr, Option, Some, None, Ok, Err, IsOk, if◌then◌else◌, refl, sym, ◌∙◌, subst, ap, arith}
 use Rattle.std.specs.Prelude.{is_some}
 use Rattle.std.proofs.lemmas.Bool.{and_parts, eqb-true, eq-eqb}
 use Rattle.ndc_event.specs.Key.{key_lt}
@@ -16,10 +16,12 @@ use Rattle.ndc_model_sets.proofs.BranchLemmas.{has-among, run-same}
 use Rattle.ndc_model_sets.proofs.KeyLemmas.{IsBefore, before-parts, before-from}
 use Rattle.ndc_model_sets.specs.Last.{is_nil, first_from}
 use Rattle.ndc_tree.specs.Fitting.{is_of_version, splits_version, goes_on, is_below, fits}
+use Rattle.ndc_tree.specs.Inserting.{inserted, placed as place_of}
+use Rattle.ndc_tree.specs.declared.answer.TreeError.TheVariants.{MissingParent, NotWellFormed}
 use Rattle.ndc_tree.specs.Tree.{IsNextOfVersion, IsTree, Joins}
 
 -- where the first batch from a key on is not of its version, all batches of the version come before the key
-before-start : (batches : List Batch) (start : BatchKey) (one : Batch) → Rise batches → Among one batches → one.key.version ≡ start.version
+pub before-start : (batches : List Batch) (start : BatchKey) (one : Batch) → Rise batches → Among one batches → one.key.version ≡ start.version
     → is_of_version start.version (first_from start batches) ≡ false → key_lt one.key start ≡ true
 before-start [] start one rise among v h = absurd among
 before-start (x ∷ xs) start one rise among v h = by (key_lt x.key start) refl among h (λ m g. before-start xs start one rise.1 m v g)
@@ -125,3 +127,13 @@ module _ (run : RunId) (batches : List Batch) (new : Batch) (tree : IsTree run b
     ids = ids;
     next = next;
   }
+
+-- a batch without a fault that a tree takes joins it
+pub taken_joins : (run : RunId) (batches : List Batch) (new : Batch) → IsTree run batches → fault_of new ≡ None → IsOk (inserted run batches new) → Joins run batches new
+taken_joins run batches new tree faultless taken = by (has_key new.parent batches) refl (fits run batches new) refl taken
+  where
+    by : (reached : Bool) → has_key new.parent batches ≡ reached → (fit : Bool) → fits run batches new ≡ fit
+        → IsOk (if not reached then Err (MissingParent new.key) else if not fit then Err (NotWellFormed new.key) else Ok (place_of run batches new.key new.parent)) → Joins run batches new
+    by true r true f ok = fit-joins run batches new tree f r faultless
+    by true r false f ok = absurd (cc)
+    by false r fit f ok = absurd (cc)

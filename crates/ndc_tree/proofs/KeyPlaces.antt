@@ -16,8 +16,8 @@ use Rattle.ndc_model_sets.specs.Sets.{batch_at, arrived}
 use Rattle.ndc_model_sets.proofs.KeyLemmas.{before-trans, same-keys}
 use Rattle.ndc_model_sets.proofs.KeyOrder.{key_cmp}
 use Rattle.ndc_tree.specs.Places.{key_before, comes_before, IsAt, IsGap, IsKeyAt, IsKeyGap}
-use Rattle.ndc_tree.specs.Sorted.{InOrder, Hits, Parts}
-use Rattle.ndc_tree.proofs.SortedLemmas.{searched, hit-within, part-within, order-insert, order-remove}
+use Rattle.ndc_event.specs.Sorted.{InOrder, Hits, Parts}
+use Rattle.ndc_event.proofs.SortedLemmas.{searched, hit-within, part-within, order-insert, order-remove}
 
 -- the tests of two keys, by how they compare
 pub record Tested (one two : BatchKey) (less same greater : Bool) : Type 0 where

@@ -9,7 +9,7 @@ use Rattle.ndc_event.specs.declared.batch.Batch.{Batch}
 use Rattle.ndc_event.specs.declared.key.BatchKey.{BatchKey}
 use Rattle.ndc_model_sets.proofs.KeyOrder.{key_cmp}
 use Rattle.ndc_tree.specs.Places.{comes_before, IsAt, IsGap}
-use Rattle.ndc_tree.specs.Sorted.{InOrder}
+use Rattle.ndc_event.specs.Sorted.{InOrder}
 use Rattle.ndc_tree.proofs.KeyPlaces.{batch-place, c, less-from, tested}
 
 -- what compares as no more than less compares as less

@@ -1,4 +1,3 @@
-pub mod SortedLemmas
 pub mod KeyPlaces
 pub mod SegmentLemmas
 pub mod GrowLemmas
@@ -7,6 +6,7 @@ pub mod FitLemmas
 pub mod TipLemmas
 pub mod NotedLemmas
 pub mod PathLemmas
+pub mod RefusedLemmas
 pub mod LastLemmas
 pub mod VersionLemmas
 pub mod ReadingLemmas

@@ -19,7 +19,7 @@ use Rattle.ndc_tree.specs.Tree.{IsNextOfVersion, IsTree}
 use Rattle.ndc_tree.proofs.GrowLemmas.{parent-task}
 
 -- what there is
-there : (o : Option Batch) → is_some o ≡ true → (b : Batch) × (o ≡ Some b)
+pub there : (o : Option Batch) → is_some o ≡ true → (b : Batch) × (o ≡ Some b)
 there None h = absurd (cc)
 there (Some b) h = (b, refl)
 

@@ -18,8 +18,8 @@ use Rattle.ndc_model_sets.proofs.Lists.{all-join}
 use Rattle.ndc_model_sets.proofs.SetLemmas.{at-append, none-there}
 use Rattle.ndc_tree.specs.declared.batches.Segment.{Segment}
 use Rattle.ndc_tree.specs.Segments.{AreSegments, IsSegment, against, flat}
-use Rattle.ndc_tree.specs.Sorted.{Hits, Parts}
-use Rattle.ndc_tree.proofs.SortedLemmas.{searched, hits, all_follow, all-insert, order-insert}
+use Rattle.ndc_event.specs.Sorted.{Hits, Parts}
+use Rattle.ndc_event.proofs.SortedLemmas.{searched, hits, all_follow, all-insert, order-insert}
 use Rattle.ndc_model_sets.proofs.EventLemmas.{before-suc}
 
 cmp-less : (a b : ℕ) → nat_cmp a b ≡ Less → a < b

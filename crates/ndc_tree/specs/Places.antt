@@ -7,7 +7,7 @@ use Rattle.ndc_event.specs.declared.key.BatchKey.{BatchKey}
 use Rattle.ndc_model_sets.specs.Keys.{is_key_among, with_key, without_key}
 use Rattle.ndc_model_sets.specs.Last.{first_from}
 use Rattle.ndc_model_sets.specs.Sets.{batch_at, arrived}
-use Rattle.ndc_tree.specs.Sorted.{InOrder}
+use Rattle.ndc_event.specs.Sorted.{InOrder}
 
 -- the first key comes before the second
 abbrev pub key_before : BatchKey → BatchKey → Type 0

@@ -6,7 +6,7 @@ use Rattle.std.specs.declared.cmp.Ordering.{Ordering}
 use Rattle.ndc_event.specs.declared.batch.Batch.{Batch}
 use Rattle.ndc_model_sets.specs.Last.{is_nil}
 use Rattle.ndc_tree.specs.declared.batches.Segment.{Segment}
-use Rattle.ndc_tree.specs.Sorted.{InOrder}
+use Rattle.ndc_event.specs.Sorted.{InOrder}
 
 -- the batches of the segments, one after another
 abbrev pub flat : List Segment → List Batch

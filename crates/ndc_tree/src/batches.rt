@@ -1,6 +1,6 @@
 ghost use Rattle.std.specs.Prelude.{◌≡◌, ◌<◌, ◌≤◌, ◌++◌, IfOk, IfErr, OnOk, length, drop, map, slice_get};
 ghost use Rattle.std.specs.Option.{option_copied};
-ghost use Rattle.ndc_tree.specs.Sorted.{Hits, Parts};
+ghost use Rattle.ndc_event.specs.Sorted.{Hits, Parts};
 ghost use Rattle.ndc_tree.specs.Segments.{AreSegments, against, flat};
 
 use crate::chain::Chain;

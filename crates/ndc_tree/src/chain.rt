@@ -1,5 +1,5 @@
 ghost use Rattle.std.specs.Prelude.{◌≡◌, IfOk, IfErr};
-ghost use Rattle.ndc_tree.specs.Sorted.{InOrder};
+ghost use Rattle.ndc_event.specs.Sorted.{InOrder};
 ghost use Rattle.ndc_tree.specs.Places.{comes_before, IsAt, IsGap};
 
 use crate::sorted::put;
@@ -19,7 +19,7 @@ impl Model for Chain {
 
     ghost Value = { List Batch };
 
-    ghost use Rattle.ndc_tree.specs.Sorted.{InOrder};
+    ghost use Rattle.ndc_event.specs.Sorted.{InOrder};
     ghost use Rattle.ndc_tree.specs.Places.{comes_before};
 
     ghost view = { λ chain. chain.batches.items };

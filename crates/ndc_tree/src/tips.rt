@@ -1,5 +1,5 @@
 ghost use Rattle.std.specs.Prelude.{◌≡◌, IfOk, IfErr};
-ghost use Rattle.ndc_tree.specs.Sorted.{InOrder};
+ghost use Rattle.ndc_event.specs.Sorted.{InOrder};
 ghost use Rattle.ndc_tree.specs.Places.{key_before, IsKeyAt, IsKeyGap};
 
 use crate::sorted::put;
@@ -19,7 +19,7 @@ impl Model for Tips {
 
     ghost Value = { List BatchKey };
 
-    ghost use Rattle.ndc_tree.specs.Sorted.{InOrder};
+    ghost use Rattle.ndc_event.specs.Sorted.{InOrder};
     ghost use Rattle.ndc_tree.specs.Places.{key_before};
 
     ghost view = { λ tips. tips.keys.items };

@@ -50,8 +50,7 @@ fn one_answer(alloc: Global, number: u64, told: Told) -> Result<(Answer, u64), A
 {
     let Told { text: answer, seen } = told;
     let refused = u64::from(answer.is_refusal());
-    let mut text = Vec::new(alloc);
-    answer.push_behind_number(&mut text, number)?;
+    let text = answer.behind_number(alloc, number)?;
     Ok((Answer { text, seen }, refused))
 }
 

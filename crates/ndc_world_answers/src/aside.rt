@@ -6,9 +6,9 @@ ghost use Rattle.ndc_model.specs.Texts.{ok};
 
 use crate::text::AnswerText;
 use crate::word::{Word, count_line, ok};
-use ndc_dump_show::line::{push_key, push_number};
 use ndc_letters::Letter;
 use ndc_script_types::Header;
+use ndc_text::line::{push_key, push_number};
 use std::alloc::{AllocError, Global};
 
 /// What came was read as the batch that was sent.

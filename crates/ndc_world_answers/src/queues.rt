@@ -6,9 +6,9 @@ ghost use Rattle.ndc_world_answers.specs.Gaps.{gap_ends, gap_head, gap_text};
 use crate::tally::Tally;
 use crate::text::AnswerText;
 use crate::word::{Word, count_line, ok, refused};
-use ndc_dump_show::line::{push_item, push_key};
 use ndc_queue::Levels;
 use ndc_resend::GapOf;
+use ndc_text::line::{push_item, push_key};
 use std::alloc::{AllocError, Global};
 
 /// No message is at the place.

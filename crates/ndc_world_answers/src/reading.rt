@@ -9,12 +9,12 @@ ghost use Rattle.ndc_text.specs.Views.{branch_line, dump_text, key_text, run_lin
 use crate::tally::sum;
 use crate::text::AnswerText;
 use crate::word::{Word, count_line, ok, refused};
-use ndc_dump_show::dump_text;
-use ndc_dump_show::line::{push_branch_line, push_item, push_run_line, status_word};
 use ndc_event::{Batch, BatchKey, Event, Name, RunId};
 use ndc_history::Item;
 use ndc_model_sets::{BranchView, RunStatus, RunView, View};
 use ndc_state::{CloseKind, State};
+use ndc_text::dump_text;
+use ndc_text::line::{push_branch_line, push_item, push_run_line, status_word};
 use std::alloc::{AllocError, Global};
 
 /// Nothing of the workflow is learned.

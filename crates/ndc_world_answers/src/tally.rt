@@ -66,7 +66,7 @@ fn known_and_put_off(outcome: &Outcome) -> (u64, u64)
 fn batches_in(message: &Message) -> u64
     ensures { result ≡ length (both message.now) }
 {
-    match message.second {
+    match message.second.as_ref() {
         None => 1,
         Some(_) => 2,
     }

@@ -1,4 +1,4 @@
-use ndc_dump_show::line::push_number;
+use ndc_text::line::push_number;
 use std::alloc::{AllocError, Global};
 use std::marker::Model;
 
@@ -20,8 +20,11 @@ impl Model for AnswerText {
     ghost invariant = { λ answer. answer.refused ≡ is_refusal answer.text.items };
 }
 
+/// How much memory a number and the space behind it take at most.
+const NUMBER_ROOM: usize = 21;
+
 impl AnswerText {
-    ghost use Rattle.std.specs.Prelude.{◌≡◌, ◌++◌, [], codes, decimal, false, true, OnOk};
+    ghost use Rattle.std.specs.Prelude.{◌≡◌, ◌++◌, [], codes, decimal, false, true, IfOk, OnOk};
     ghost use Rattle.ndc_model.specs.Laws.{is_refusal};
 
     /// No answer at all.
@@ -70,5 +73,15 @@ impl AnswerText {
         push_number(text, number)?;
         text.extend_from_slice(b" ")?;
         text.extend_from_slice(self.text.as_slice())
+    }
+
+    /// The answer behind the number of its line, in memory that is asked for once.
+    pub fn behind_number(&self, alloc: Global, number: u64) -> Result<Vec<u8>, AllocError>
+        ensures { IfOk result (λ text. text.items ≡ decimal number ++ codes " " ++ self.now) }
+    {
+        let room = self.text.len().saturating_add(NUMBER_ROOM);
+        let mut text = Vec::with_capacity(alloc, room)?;
+        self.push_behind_number(&mut text, number)?;
+        Ok(text)
     }
 }

@@ -3,8 +3,8 @@ ghost use Rattle.ndc_model.specs.Texts.{ok, refused, spaced};
 ghost use Rattle.ndc_world_answers.specs.Words.{word_text};
 
 use crate::text::AnswerText;
-use ndc_dump_show::line::{push_key, push_number};
 use ndc_event::BatchKey;
+use ndc_text::line::{push_key, push_number};
 use std::alloc::{AllocError, Global};
 
 /// A word of an answer.
@@ -43,11 +43,14 @@ fn push_words(text: &mut Vec<u8>, words: &[Word]) -> Result<(), AllocError>
     Ok(())
 }
 
+/// How much memory the first line of an answer is given at once: most have room in it.
+const ROOM: usize = 40;
+
 /// The first line of an answer: a word, and words behind it.
 fn line(alloc: Global, first: &'static str, words: &[Word]) -> Result<Vec<u8>, AllocError>
     ensures { IfOk result (λ text. text.items ≡ first.now ++ spaced (map word_text words.now) ++ codes "\n") }
 {
-    let mut text = Vec::new(alloc);
+    let mut text = Vec::with_capacity(alloc, ROOM)?;
     text.extend_from_slice(first.as_bytes())?;
     push_words(&mut text, words)?;
     text.extend_from_slice(b"\n")?;

@@ -1,5 +1,5 @@
 -- Links over which nothing is due.
-use Rattle.std.proofs.Common.{◌≡◌, ◌≤◌, ◌<◌, ◌+◌, ℕ, Bool, true, false, [], ◌∷◌, List, ◌++◌, Option, append_assoc, map, take, drop, length, get_or, slice_get, slice_index_or, refl, ap, sym, ◌∙◌, arith}
+use Rattle.std.proofs.Common.{◌≡◌, ◌<◌, ◌+◌, ℕ, Bool, true, false, [], ◌∷◌, List, ◌++◌, Option, append_assoc, map, take, drop, length, get_or, slice_get, slice_index_or, refl, ap, sym, ◌∙◌, arith}
 use Rattle.std.specs.List.{cons_option, filter, flat_map}
 use Rattle.std.proofs.lemmas.Grind.{flat_map-append}
 use Rattle.std.proofs.lemmas.List.{append-nil, at_drop_more, drop_all, map-append, map-id, take-append-drop}
@@ -46,27 +46,25 @@ held_here header w publishers links handovers place link source publisher queues
     (omega (arith, below, ap (λ (v : World). length v.links) same)) (at ∙ ap (λ (v : World). get_or v.links place link) same)
     (here ∙ ap (λ (number : ClusterNo). get_or publishers number.number publisher) is) alike rests firsts
 
+-- what is due over a link for a shard of which all entries are done
+pub none_due_for : (header : Header) (w : World) (place : ℕ) (link : Link) (publisher : PublisherValue) (queues : List QueueValue) → Holds header w place link publisher queues
+    → (shard : ℕ) → shard < header.shards → (lane_in link shard).levels.done ≡ queue_len (queue_at queues shard) → due w shard link ≡ []
+none_due_for header w place link publisher queues it shard below done =
+    let many : length link.lanes ≡ header.shards = lanes_many header w place link publisher queues it in
+    let alike : length queues ≡ length link.lanes = lanes_alike header w place link publisher queues it in
+    let len : queue_len (queue_at queues shard) ≡ length (world.queue_at link.source shard w) =
+    len_kept (queue_at queues shard) (cell_for shard publisher.cluster.cells).written (it.rests shard (omega (arith, below, alike, many)))
+    ∙ ap (λ (cluster : Cluster). length (cell_for shard cluster.cells).written) (sym it.own.cluster_is) in
+    ap (filter (is_addressed link.reader (cluster_at link.source w).table)) (drop_all (lane_in link shard).levels.done (world.queue_at link.source shard w) (omega (arith, len, done)))
+
 -- what is brought over a link whose source has written no more than is done
 pub none_due : (header : Header) (w : World) (place : ℕ) (link : Link) (publisher : PublisherValue) (queues : List QueueValue) → Holds header w place link publisher queues
     → ((shard : ℕ) → shard < length link.lanes → (lane_in link shard).levels.done ≡ queue_len (queue_at queues shard))
     → (reader : ClusterNo) (shard : ℕ) → shard < header.shards → own_part (due w) reader shard link ≡ []
 none_due header w place link publisher queues it done reader shard below = by (same_cluster link.reader reader) refl
   where
-    many : length link.lanes ≡ header.shards
-    many = lanes_many header w place link publisher queues it
-
-    alike : length queues ≡ length link.lanes
-    alike = lanes_alike header w place link publisher queues it
-
-    len : queue_len (queue_at queues shard) ≡ length (world.queue_at link.source shard w)
-    len = len_kept (queue_at queues shard) (cell_for shard publisher.cluster.cells).written (it.rests shard (omega (arith, below, alike, many)))
-        ∙ ap (λ (cluster : Cluster). length (cell_for shard cluster.cells).written) (sym it.own.cluster_is)
-
-    all : length (world.queue_at link.source shard w) ≤ (lane_in link shard).levels.done
-    all = omega (arith, len, done shard (omega (arith, below, many)))
-
     by : (b : Bool) → same_cluster link.reader reader ≡ b → own_part (due w) reader shard link ≡ []
-    by true own = rw own (ap (filter (is_addressed link.reader (cluster_at link.source w).table)) (drop_all (lane_in link shard).levels.done (world.queue_at link.source shard w) all))
+    by true own = rw own (none_due_for header w place link publisher queues it shard below (done shard (omega (arith, below, lanes_many header w place link publisher queues it))))
     by false other = rw other refl
 
 -- what is due over a link, by the source's own table and queues

@@ -23,3 +23,4 @@ pub mod GrowLemmas
 pub mod AlikeLemmas
 pub mod LateLemmas
 pub mod RecordLemmas
+pub mod OneTableLemmas

@@ -64,12 +64,10 @@ part-none reader shard link = by (same_cluster link.reader reader) refl
 pub quiet_part : (reader : ClusterNo) (shard : ℕ) (link : Link) → link_without_flights link ≡ link → own_part in_flight reader shard link ≡ []
 quiet_part reader shard link quiet = sym (ap (own_part in_flight reader shard) (emptied_quiet reader link quiet)) ∙ part-none reader shard link
 
-pub quiet_emptied_at : (reader : ClusterNo) (shard : ℕ) (link : Link) → link_without_flights link ≡ link → link ≡ emptied_at reader shard link
-quiet_emptied_at reader shard link quiet = by (same_cluster link.reader reader) refl
+-- a link over which nothing is in flight for a shard stays where that is taken out, and brings nothing for it
+pub lane_emptied_at : (reader : ClusterNo) (shard : ℕ) (link : Link) → (lane_in link shard).flight ≡ [] → link ≡ emptied_at reader shard link
+lane_emptied_at reader shard link none = by (same_cluster link.reader reader) refl
   where
-    none : (lane_in link shard).flight ≡ []
-    none = ap (λ (l : Link). (lane_in l shard).flight) (sym quiet) ∙ flight-none link.lanes shard
-
     same : record link { lanes = set link.lanes shard (record (lane_in link shard) { flight = [] }) } ≡ link
     same = ap (λ (f : List Message). record link { lanes = set link.lanes shard (record (lane_in link shard) { flight = f }) }) (sym none)
         ∙ ap (λ (lanes : List Lane). record link { lanes = lanes }) (set-get_or link.lanes shard new_lane)
@@ -77,6 +75,16 @@ quiet_emptied_at reader shard link quiet = by (same_cluster link.reader reader) 
     by : (b : Bool) → same_cluster link.reader reader ≡ b → link ≡ emptied_at reader shard link
     by true own = rw own (sym same)
     by false other = rw other refl
+
+pub lane_part : (reader : ClusterNo) (shard : ℕ) (link : Link) → (lane_in link shard).flight ≡ [] → own_part in_flight reader shard link ≡ []
+lane_part reader shard link none = by (same_cluster link.reader reader) refl
+  where
+    by : (b : Bool) → same_cluster link.reader reader ≡ b → own_part in_flight reader shard link ≡ []
+    by true own = rw own none
+    by false other = rw other refl
+
+pub quiet_emptied_at : (reader : ClusterNo) (shard : ℕ) (link : Link) → link_without_flights link ≡ link → link ≡ emptied_at reader shard link
+quiet_emptied_at reader shard link quiet = lane_emptied_at reader shard link (ap (λ (l : Link). (lane_in l shard).flight) (sym quiet) ∙ flight-none link.lanes shard)
 
 links-none : (reader : ClusterNo) (links : List Link) (shard : ℕ) → by_link reader in_flight (map (emptied reader) links) shard ≡ []
 links-none reader [] shard = refl

@@ -94,7 +94,7 @@ fn put_keys(keys: &mut KeySet, message: &Message) -> Result<(), AllocError>
     ensures { OnOk result ((key : Key) → is_key_among key keys.new ≡ (has_key (Some key) (both message.now) || is_key_among key keys.old)) }
 {
     keys.put(message.batch.key)?;
-    if let Some(second) = &message.second {
+    if let Some(second) = message.second.as_ref() {
         keys.put(second.key)?;
     }
     Ok(())

@@ -47,7 +47,7 @@ impl<C: Cell + Drop> Replication<C> {
     }
 
     /// Adds jobs in which all arrives that is due for a shard over the links at these places, in their order. Of each queue
-    /// the entries are looked at that are not done.
+    /// the entries are looked at that are not done; a queue of which all are done is passed by.
     fn add_due(
         &self,
         alloc: Global,
@@ -66,6 +66,9 @@ impl<C: Cell + Drop> Replication<C> {
             let source = &self.publishers[link.source().number as usize];
             let queues = source.queues().as_slice();
             let queue = &queues[shard as usize];
+            if link.is_done_for(shard as usize, queue) {
+                continue;
+            }
             let messages = link.due(alloc, source.table(), shard as usize, queue)?;
             add_jobs(jobs, shard, messages)?;
         }

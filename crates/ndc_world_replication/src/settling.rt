@@ -1,4 +1,4 @@
-ghost use Rattle.std.specs.Prelude.{◌≡◌, ◌<◌, false, map, IfOk, OnOk};
+ghost use Rattle.std.specs.Prelude.{◌≡◌, ◌<◌, false, map, IfOk, IsTrue, OnOk};
 ghost use Rattle.std.specs.List.{flat_map, fold};
 ghost use Rattle.ndc_script_types.specs.WellFormed.{IsCluster};
 ghost use Rattle.ndc_model.specs.Moves.{after_settlement, all_reapply, bootstrapped, due_arrived, link_without_flights, merged_all, reapplied_all, renewed, settled_once, without_flights};
@@ -7,12 +7,15 @@ ghost use Rattle.ndc_model.specs.Conditions.{EachStep, MayBootstrap, MayDoAll, M
 ghost use Rattle.ndc_world_replication.specs.Dones.{notes_in, trace_of};
 ghost use Rattle.ndc_world_replication.specs.OnTime.{IsOnTime};
 ghost use Rattle.ndc_world_replication.specs.Orderly.{IsOrderly};
+ghost use Rattle.ndc_world_replication.specs.Publishers.{PublisherValue};
+ghost use Rattle.ndc_world_replication.specs.Tables.{HaveAll, HaveOneTable};
 
+use crate::publisher::Publisher;
 use crate::replication::Replication;
 use crate::working::Done;
 use ndc_cluster_links::Link;
 use ndc_cluster_rounds::Cell;
-use ndc_domain::ClusterNo;
+use ndc_domain::{ClusterNo, DomainTable};
 use ndc_port::Gate;
 use ndc_script_types::{Header, clusters_below};
 use std::alloc::{AllocError, Global};
@@ -28,7 +31,7 @@ fn others_of(
     requires { clusters.now ≡ all_clusters header.now }
     ensures { IfOk result (λ others. others.items ≡ others_of header.now cluster) }
 {
-    let mut others = Vec::new(alloc);
+    let mut others = Vec::with_capacity(alloc, clusters.len())?;
     for &other in clusters {
         if cluster.number != other.number {
             others.push(other)?;
@@ -47,6 +50,30 @@ fn may_be_late(links: &[Link], reader: ClusterNo) -> bool
         }
     }
     false
+}
+
+/// Whether each of these clusters holds these domain records.
+fn have_all<C: Cell + Drop>(publishers: &[Publisher<C>], records: &DomainTable) -> bool
+    ensures { IsTrue result → HaveAll records.now (map (λ (publisher : PublisherValue). publisher.cluster) publishers.now) }
+{
+    for publisher in publishers {
+        if !publisher.table().same(records) {
+            return false;
+        }
+    }
+    true
+}
+
+/// Whether all of these clusters hold the same domain records.
+fn have_one_table<C: Cell + Drop>(publishers: &[Publisher<C>]) -> bool
+    ensures { IsTrue result → HaveOneTable (map (λ (publisher : PublisherValue). publisher.cluster) publishers.now) }
+{
+    if publishers.is_empty() {
+        return false;
+    }
+    let records = publishers[0].table();
+    let _ordered = records.records();
+    have_all(publishers, records)
 }
 
 /// Takes out all that is in flight.
@@ -79,7 +106,7 @@ impl<C: Cell + Drop> Replication<C> {
         Ok(())
     }
 
-    /// Each cluster merges the tables of all others, in header order.
+    /// Each cluster merges the tables of all others, in header order. Where all hold the same records, none is merged.
     fn merge_tables(
         &mut self,
         alloc: Global,
@@ -91,6 +118,9 @@ impl<C: Cell + Drop> Replication<C> {
         ensures merged { OnOk result (self.new ≡ tables_merged header.now self.old) }
         ensures orderly { OnOk result (IsOrderly header.now self.new) }
     {
+        if have_one_table(self.publishers.as_slice()) {
+            return Ok(());
+        }
         for &cluster in clusters {
             let others = others_of(alloc, header, clusters, cluster)?;
             self.merge_others(alloc, header, cluster, others.as_slice())?;

@@ -37,7 +37,7 @@ fn push_jobs(jobs: &mut Vec<ShardJob>, shard: u32, messages: Vec<Message>) -> Re
 }
 
 /// Takes what is in flight over a link for a shard as jobs, where it is the reader's. A link that is known to be quiet is
-/// passed by.
+/// passed by, and so is a shard for which nothing is in flight.
 fn take_from(
     jobs: &mut Vec<ShardJob>,
     link: &mut Link,
@@ -52,6 +52,9 @@ fn take_from(
         return Ok(());
     }
     if link.is_quiet() {
+        return Ok(());
+    }
+    if link.is_quiet_for(shard as usize) {
         return Ok(());
     }
     let messages = link.take_flight(shard as usize);

@@ -21,7 +21,7 @@ pub(crate) struct Found {
 fn batches_in(message: &Message) -> u64
     ensures { result ≡ length (both message.now) }
 {
-    match message.second {
+    match message.second.as_ref() {
         None => 1,
         Some(_) => 2,
     }

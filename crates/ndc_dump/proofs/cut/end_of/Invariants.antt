@@ -4,4 +4,4 @@ use Rattle.ndc_dump.proofs.cut.end_of.Given as goal
 
 -- the bytes so far stand in front of the line end
 abbrev pub invariant-loop-at : goal.invariant-loop-at
-invariant-loop-at l = l.at + length (without_end (drop l.at l.line)) ≡ length (without_end l.line)
+invariant-loop-at l = l.at + length (without_end (drop l.at l.bytes)) ≡ length (without_end l.bytes)

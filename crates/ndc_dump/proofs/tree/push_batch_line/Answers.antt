@@ -3,7 +3,7 @@ use Rattle.ndc_event.specs.declared.batch.Event.{Event}
 use Rattle.ndc_model_sets.specs.Paths.{first_id, last_id}
 use Rattle.ndc_text.specs.Views.{current_mark}
 use Rattle.ndc_dump.specs.Marks.{batch_head}
-use Rattle.ndc_dump_show.proofs.Joining.{behind_six}
+use Rattle.ndc_text.proofs.Joining.{behind_six}
 use Rattle.ndc_dump.proofs.tree.push_batch_line.Goals as goal
 
 pub returns : goal.returns

@@ -4,7 +4,7 @@ use Rattle.ndc_model_sets.specs.Learned.{has_key}
 use Rattle.ndc_model_sets.specs.Paths.{path_from}
 use Rattle.ndc_text.specs.Views.{branch_line, run_line}
 use Rattle.ndc_dump.specs.Marks.{current_key, path_lines}
-use Rattle.ndc_dump_show.proofs.Joining.{three_pieces}
+use Rattle.ndc_text.proofs.Joining.{three_pieces}
 use Rattle.ndc_dump.proofs.Trees.{same_marks}
 use Rattle.ndc_dump.proofs.tree.push_run_tree.Goals as goal
 

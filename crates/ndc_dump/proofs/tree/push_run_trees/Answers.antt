@@ -1,7 +1,7 @@
 use Rattle.std.proofs.Common.{rules}
 use Rattle.ndc_dump.specs.Groups.{listed}
 use Rattle.ndc_dump.specs.Marks.{run_tree}
-use Rattle.ndc_dump_show.proofs.Joining.{printed_more}
+use Rattle.ndc_text.proofs.Joining.{printed_more}
 use Rattle.ndc_dump.proofs.tree.push_run_trees.Goals as goal
 
 pub loop-run-preserved : goal.loop-run-preserved

@@ -1,4 +1,4 @@
-use Rattle.ndc_dump_faults.specs.Telling.{Streams}
+use Rattle.ndc_dump.specs.Telling.{Streams}
 use Rattle.ndc_explain.proofs.Endings.{told_end}
 use Rattle.ndc_explain.proofs.top.explain_input.Goals as goal
 

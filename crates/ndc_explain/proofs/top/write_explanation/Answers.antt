@@ -2,7 +2,7 @@ use Rattle.std.proofs.Common.{List, ℕ, ◌∙◌, subst}
 use Rattle.ndc_port.proofs.Steps.{Sent_start, Sent_stop}
 use Rattle.ndc_port.specs.Bytes.{AppendsFront}
 use Rattle.ndc_explain.specs.Told.{told_of}
-use Rattle.ndc_dump_faults.proofs.PieceLemmas.{on_err}
+use Rattle.ndc_dump.proofs.PieceLemmas.{on_err}
 use Rattle.ndc_explain.proofs.top.write_explanation.Goals as goal
 
 -- nothing was written yet

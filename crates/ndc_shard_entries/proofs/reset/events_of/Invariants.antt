@@ -4,4 +4,4 @@ use Rattle.ndc_shard_entries.proofs.reset.events_of.Given as goal
 
 -- the events so far, with those of the batches that are left, are the whole
 abbrev pub invariant-loop-batch : goal.invariant-loop-batch
-invariant-loop-batch l = l.events.items ++ history_of (map (λ b. b.now) (drop l.batch-index l.batches)) ≡ history_of (map (λ b. b.now) l.batches)
+invariant-loop-batch l = map (λ e. e.now) l.events.items ++ history_of (map (λ b. b.now) (drop l.batch-index l.batches)) ≡ history_of (map (λ b. b.now) l.batches)

@@ -1,5 +1,5 @@
 use Rattle.std.proofs.Common.{[], ◌∷◌, subst, sym}
-use Rattle.ndc_dump_faults.specs.Telling.{IsAmong, Streams}
+use Rattle.ndc_dump.specs.Telling.{IsAmong, Streams}
 use Rattle.ndc_tool_top.proofs.Endings.{front_end}
 use Rattle.ndc_tool_top.proofs.FaultLemmas.{leaves, tells-line}
 use Rattle.ndc_tool_top.proofs.run.run_input.Goals as goal

@@ -1,4 +1,4 @@
-use Rattle.ndc_dump_faults.specs.Telling.{Streams}
+use Rattle.ndc_dump.specs.Telling.{Streams}
 use Rattle.ndc_tool_top.proofs.ShowEndings.{shown_end}
 use Rattle.ndc_tool_top.proofs.FaultLemmas.{leaves, tells-cause}
 use Rattle.ndc_tool_top.proofs.show.show_input.Goals as goal

@@ -1,5 +1,5 @@
 use Rattle.std.proofs.Common.{rules}
-use Rattle.ndc_dump_show.proofs.Joining.{printed_more}
+use Rattle.ndc_text.proofs.Joining.{printed_more}
 use Rattle.ndc_text.specs.Views.{run_lines}
 use Rattle.ndc_world_answers.proofs.reading.branches.Goals as goal
 

@@ -2,7 +2,7 @@ use Rattle.std.proofs.Common.{◌≡◌, true, false, ap, refl, sym, ◌∙◌, 
 use Rattle.ndc_domain.specs.declared.clusters.ClusterNo.{ClusterNo}
 use Rattle.ndc_model.specs.Moves.{in_flight}
 use Rattle.ndc_model_cells.specs.Writing.{same_cluster}
-use Rattle.ndc_world_replication.proofs.QuietLemmas.{quiet_emptied_at, quiet_part}
+use Rattle.ndc_world_replication.proofs.QuietLemmas.{lane_emptied_at, lane_part, quiet_emptied_at, quiet_part}
 use Rattle.ndc_world_replication.proofs.TakeLemmas.{emptied_other, emptied_own, none_taken, one_taken, part_other, part_own}
 use Rattle.ndc_world_replication.proofs.taking.take_from.Goals as goal
 
@@ -23,6 +23,13 @@ returns-then-is_quiet-clause-link c = quiet_emptied_at c.args.reader c.args.shar
 pub returns-then-is_quiet-clause-jobs : goal.returns-then-is_quiet-clause-jobs
 returns-then-is_quiet-clause-jobs c =
     none_taken c.args.reader c.args.shard c.args.link.now c.args.jobs.now.items (quiet_part c.args.reader c.args.shard c.args.link.now (c.if-is_quiet.ensures refl))
+
+pub returns-then-is_quiet_for-clause-link : goal.returns-then-is_quiet_for-clause-link
+returns-then-is_quiet_for-clause-link c = lane_emptied_at c.args.reader c.args.shard c.args.link.now (c.if-is_quiet_for.ensures refl)
+
+pub returns-then-is_quiet_for-clause-jobs : goal.returns-then-is_quiet_for-clause-jobs
+returns-then-is_quiet_for-clause-jobs c =
+    none_taken c.args.reader c.args.shard c.args.link.now c.args.jobs.now.items (lane_part c.args.reader c.args.shard c.args.link.now (c.if-is_quiet_for.ensures refl))
 
 pub returns-clause-link : goal.returns-clause-link
 returns-clause-link c =

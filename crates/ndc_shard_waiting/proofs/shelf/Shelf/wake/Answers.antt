@@ -1,4 +1,5 @@
 use Rattle.std.proofs.Common.{◌||◌, sym, ◌∙◌, ap}
+use Rattle.std.specs.Option.{option_copied}
 use Rattle.ndc_model_cells.specs.Cells.{both}
 use Rattle.ndc_model_sets.specs.Keys.{is_key_among}
 use Rattle.ndc_shard_waiting.specs.Linking.{is_awaited, is_linked, is_woken}
@@ -7,12 +8,12 @@ use Rattle.ndc_shard_waiting.proofs.shelf.Shelf.wake.Goals as goal
 
 pub returns-in_ok-wake-2-clause-woken : goal.returns-in_ok-wake-2-clause-woken
 returns-in_ok-wake-2-clause-woken c one =
-    c.in_ok-wake-2.ensures one ∙ ap (λ t. t || is_linked c.in-Some.second.key one c.self.inside.links) (c.in_ok-wake.ensures one)
-    ∙ or-join (is_key_among one c.args.todo.now) (is_linked c.args.sent.now.batch.key one c.self.inside.links) (is_linked c.in-Some.second.key one c.self.inside.links)
-    ∙ ap (λ t. is_key_among one c.args.todo.now || (t || is_linked c.in-Some.second.key one c.self.inside.links)) (c.self.invariant.linked c.args.sent.now.batch.key one)
-    ∙ ap (λ t. is_key_among one c.args.todo.now || (is_awaited c.args.sent.now.batch.key one c.self.inside.messages || t)) (c.self.invariant.linked c.in-Some.second.key one)
+    c.in_ok-wake-2.ensures one ∙ ap (λ t. t || is_linked c.in-Some.second.now.key one c.self.inside.links) (c.in_ok-wake.ensures one)
+    ∙ or-join (is_key_among one c.args.todo.now) (is_linked c.args.sent.now.batch.key one c.self.inside.links) (is_linked c.in-Some.second.now.key one c.self.inside.links)
+    ∙ ap (λ t. is_key_among one c.args.todo.now || (t || is_linked c.in-Some.second.now.key one c.self.inside.links)) (c.self.invariant.linked c.args.sent.now.batch.key one)
+    ∙ ap (λ t. is_key_among one c.args.todo.now || (is_awaited c.args.sent.now.batch.key one c.self.inside.messages || t)) (c.self.invariant.linked c.in-Some.second.now.key one)
     ∙ ap (λ t. is_key_among one c.args.todo.now || t)
-    (sym (woken-two c.args.sent.now.batch c.in-Some.second c.args.sent.now.second one c.self.inside.messages c.in-Some.is c.self.invariant.are.each))
+    (sym (woken-two c.args.sent.now.batch c.in-Some.second.now c.args.sent.now.second one c.self.inside.messages (sym c.as_ref.ensures ∙ ap option_copied c.in-Some.is) c.self.invariant.are.each))
     ∙ ap (λ l. is_key_among one c.args.todo.now || is_woken (both c.args.sent.now) one l) c.self.view_is
 
 pub returns-in_default-clause-woken : goal.returns-in_default-clause-woken
@@ -20,5 +21,5 @@ returns-in_default-clause-woken c one =
     c.in_ok-wake.ensures one
     ∙ ap (λ t. is_key_among one c.args.todo.now || t) (c.self.invariant.linked c.args.sent.now.batch.key one)
     ∙ ap (λ t. is_key_among one c.args.todo.now || t)
-    (sym (woken-alone c.args.sent.now.batch c.args.sent.now.second one c.self.inside.messages c.in_default.is c.self.invariant.are.each))
+    (sym (woken-alone c.args.sent.now.batch c.args.sent.now.second one c.self.inside.messages (sym c.as_ref.ensures ∙ ap option_copied c.in_default.is) c.self.invariant.are.each))
     ∙ ap (λ l. is_key_among one c.args.todo.now || is_woken (both c.args.sent.now) one l) c.self.view_is

@@ -6,6 +6,7 @@ use Rattle.ndc_shard_workflows.proofs.CellLemmas.{own-names}
 use Rattle.ndc_model_cells.specs.Workflow.{WorkflowValue}
 use Rattle.ndc_shard_workflows.specs.Workflow.{after_arrival, empty_workflow, has_arrived}
 use Rattle.ndc_model_cells.specs.Messages.{IsNewTo}
+use Rattle.ndc_shard_runs.specs.Kept.{is_due}
 use Rattle.ndc_shard_workflows.proofs.OkLemmas.{on-ok}
 use Rattle.ndc_shard_workflows.specs.Named.{under}
 use Rattle.ndc_shard_workflows.specs.Workflows.{workflow_or_empty, IsOwn}
@@ -73,3 +74,10 @@ returns-clause-own g c =
     (subst (λ (w : WorkflowValue). has_arrived m.batch.key w ≡ false → IsNewTo w.arrived m) (sym (ap workflow_or_empty at)) c.requires.new)
     (subst (λ (w : WorkflowValue). IsSound (learned (after_arrival m w).arrived)) (sym (ap workflow_or_empty at)) c.requires.sound)))
     c.requires.own
+
+pub returns-clause-due : goal.returns-clause-due
+returns-clause-due g c =
+    let m = c.args.message in
+    let at : None ≡ under m.batch.workflow c.args.self.now = c.in_default.ensures.value ∙ ap (under m.batch.workflow) c.self.view_is in
+    subst (λ (w : WorkflowValue). c.in_ok-received.received.may_be_due ≡ false → is_due (learned (after_arrival m w).arrived) ≡ false)
+    (c.new-workflow.ensures ∙ ap workflow_or_empty at) c.in_ok-received.ensures.due

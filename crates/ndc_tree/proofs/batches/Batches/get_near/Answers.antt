@@ -2,7 +2,7 @@ use Rattle.std.proofs.Common.{◌∙◌, ap, sym, subst, List}
 use Rattle.ndc_model_sets.specs.Sets.{batch_at}
 use Rattle.ndc_tree.specs.Segments.{against}
 use Rattle.ndc_tree.specs.declared.batches.Segment.{Segment}
-use Rattle.ndc_tree.specs.Sorted.{Hits, Parts}
+use Rattle.ndc_event.specs.Sorted.{Hits, Parts}
 use Rattle.ndc_tree.proofs.SegmentLemmas.{hit-at, part-at}
 use Rattle.ndc_tree.proofs.batches.Batches.get_near.Goals as goal
 

@@ -3,7 +3,7 @@ use Rattle.ndc_event.specs.declared.batch.Batch.{Batch}
 use Rattle.ndc_model_sets.specs.Sets.{arrived}
 use Rattle.ndc_tree.specs.Segments.{against, flat}
 use Rattle.ndc_tree.specs.declared.batches.Segment.{Segment}
-use Rattle.ndc_tree.specs.Sorted.{Hits, Parts}
+use Rattle.ndc_event.specs.Sorted.{Hits, Parts}
 use Rattle.ndc_tree.proofs.SegmentLemmas.{put-are, put-ok, put-err, begun-are, begun-ok, with_chain}
 use Rattle.ndc_tree.proofs.batches.Batches.insert.Goals as goal
 

@@ -1,7 +1,0 @@
-use Rattle.std.proofs.Common.{◌≡◌, ◌++◌, drop}
-use Rattle.std.specs.List.{flat_map}
-use Rattle.ndc_text.specs.Views.{run_state_lines}
-use Rattle.ndc_dump_show.proofs.print.push_runs.Given as goal
-
-abbrev pub invariant-loop-run : goal.invariant-loop-run
-invariant-loop-run l = l.text.items ++ flat_map run_state_lines (drop l.run-index l.runs) ≡ l.initial.text.items ++ flat_map run_state_lines l.runs

@@ -1,5 +1,0 @@
-use Rattle.ndc_script_print.proofs.printing.push_act.Goals as goal
-
--- the members of a well-formed line ascend
-pub push_register-requires : goal.push_register-requires
-push_register-requires c = (rw c.in-Register.is at c.requires).ascending

@@ -1,6 +1,0 @@
-//! Scripts printed.
-#![tactic(auto)]
-
-mod printing;
-
-pub use printing::print;
