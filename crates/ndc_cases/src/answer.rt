@@ -8,6 +8,7 @@ ghost use Rattle.ndc_script_read.specs.Body.{script_of};
 use crate::counting::Counting;
 use crate::faulty::Faulty;
 use crate::gate::LateGate;
+use ndc_event::OutOfMemory;
 use ndc_index::{Indexer, KindsIndexer, OpenIndexer, SignalsIndexer};
 use ndc_port::{Gate, MemSink, MemSource, OpenGate, PairGate};
 use ndc_script::{Script, ScriptError, generate, parse, print};
@@ -31,7 +32,7 @@ pub struct Answer {
 }
 
 /// The answer of a call that is refused, with the line that tells why.
-fn refused(alloc: Global, status: u8, told: &str) -> Result<Answer, AllocError>
+fn refused(alloc: Global, status: u8, told: &str) -> Result<Answer, OutOfMemory>
     ensures { IfOk result (λ answer. answer.status ≡ status) }
 {
     let mut line = Vec::from_slice(alloc, told.as_bytes())?;
@@ -89,7 +90,7 @@ fn faults_of(numbers: &[&[u8]]) -> Option<Faults> {
 }
 
 /// The list of one call that fails.
-fn failing(alloc: Global, call: u64) -> Result<Vec<u64>, AllocError> {
+fn failing(alloc: Global, call: u64) -> Result<Vec<u64>, OutOfMemory> {
     let mut calls = Vec::new(alloc);
     calls.push(call)?;
     Ok(calls)
@@ -104,7 +105,7 @@ fn answer_with<R: Threads + Sync, G: Gate>(
     indexers: Vec<Box<dyn Indexer>>,
     words: &[&[u8]],
     input: &[u8],
-) -> Result<Answer, AllocError>
+) -> Result<Answer, OutOfMemory>
     requires new { AllByRecursion (λ one. one.list ≡ []) (map (λ b. shown (title b) (failing b) (list b)) indexers.items) }
     ensures { IfOk result (λ answer. answer.status ≡ 0 → answer.told.items ≡ []) }
 {
@@ -141,7 +142,7 @@ fn ndc_answer<R: Threads + Sync, G: Gate>(
     faults: Faults,
     words: &[&[u8]],
     input: &[u8],
-) -> Result<Answer, AllocError>
+) -> Result<Answer, OutOfMemory>
     ensures { IfOk result (λ answer. answer.status ≡ 0 → answer.told.items ≡ []) }
 {
     let mut indexers: Vec<Box<dyn Indexer>> = Vec::new(alloc);
@@ -159,7 +160,7 @@ fn faulty_answer<R: Threads + Sync>(
     numbers: &[&[u8]],
     words: &[&[u8]],
     input: &[u8],
-) -> Result<Answer, AllocError> {
+) -> Result<Answer, OutOfMemory> {
     match faults_of(numbers) {
         Some(faults) => ndc_answer(rt, alloc, &OpenGate {}, faults, words, input),
         None => refused(alloc, 2, "no such numbers"),
@@ -175,7 +176,7 @@ fn told_answer<R: Threads + Sync>(
     write: u64,
     words: &[&[u8]],
     input: &[u8],
-) -> Result<Answer, AllocError>
+) -> Result<Answer, OutOfMemory>
     ensures { IfOk result (λ answer. answer.status ≡ 0 → answer.told.items ≡ []) }
 {
     let faults = Faults { write, ..NO_FAULTS };
@@ -192,7 +193,7 @@ fn counted_answer<R: Threads + Sync>(
     numbers: [&[u8]; 2],
     words: &[&[u8]],
     input: &[u8],
-) -> Result<Answer, AllocError> {
+) -> Result<Answer, OutOfMemory> {
     let (Some(count), Some(write)) = (number_of(numbers[0]), number_of(numbers[1])) else {
         return refused(alloc, 2, "no such numbers");
     };
@@ -206,7 +207,7 @@ fn counted_answer<R: Threads + Sync>(
 }
 
 /// The answer where two workers of a round have met; else it is refused.
-fn where_met(alloc: Global, met: bool, answer: Answer) -> Result<Answer, AllocError> {
+fn where_met(alloc: Global, met: bool, answer: Answer) -> Result<Answer, OutOfMemory> {
     if met {
         Ok(answer)
     } else {
@@ -220,7 +221,7 @@ fn paired_answer<R: Threads + Sync>(
     alloc: Global,
     words: &[&[u8]],
     input: &[u8],
-) -> Result<Answer, AllocError> {
+) -> Result<Answer, OutOfMemory> {
     let gate = PairGate::new();
     let answer = ndc_answer(rt, alloc, &gate, NO_FAULTS, words, input)?;
     where_met(alloc, gate.met(), answer)
@@ -232,14 +233,14 @@ fn late_answer<R: Threads + Sync>(
     alloc: Global,
     words: &[&[u8]],
     input: &[u8],
-) -> Result<Answer, AllocError> {
+) -> Result<Answer, OutOfMemory> {
     let gate = LateGate::new();
     let answer = ndc_answer(rt, alloc, &gate, NO_FAULTS, words, input)?;
     where_met(alloc, gate.met(), answer)
 }
 
 /// A script, read and printed again.
-fn script_answer(alloc: Global, input: &[u8]) -> Result<Answer, AllocError>
+fn script_answer(alloc: Global, input: &[u8]) -> Result<Answer, OutOfMemory>
     ensures { IfOk result (λ answer. IfOk (script_of input.now) (λ script. answer.output.items ≡ script_text script)) }
 {
     match parse(alloc, input) {
@@ -250,7 +251,7 @@ fn script_answer(alloc: Global, input: &[u8]) -> Result<Answer, AllocError>
 }
 
 /// A generated script, printed.
-fn generated_answer(alloc: Global, count: &[u8], seed: &[u8]) -> Result<Answer, AllocError> {
+fn generated_answer(alloc: Global, count: &[u8], seed: &[u8]) -> Result<Answer, OutOfMemory> {
     match (number_of(count), number_of(seed)) {
         (Some(count), Some(seed)) if 1 <= count && count <= 99_000 => {
             let script = generate(alloc, count, seed)?;
@@ -261,7 +262,7 @@ fn generated_answer(alloc: Global, count: &[u8], seed: &[u8]) -> Result<Answer, 
 }
 
 /// A batch, read and printed again; a bare one has no carrier.
-fn batch_answer(alloc: Global, bare: bool, input: &[u8]) -> Result<Answer, AllocError>
+fn batch_answer(alloc: Global, bare: bool, input: &[u8]) -> Result<Answer, OutOfMemory>
     ensures { IfOk result (λ answer. answer.status ≡ 0 → answer.output.items ≡ input.now) }
 {
     let read = if bare {
@@ -282,7 +283,7 @@ pub fn answer_of<R: Threads + Sync>(
     alloc: Global,
     call: &[u8],
     input: &[u8],
-) -> Result<Answer, AllocError> {
+) -> Result<Answer, OutOfMemory> {
     let words: Vec<&[u8]> = call
         .split(|byte| *byte == b' ')
         .filter(|word| !word.is_empty())

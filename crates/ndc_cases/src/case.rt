@@ -5,6 +5,7 @@ ghost use Rattle.ndc_cases.specs.Case.{digit_of, byte_of, hex_of, lines_of, many
 ghost use Rattle.ndc_cases.specs.declared.case.CaseError.TheVariants.{Memory};
 
 use crate::line::{Mark, mark_of, parts_of};
+use ndc_event::OutOfMemory;
 use ndc_script_words::number_of;
 use std::alloc::{AllocError, AllocFailed, Global};
 use std::marker::Model;
@@ -67,7 +68,7 @@ impl Model for Case {
 }
 
 /// Appends a line.
-fn push_line(text: &mut Vec<u8>, line: &[u8]) -> Result<(), AllocError>
+fn push_line(text: &mut Vec<u8>, line: &[u8]) -> Result<(), OutOfMemory>
     ensures { OnOk result (text.new.items ≡ text.old.items ++ line.now ++ 10 ∷ []) }
 {
     text.extend_from_slice(line)?;
@@ -118,7 +119,7 @@ fn hex_of(alloc: Global, text: &[u8]) -> Result<Vec<u8>, CaseError>
 }
 
 /// A line so many times.
-fn lines_of(alloc: Global, count: u64, line: &[u8]) -> Result<Vec<u8>, AllocError>
+fn lines_of(alloc: Global, count: u64, line: &[u8]) -> Result<Vec<u8>, OutOfMemory>
     ensures { IfOk result (λ lines. lines.items ≡ lines_of count line.now) }
 {
     let mut lines = Vec::new(alloc);

@@ -1,6 +1,7 @@
 //! An indexer that counts its calls.
+use ndc_event::OutOfMemory;
 use ndc_index::{Indexer, OpenIndexer, Seen, ToldError};
-use std::alloc::{AllocError, Global};
+use std::alloc::Global;
 use std::sync::Arc;
 use std::sync::atomic::{AtomicU64, Ordering};
 
@@ -46,7 +47,7 @@ impl Indexer for Counting {
         self.open.told(seen)
     }
 
-    fn line(&self, into: &mut Vec<u8>) -> Result<(), AllocError> {
+    fn line(&self, into: &mut Vec<u8>) -> Result<(), OutOfMemory> {
         self.open.line(into)
     }
 }

@@ -1,6 +1,7 @@
 //! An indexer of which one call fails.
+use ndc_event::OutOfMemory;
 use ndc_index::{Indexer, Seen, ToldError};
-use std::alloc::{AllocError, Global};
+use std::alloc::Global;
 
 /// An indexer of which one call fails, counted from 1; none where the number is 0.
 #[derive(Drop)]
@@ -47,7 +48,7 @@ impl Indexer for Faulty {
         Ok(())
     }
 
-    fn line(&self, into: &mut Vec<u8>) -> Result<(), AllocError> {
+    fn line(&self, into: &mut Vec<u8>) -> Result<(), OutOfMemory> {
         into.extend_from_slice(b"told".as_slice())
     }
 }

@@ -5,8 +5,8 @@ use crate::cells::Cells;
 use ndc_cluster_rounds::{Cell, Desk, Fresh, Home, round};
 use ndc_domain::DomainTable;
 use ndc_model_cells::{JobReply, ShardJob};
-use ndc_port::Gate;
-use std::alloc::{AllocError, Global};
+use ndc_port::{Gate, OutOfMemory};
+use std::alloc::Global;
 use std::marker::Model;
 use std::mem;
 use std::thread::Threads;
@@ -39,7 +39,7 @@ fn empty_cells<C: Cell + Drop>(
     alloc: Global,
     home: &Home,
     shards: u32,
-) -> Result<Vec<C>, AllocError>
+) -> Result<Vec<C>, OutOfMemory>
     ensures { IfOk result (λ cells. map C.cell cells.items ≡ replicate shards empty_cell) }
 {
     let mut cells = Vec::new(alloc);
@@ -61,7 +61,7 @@ impl<C: Cell + Drop> Cluster<C> {
     ghost use Rattle.ndc_model_cells.specs.Jobs.{cell_for, cells_after, replies_to};
 
     /// A cluster without a record, of so many cells in which nothing has happened.
-    pub fn new(alloc: Global, home: &Home, shards: u32) -> Result<Cluster<C>, AllocError>
+    pub fn new(alloc: Global, home: &Home, shards: u32) -> Result<Cluster<C>, OutOfMemory>
         ensures { IfOk result (λ cluster. cluster ≡ new_cluster shards) }
     {
         let cells = empty_cells(alloc, home, shards)?;
@@ -113,7 +113,7 @@ impl<C: Cell + Drop> Cluster<C> {
         workers: u32,
         home: &Home,
         jobs: &[ShardJob],
-    ) -> Result<Vec<JobReply>, AllocError>
+    ) -> Result<Vec<JobReply>, OutOfMemory>
     where
         C: Send,
         requires workers { 0 < workers }

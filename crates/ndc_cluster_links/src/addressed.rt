@@ -6,9 +6,9 @@ ghost use Rattle.ndc_model.specs.Queues.{is_addressed, names_cluster, needs_noth
 
 use ndc_cluster_rounds::Cell;
 use ndc_domain::{ClusterNo, DomainTable};
-use ndc_event::{Batch, Name};
+use ndc_event::{Batch, Name, OutOfMemory};
 use ndc_model_cells::Message;
-use std::alloc::{AllocError, Global};
+use std::alloc::Global;
 
 /// Whether the record of a domain names a cluster.
 pub fn is_named(table: &DomainTable, domain: &Name, reader: ClusterNo) -> bool
@@ -40,7 +40,7 @@ pub(crate) fn addressed(
     table: &DomainTable,
     reader: ClusterNo,
     entries: &[Message],
-) -> Result<Vec<Message>, AllocError>
+) -> Result<Vec<Message>, OutOfMemory>
     ensures { IfOk result (λ list. list.items ≡ filter (is_addressed reader table.now) entries.now) }
 {
     if entries.is_empty() {
@@ -55,7 +55,7 @@ fn copies_addressed(
     table: &DomainTable,
     reader: ClusterNo,
     entries: &[Message],
-) -> Result<Vec<Message>, AllocError>
+) -> Result<Vec<Message>, OutOfMemory>
     ensures { IfOk result (λ list. list.items ≡ filter (is_addressed reader table.now) entries.now) }
 {
     let mut list = Vec::new(alloc);

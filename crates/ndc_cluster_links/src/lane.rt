@@ -9,9 +9,10 @@ ghost use Rattle.ndc_queue.specs.Queues.{queue_len};
 use crate::addressed::{addressed, keep_addressed, settled_front};
 use ndc_cluster_rounds::Cell;
 use ndc_domain::{ClusterNo, DomainTable};
+use ndc_event::OutOfMemory;
 use ndc_model_cells::Message;
 use ndc_queue::{Flight, FlightError, Levels, NoSuchPlace, Queue};
-use std::alloc::{AllocError, Global};
+use std::alloc::Global;
 use std::marker::Model;
 
 /// What a reader has of the queue of one source and shard: how far it has read it, how far all of it is done, and the
@@ -35,7 +36,7 @@ impl Model for Lane {
 }
 
 /// Copies of the kept entries of a queue from a level on: all of them, or at most so many.
-fn taken(queue: &Queue, level: u64, count: Option<u64>) -> Result<Vec<Message>, AllocError>
+fn taken(queue: &Queue, level: u64, count: Option<u64>) -> Result<Vec<Message>, OutOfMemory>
     requires first { queue.now.first ≤ level }
     requires last { level ≤ queue_len queue.now }
     ensures entries { IfOk result (λ taken. taken.items ≡ entries_from count (level - queue.now.first) queue.now.kept) }
@@ -121,7 +122,7 @@ impl Lane {
         reader: ClusterNo,
         count: Option<u64>,
         queue: &Queue,
-    ) -> Result<u64, AllocError>
+    ) -> Result<u64, OutOfMemory>
         requires first { queue.now.first ≤ self.old.levels.read }
         requires last { self.old.levels.read ≤ queue_len queue.now }
         ensures pulled { OnOk result ((whole : List Sent) → IsRestOf queue.now whole → self.new ≡ after_pull reader table.now count whole self.old) }
@@ -150,7 +151,7 @@ impl Lane {
         reader: ClusterNo,
         count: Option<u64>,
         queue: &Queue,
-    ) -> Result<u64, AllocError>
+    ) -> Result<u64, OutOfMemory>
         requires first { queue.now.first ≤ self.old.levels.read }
         requires last { self.old.levels.read ≤ queue_len queue.now }
         ensures pulled { OnOk result ((whole : List Sent) → IsRestOf queue.now whole → self.new ≡ after_pull reader table.now count whole self.old) }
@@ -203,7 +204,7 @@ impl Lane {
         table: &DomainTable,
         reader: ClusterNo,
         queue: &Queue,
-    ) -> Result<Vec<Message>, AllocError>
+    ) -> Result<Vec<Message>, OutOfMemory>
         requires first { queue.now.first ≤ self.now.levels.done }
         requires last { self.now.levels.done ≤ queue_len queue.now }
         ensures { IfOk result (λ list. (whole : List Sent) → IsRestOf queue.now whole → list.items ≡ filter (is_addressed reader table.now) (drop self.now.levels.done whole)) }

@@ -13,9 +13,9 @@ use crate::lane::Lane;
 use crate::queues::Queues;
 use ndc_cluster_rounds::Cell;
 use ndc_domain::{ClusterNo, DomainRecord, DomainTable};
-use ndc_event::Name;
+use ndc_event::{Name, OutOfMemory};
 use ndc_queue::{FlightError, Message, NoSuchPlace, Queue};
-use std::alloc::{AllocError, Global};
+use std::alloc::Global;
 use std::marker::Model;
 
 /// What a reader has of a source: a lane for each shard, and the domains of which it came to be a member late.
@@ -49,7 +49,7 @@ fn pull_lanes(
     table: &DomainTable,
     reader: ClusterNo,
     queues: &[Queue],
-) -> Result<u64, AllocError>
+) -> Result<u64, OutOfMemory>
     requires alike { length queues.now ≡ length lanes.old.items }
     requires few { length lanes.old.items ≤ 64 }
     requires within { AreWithin queues.now lanes.old.items }
@@ -122,7 +122,7 @@ fn newly_naming(
     reader: ClusterNo,
     before: &[DomainRecord],
     after: &DomainTable,
-) -> Result<Vec<Name>, AllocError>
+) -> Result<Vec<Name>, OutOfMemory>
     ensures { IfOk result (λ names. names.items ≡ newly_naming reader before.now after.now) }
 {
     let mut names = Vec::new(alloc);
@@ -167,7 +167,7 @@ impl Link {
         reader: ClusterNo,
         source: ClusterNo,
         shards: u32,
-    ) -> Result<Link, AllocError>
+    ) -> Result<Link, OutOfMemory>
         requires { shards ≤ 64 }
         ensures { IfOk result (λ link. link ≡ record { reader = reader; source = source; lanes = replicate shards new_lane; late = [] }) }
     {
@@ -263,7 +263,7 @@ impl Link {
     /// Takes all entries of each shard's queue from `read` on; those that are addressed to the reader go last in flight,
     /// and are counted. There is a queue for each shard, and what is kept of it reaches from the lane's `done` or before
     /// it to its end. After want of memory some shards were pulled.
-    pub fn pull(&mut self, table: &DomainTable, queues: &Queues) -> Result<u64, AllocError>
+    pub fn pull(&mut self, table: &DomainTable, queues: &Queues) -> Result<u64, OutOfMemory>
         requires alike { length queues.now ≡ length self.old.lanes }
         requires within { AreWithin queues.now self.old.lanes }
         ensures pulled { OnOk result ((whole : ℕ → List Sent) → AreRests queues.now whole
@@ -284,7 +284,7 @@ impl Link {
         shard: usize,
         count: u64,
         queue: &Queue,
-    ) -> Result<u64, AllocError>
+    ) -> Result<u64, OutOfMemory>
         requires shard { shard < length self.old.lanes }
         requires within { IsWithin queue.now (lane_in self.old shard) }
         ensures pulled { OnOk result ((whole : List Sent) → IsRestOf queue.now whole
@@ -307,7 +307,7 @@ impl Link {
         table: &DomainTable,
         shard: usize,
         queue: &Queue,
-    ) -> Result<Vec<Message>, AllocError>
+    ) -> Result<Vec<Message>, OutOfMemory>
         requires shard { shard < length self.now.lanes }
         requires within { IsWithin queue.now (lane_in self.now shard) }
         ensures { IfOk result (λ list. (whole : List Sent) → IsRestOf queue.now whole
@@ -424,7 +424,7 @@ impl Link {
         alloc: Global,
         before: &DomainTable,
         after: &DomainTable,
-    ) -> Result<(), AllocError>
+    ) -> Result<(), OutOfMemory>
         ensures noted { OnOk result (self.new ≡ record self.old { late = self.old.late ++ newly_naming self.old.reader before.now after.now }) }
         ensures unchanged { OnErr result (self.new ≡ self.old) }
     {
@@ -435,7 +435,7 @@ impl Link {
 
     /// One domain more goes last among those of which the reader is a member late. Where memory runs out, the link stays as it
     /// was.
-    pub fn add_late(&mut self, domain: Name) -> Result<(), AllocError>
+    pub fn add_late(&mut self, domain: Name) -> Result<(), OutOfMemory>
         ensures added { OnOk result (self.new ≡ record self.old { late = self.old.late ++ domain ∷ [] }) }
         ensures unchanged { OnErr result (self.new ≡ self.old) }
     {

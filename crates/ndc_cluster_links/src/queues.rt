@@ -4,8 +4,9 @@ ghost use Rattle.ndc_cluster_rounds.specs.Rounds.{IsFresh};
 ghost use Rattle.ndc_queue.specs.Queues.{queue_len};
 
 use ndc_cluster_rounds::{Cell, Fresh};
+use ndc_event::OutOfMemory;
 use ndc_queue::Queue;
-use std::alloc::{AllocError, Global};
+use std::alloc::Global;
 use std::marker::Model;
 
 /// The queues of a source, by shard.
@@ -31,7 +32,7 @@ impl Model for Queues {
 
 /// Puts the messages last that a cell has written from a place on, where this is the end of its queue; else the queue stays as
 /// it was. Where memory runs out, some of them are there.
-fn push_fresh<C: Cell>(queue: &mut Queue, cell: &C, fresh: Fresh) -> Result<(), AllocError>
+fn push_fresh<C: Cell>(queue: &mut Queue, cell: &C, fresh: Fresh) -> Result<(), OutOfMemory>
     requires front { IsFrontOf queue.old (C.cell cell.now).written }
     requires fresh { IsFresh fresh (C.cell cell.now) }
     ensures front { IsFrontOf queue.new (C.cell cell.now).written }
@@ -49,7 +50,7 @@ fn push_fresh<C: Cell>(queue: &mut Queue, cell: &C, fresh: Fresh) -> Result<(), 
 
 /// Puts the messages last that a cell has written behind those of its queue, some of which may be at hand. Where memory runs
 /// out, some of them are there.
-fn push_all<C: Cell>(queue: &mut Queue, cell: &C, fresh: Option<Fresh>) -> Result<(), AllocError>
+fn push_all<C: Cell>(queue: &mut Queue, cell: &C, fresh: Option<Fresh>) -> Result<(), OutOfMemory>
     requires front { IsFrontOf queue.old (C.cell cell.now).written }
     requires fresh { IfSome fresh (λ fresh. IsFresh fresh (C.cell cell.now)) }
     ensures rest { OnOk result (IsRestOf queue.new (C.cell cell.now).written) }
@@ -66,7 +67,7 @@ fn push_all<C: Cell>(queue: &mut Queue, cell: &C, fresh: Option<Fresh>) -> Resul
 }
 
 /// Puts the messages last that a cell has written behind those of its queue. Where memory runs out, some of them are there.
-fn push_written<C: Cell>(queue: &mut Queue, cell: &C) -> Result<(), AllocError>
+fn push_written<C: Cell>(queue: &mut Queue, cell: &C) -> Result<(), OutOfMemory>
     requires { IsFrontOf queue.old (C.cell cell.now).written }
     ensures rest { OnOk result (IsRestOf queue.new (C.cell cell.now).written) }
     ensures first { queue.new.first ≡ queue.old.first }
@@ -87,7 +88,7 @@ impl Queues {
     ghost use Rattle.ndc_queue.specs.Queues.{new_queue, queue_len, trimmed};
 
     /// Queues without an entry, for so many shards, at most 64.
-    pub fn new(alloc: Global, shards: u32) -> Result<Queues, AllocError>
+    pub fn new(alloc: Global, shards: u32) -> Result<Queues, OutOfMemory>
         requires { shards ≤ 64 }
         ensures { IfOk result (λ queues. queues ≡ replicate shards new_queue) }
     {
@@ -141,7 +142,7 @@ impl Queues {
         shard: usize,
         cell: &C,
         fresh: Option<Fresh>,
-    ) -> Result<(), AllocError>
+    ) -> Result<(), OutOfMemory>
         requires shard { shard < length self.old }
         requires front { IsFrontOf (queue_at self.old shard) (C.cell cell.now).written }
         requires fresh { IfSome fresh (λ fresh. IsFresh fresh (C.cell cell.now)) }

@@ -1,9 +1,9 @@
 use ndc_cluster_rounds::Cell;
-use ndc_event::{BatchKey, Name};
+use ndc_event::{BatchKey, Name, OutOfMemory};
 use ndc_model_cells::{Message, Place};
 use ndc_resend::GapOf;
 use ndc_shard_runs::Runs;
-use std::alloc::{AllocError, Global};
+use std::alloc::Global;
 
 /// Something that does the jobs of a cell, gives messages of what it has learned and written, tells what has arrived and
 /// what it lacks, and serves what another cell lacks.
@@ -27,11 +27,11 @@ pub trait Reads: Cell {
         ensures { result ≡ is_some (batch_there (Self.cell self.now).arrived (record { domain = domain.now; workflow = workflow.now; key = key })) };
 
     /// Of each workflow of which something is put off the place of the first batch that is, in order of place.
-    fn behind(&self, alloc: Global) -> Result<Vec<Place>, AllocError>
+    fn behind(&self, alloc: Global) -> Result<Vec<Place>, OutOfMemory>
         ensures { IfOk result (λ list. list.items ≡ map place_of (workflows_of (put_off_in (Self.cell self.now)))) };
 
     /// What is put off, in order of place, each batch with the gap before it.
-    fn gaps(&self, alloc: Global) -> Result<Vec<GapOf>, AllocError>
+    fn gaps(&self, alloc: Global) -> Result<Vec<GapOf>, OutOfMemory>
         ensures { IfOk result (λ list. list.items ≡ gaps_of (Self.cell self.now)) };
 
     /// Those of one workflow, in key order.
@@ -40,12 +40,12 @@ pub trait Reads: Cell {
         alloc: Global,
         domain: &Name,
         workflow: &Name,
-    ) -> Result<Vec<GapOf>, AllocError>
+    ) -> Result<Vec<GapOf>, OutOfMemory>
         ensures { IfOk result (λ list. list.items ≡ gaps_in (workflow_of domain.now workflow.now (Self.cell self.now))) };
 
     /// What it serves for a gap of another cell: the messages of the batches in it, in path order, behind those of the
     /// carriers above the first of them. Nothing, where the batch that is put off there is not learned here.
-    fn serve(&self, alloc: Global, asked: &GapOf) -> Result<Vec<Message>, AllocError>
+    fn serve(&self, alloc: Global, asked: &GapOf) -> Result<Vec<Message>, OutOfMemory>
         ensures { IfOk result (λ list. list.items ≡ served_for asked.now (Self.cell self.now)) };
 
     /// The message of what it has learned at a place. A carried batch has none of its own.
@@ -55,6 +55,6 @@ pub trait Reads: Cell {
         domain: &Name,
         workflow: &Name,
         key: BatchKey,
-    ) -> Result<Option<Message>, AllocError>
+    ) -> Result<Option<Message>, OutOfMemory>
         ensures { IfOk result (λ sent. sent ≡ message_at (Self.cell self.now) (record { domain = domain.now; workflow = workflow.now; key = key })) };
 }

@@ -1,7 +1,7 @@
 use crate::home::{Desk, Home};
-use ndc_event::{BatchKey, Name};
+use ndc_event::{BatchKey, Name, OutOfMemory};
 use ndc_model_cells::{Job, JobReply, Message};
-use std::alloc::{AllocError, Global};
+use std::alloc::Global;
 
 /// A cell of a cluster: it begins with nothing, does jobs one after the other, and tells what it has learned and written. The
 /// shards of the program are cells; tests have smaller ones.
@@ -21,12 +21,12 @@ pub trait Cell {
     ghost allows: { DeskValue → Asked → CellValue → Type 0 };
 
     /// Nothing has happened.
-    fn new(alloc: Global, home: &Home) -> Result<Self, AllocError>
+    fn new(alloc: Global, home: &Home) -> Result<Self, OutOfMemory>
         ensures { IfOk result (λ made. cell made ≡ empty_cell) };
 
     /// Does a job: the cell is then the one behind it, and the reply is that of the cell. After want of memory no more
     /// is said of it.
-    fn do_job(&mut self, desk: &Desk, job: &Job) -> Result<JobReply, AllocError>
+    fn do_job(&mut self, desk: &Desk, job: &Job) -> Result<JobReply, OutOfMemory>
         requires { allows desk.now job.now (cell self.old) }
         ensures done { OnOk result (cell self.new ≡ after_job desk.now job.now (cell self.old)) }
         ensures reply { IfOk result (λ reply. reply ≡ reply_to desk.now job.now (cell self.old)) };
@@ -44,12 +44,12 @@ pub trait Cell {
         ensures { result ≡ length (cell self.now).written };
 
     /// The message that it has written at a place, counted from 0 in the order of writing.
-    fn written_at(&self, place: u64) -> Result<Message, AllocError>
+    fn written_at(&self, place: u64) -> Result<Message, OutOfMemory>
         requires { place < length (cell self.now).written }
         ensures { IfOk result (λ sent. slice_get (cell self.now).written place ≡ Some sent) };
 
     /// The messages of what it has learned of these domains, in order of place. A carried batch comes with its carrier.
-    fn learned_of(&self, alloc: Global, domains: &[Name]) -> Result<Vec<Message>, AllocError>
+    fn learned_of(&self, alloc: Global, domains: &[Name]) -> Result<Vec<Message>, OutOfMemory>
         ensures { IfOk result (λ list. list.items ≡ learned_of_domains domains.now (cell self.now)) };
 
     ghost may: { (desk : DeskValue) (asked : Asked) (at : CellValue) → IsAllowed desk asked at → allows desk asked at };

@@ -1,8 +1,9 @@
 ghost use Rattle.std.specs.Prelude.{◌≡◌, drop, IfOk};
 
 use crate::cell::Cell;
+use ndc_event::OutOfMemory;
 use ndc_model_cells::Message;
-use std::alloc::{AllocError, Global};
+use std::alloc::Global;
 
 /// What a cell has written from a place on, counted from 0 in the order of writing.
 #[derive(Drop)]
@@ -14,7 +15,7 @@ pub struct Fresh {
 }
 
 /// All that a cell has written from a place on.
-pub(crate) fn fresh_from<C: Cell>(alloc: Global, cell: &C, from: u64) -> Result<Fresh, AllocError>
+pub(crate) fn fresh_from<C: Cell>(alloc: Global, cell: &C, from: u64) -> Result<Fresh, OutOfMemory>
     ensures { IfOk result (λ fresh. (fresh.from ≡ from) × (fresh.messages.items ≡ drop from (C.cell cell.now).written)) }
 {
     let len = cell.written_len();

@@ -5,9 +5,10 @@ ghost use Rattle.ndc_model_cells.specs.Jobs.{cells_after, replies_to};
 
 use crate::cell::Cell;
 use crate::home::Desk;
+use ndc_event::OutOfMemory;
 use ndc_model_cells::{JobReply, ShardJob};
 use ndc_port::Gate;
-use std::alloc::{AllocError, Global};
+use std::alloc::Global;
 
 /// So many workers enter the gate, one after the other.
 pub(crate) fn enter_all<G: Gate>(gate: &G, workers: u32) {
@@ -22,7 +23,7 @@ pub(crate) fn do_in_turn<C: Cell + Drop>(
     desk: &Desk,
     cells: &mut Vec<C>,
     jobs: &[ShardJob],
-) -> Result<Vec<JobReply>, AllocError>
+) -> Result<Vec<JobReply>, OutOfMemory>
     requires shards { AllByRecursion (λ asked. asked.shard < length cells.old.items) jobs.now }
     requires allowed { AreAllowed C.allows desk.now jobs.now (map C.cell cells.old.items) }
     ensures cells { OnOk result (map C.cell cells.new.items ≡ cells_after desk.now jobs.now (map C.cell cells.old.items)) }

@@ -7,9 +7,10 @@ use crate::cell::Cell;
 use crate::fresh::{Fresh, fresh_from};
 use crate::halves::Work;
 use crate::home::Desk;
+use ndc_event::OutOfMemory;
 use ndc_model_cells::{Job, JobReply};
 use ndc_port::Gate;
-use std::alloc::{AllocError, Global};
+use std::alloc::Global;
 use std::collections::VecDeque;
 
 /// A cell with the jobs that it is to do, what it replied, and behind these what it has written.
@@ -30,14 +31,14 @@ const ROOM_OF_JOB: usize = 2_048;
 /// Takes memory for so many jobs in one piece and gives it back, so that the jobs find it there. In a thread of its own each
 /// page more would else be a call of the system. Where there is none, the jobs will tell.
 fn make_room(alloc: Global, jobs: usize) {
-    let _room: Result<Vec<u8>, AllocError> = Vec::with_capacity(
+    let _room: Result<Vec<u8>, OutOfMemory> = Vec::with_capacity(
         alloc,
         jobs.saturating_mul(ROOM_OF_JOB).min(ROOM),
     );
 }
 
 /// Does the jobs of a slot, in order.
-fn do_each<C: Cell + Drop>(slot: &mut Slot<C>, desk: &Desk) -> Result<(), AllocError>
+fn do_each<C: Cell + Drop>(slot: &mut Slot<C>, desk: &Desk) -> Result<(), OutOfMemory>
     requires { MayDo C.allows desk.now (map (λ job. job.now) slot.old.jobs.items) (C.cell slot.old.cell) }
     ensures cell { OnOk result (C.cell slot.new.cell ≡ cell_after desk.now (map (λ job. job.now) slot.old.jobs.items) (C.cell slot.old.cell)) }
     ensures jobs { OnOk result (slot.new.jobs ≡ slot.old.jobs) }
@@ -52,7 +53,7 @@ fn do_each<C: Cell + Drop>(slot: &mut Slot<C>, desk: &Desk) -> Result<(), AllocE
 }
 
 /// Does the jobs of a slot, in order, and puts beside its cell what that has written meanwhile.
-fn do_jobs<C: Cell + Drop>(slot: &mut Slot<C>, desk: &Desk) -> Result<(), AllocError>
+fn do_jobs<C: Cell + Drop>(slot: &mut Slot<C>, desk: &Desk) -> Result<(), OutOfMemory>
     requires { SlotMay C.allows desk.now (slot_of (C.cell slot.old.cell) (map (λ job. job.now) slot.old.jobs.items) slot.old.replies.items slot.old.fresh.from slot.old.fresh.messages.items) }
     ensures { OnOk result (slot_of (C.cell slot.new.cell) (map (λ job. job.now) slot.new.jobs.items) slot.new.replies.items slot.new.fresh.from slot.new.fresh.messages.items
         ≡ slot_done desk.now (slot_of (C.cell slot.old.cell) (map (λ job. job.now) slot.old.jobs.items) slot.old.replies.items slot.old.fresh.from slot.old.fresh.messages.items)) }
@@ -66,7 +67,7 @@ fn do_jobs<C: Cell + Drop>(slot: &mut Slot<C>, desk: &Desk) -> Result<(), AllocE
 }
 
 /// Does the jobs of each slot.
-fn do_all<C: Cell + Drop>(slots: &mut Vec<Slot<C>>, desk: &Desk) -> Result<(), AllocError>
+fn do_all<C: Cell + Drop>(slots: &mut Vec<Slot<C>>, desk: &Desk) -> Result<(), OutOfMemory>
     requires { AllByRecursion (SlotMay C.allows desk.now) (map (λ slot. slot_of (C.cell slot.cell) (map (λ job. job.now) slot.jobs.items) slot.replies.items slot.fresh.from slot.fresh.messages.items) slots.old.items) }
     ensures { OnOk result (map (λ slot. slot_of (C.cell slot.cell) (map (λ job. job.now) slot.jobs.items) slot.replies.items slot.fresh.from slot.fresh.messages.items) slots.new.items
         ≡ map (slot_done desk.now) (map (λ slot. slot_of (C.cell slot.cell) (map (λ job. job.now) slot.jobs.items) slot.replies.items slot.fresh.from slot.fresh.messages.items) slots.old.items)) }

@@ -11,6 +11,7 @@ use crate::halves::work_list;
 use crate::home::Desk;
 use crate::in_turn::{do_in_turn, enter_all};
 use crate::piece::{Piece, Slot};
+use ndc_event::OutOfMemory;
 use ndc_model_cells::{JobReply, ShardJob};
 use ndc_port::Gate;
 use std::alloc::{AllocError, Global};
@@ -21,7 +22,7 @@ use std::thread::Threads;
 fn slots_of<'a, C: Cell + Drop>(
     alloc: Global,
     cells: Vec<C>,
-) -> Result<Vec<Slot<'a, C>>, AllocError>
+) -> Result<Vec<Slot<'a, C>>, OutOfMemory>
     ensures { IfOk result (λ slots. map (λ slot. slot_of (C.cell slot.cell) (map (λ job. job.now) slot.jobs.items) slot.replies.items slot.fresh.from slot.fresh.messages.items) slots.items
         ≡ map fresh_slot (map C.cell cells.items)) }
 {
@@ -44,7 +45,7 @@ fn slots_of<'a, C: Cell + Drop>(
 fn deal<'a, C: Cell + Drop>(
     slots: &mut Vec<Slot<'a, C>>,
     jobs: &'a [ShardJob],
-) -> Result<(), AllocError>
+) -> Result<(), OutOfMemory>
     requires { AllByRecursion (λ asked. asked.shard < length slots.old.items) jobs.now }
     ensures { OnOk result (map (λ slot. slot_of (C.cell slot.cell) (map (λ job. job.now) slot.jobs.items) slot.replies.items slot.fresh.from slot.fresh.messages.items) slots.new.items
         ≡ dealt jobs.now (map (λ slot. slot_of (C.cell slot.cell) (map (λ job. job.now) slot.jobs.items) slot.replies.items slot.fresh.from slot.fresh.messages.items) slots.old.items)) }
@@ -63,7 +64,7 @@ fn cut<'a, G: Gate, C: Cell + Drop>(
     count: u32,
     gate: &'a G,
     desk: &'a Desk<'a>,
-) -> Result<Vec<Piece<'a, G, C>>, AllocError>
+) -> Result<Vec<Piece<'a, G, C>>, OutOfMemory>
     requires { 0 < count }
     ensures slots { IfOk result (λ pieces. joined (map (λ piece. map (λ slot. slot_of (C.cell slot.cell) (map (λ job. job.now) slot.jobs.items) slot.replies.items slot.fresh.from slot.fresh.messages.items) piece.slots.items) pieces.items)
         ≡ map (λ slot. slot_of (C.cell slot.cell) (map (λ job. job.now) slot.jobs.items) slot.replies.items slot.fresh.from slot.fresh.messages.items) slots.entry.items) }
@@ -90,7 +91,7 @@ fn cut<'a, G: Gate, C: Cell + Drop>(
 fn join<'a, G: Gate, C: Cell + Drop>(
     alloc: Global,
     pieces: Vec<Piece<'a, G, C>>,
-) -> Result<Vec<Slot<'a, C>>, AllocError>
+) -> Result<Vec<Slot<'a, C>>, OutOfMemory>
     ensures slots { IfOk result (λ slots. map (λ slot. slot_of (C.cell slot.cell) (map (λ job. job.now) slot.jobs.items) slot.replies.items slot.fresh.from slot.fresh.messages.items) slots.items
         ≡ joined (map (λ piece. map (λ slot. slot_of (C.cell slot.cell) (map (λ job. job.now) slot.jobs.items) slot.replies.items slot.fresh.from slot.fresh.messages.items) piece.slots.items) pieces.entry.items)) }
     ensures whole { IfOk result (λ _. AllByRecursion (λ piece. piece.is_spent ≡ false) pieces.entry.items) }
@@ -112,7 +113,7 @@ fn collect<C: Cell + Drop>(
     alloc: Global,
     slots: &mut Vec<Slot<C>>,
     jobs: &[ShardJob],
-) -> Result<Option<Vec<JobReply>>, AllocError>
+) -> Result<Option<Vec<JobReply>>, OutOfMemory>
     requires { AllByRecursion (λ asked. asked.shard < length slots.old.items) jobs.now }
     ensures cells { OnOk result (map (λ slot. left_of (C.cell slot.cell) slot.fresh) slots.new.items ≡ map (λ slot. left_of (C.cell slot.cell) slot.fresh) slots.old.items) }
     ensures replies { IfOk result (λ found. option_map (λ replies. replies.items) found ≡ taken jobs.now (map (λ slot. slot.replies.items) slots.old.items)) }
@@ -135,7 +136,7 @@ struct Left<C: Drop> {
 }
 
 /// The cells of slots, and beside each what it has written.
-fn left_by<C: Cell + Drop>(alloc: Global, slots: Vec<Slot<C>>) -> Result<Left<C>, AllocError>
+fn left_by<C: Cell + Drop>(alloc: Global, slots: Vec<Slot<C>>) -> Result<Left<C>, OutOfMemory>
     ensures cells { IfOk result (λ left. map C.cell left.cells.items ≡ map (λ slot. C.cell slot.cell) slots.entry.items) }
     ensures fresh { IfOk result (λ left. left.fresh.items ≡ map (λ slot. slot.fresh) slots.entry.items) }
 {
@@ -186,7 +187,7 @@ fn in_pieces<R: Threads + Sync, G: Gate, C: Cell + Drop + Send>(
     desk: &Desk,
     cells: Vec<C>,
     jobs: &[ShardJob],
-) -> Result<Rounded<C>, AllocError>
+) -> Result<Rounded<C>, OutOfMemory>
     requires count { 0 < count }
     requires shards { AllByRecursion (λ asked. asked.shard < length cells.items) jobs.now }
     requires allowed { AreAllowed C.allows desk.now jobs.now (map C.cell cells.items) }
@@ -224,7 +225,7 @@ pub fn round<R: Threads + Sync, G: Gate, C: Cell + Drop + Send>(
     desk: &Desk,
     cells: Vec<C>,
     jobs: &[ShardJob],
-) -> Result<Rounded<C>, AllocError>
+) -> Result<Rounded<C>, OutOfMemory>
     requires workers { 0 < workers }
     requires shards { AllByRecursion (λ asked. asked.shard < length cells.items) jobs.now }
     requires allowed { AreAllowed C.allows desk.now jobs.now (map C.cell cells.items) }

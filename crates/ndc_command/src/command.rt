@@ -1,5 +1,4 @@
-use ndc_event::{Items, Name};
-use std::alloc::AllocError;
+use ndc_event::{Items, Name, OutOfMemory};
 
 /// What a caller asks of a workflow.
 #[derive(Debug, Drop)]
@@ -65,7 +64,7 @@ impl Action {
     ghost use Rattle.std.specs.Prelude.{◌≡◌, IfOk};
 
     /// The same action.
-    pub fn try_copy(&self) -> Result<Action, AllocError>
+    pub fn try_copy(&self) -> Result<Action, OutOfMemory>
         ensures { IfOk result (λ copy. copy ≡ self.now) }
     {
         self.clone()
@@ -79,7 +78,7 @@ impl Command {
     ghost use Rattle.std.specs.Prelude.{◌≡◌, IfOk};
 
     /// The same command.
-    pub fn try_copy(&self) -> Result<Command, AllocError>
+    pub fn try_copy(&self) -> Result<Command, OutOfMemory>
         ensures { IfOk result (λ copy. copy ≡ self.now) }
     {
         Ok(match self {

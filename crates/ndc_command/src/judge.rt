@@ -10,9 +10,9 @@ ghost use Rattle.ndc_command.specs.Judge.{names_seen, noted, actions_by};
 use crate::command::Action;
 use crate::refusal::{CommandError, Refusal};
 use crate::stage::refuse;
-use ndc_event::{EventKind, Name, RunId};
+use ndc_event::{EventKind, Name, OutOfMemory, RunId};
 use ndc_state::State;
-use std::alloc::{AllocError, Global};
+use std::alloc::Global;
 use std::collections::HashMap;
 
 /// What is pending while the actions of a response are judged in turn: the state before them, which is not
@@ -48,7 +48,7 @@ fn is_pending(changes: &HashMap<Name, bool>, name: &Name, before: bool) -> bool
 }
 
 /// Notes whether the name is pending.
-fn mark(changes: &mut HashMap<Name, bool>, name: &Name, pending: bool) -> Result<(), AllocError>
+fn mark(changes: &mut HashMap<Name, bool>, name: &Name, pending: bool) -> Result<(), OutOfMemory>
     ensures { OnOk result ((other : NameValue) → get same_name changes.new other ≡ (if same_name name.now other then Some pending else get same_name changes.old other)) }
 {
     changes.insert(name.try_copy()?, pending)?;
@@ -57,7 +57,7 @@ fn mark(changes: &mut HashMap<Name, bool>, name: &Name, pending: bool) -> Result
 
 /// The event of an action; a closing run goes on as the run given.
 #[tactic(auto, unfolding(crate::specs::Actions::action_kind))]
-fn kind_of(action: &Action, next_run: RunId) -> Result<EventKind, AllocError>
+fn kind_of(action: &Action, next_run: RunId) -> Result<EventKind, OutOfMemory>
     ensures { IfOk result (λ kind. kind ≡ action_kind next_run action.now) }
 {
     Ok(match action {
@@ -156,7 +156,7 @@ impl<'a> Judge<'a> {
 
     /// Notes what the action changes.
     #[tactic(auto, unfolding(crate::specs::Judge::noted))]
-    fn note(&mut self, action: &Action) -> Result<(), AllocError>
+    fn note(&mut self, action: &Action) -> Result<(), OutOfMemory>
         ensures { OnOk result (names_seen self.new ≡ noted action.now (names_seen self.old)) }
     {
         match action {

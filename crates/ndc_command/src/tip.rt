@@ -5,9 +5,8 @@ use crate::command::{Actions, Command};
 use crate::judge::push_actions;
 use crate::refusal::{CommandError, Refusal};
 use crate::stage::{Stage, needs_pending, needs_started, needs_waiting, stage_of};
-use ndc_event::{EventKind, Name, Rare, RunId};
+use ndc_event::{EventKind, Name, OutOfMemory, Rare, RunId};
 use ndc_state::State;
-use std::alloc::AllocError;
 
 /// Where a command writes: below the tip of a run with this state, with this version, and behind the failover
 /// close where that is due. The methods answer for the state that the failover close leaves, without making it.
@@ -23,7 +22,7 @@ pub(crate) struct Tip<'a> {
 pub(crate) fn push_beginning(
     workflow_type: &Name,
     kinds: &mut Vec<EventKind>,
-) -> Result<(), AllocError>
+) -> Result<(), OutOfMemory>
     ensures { OnOk result (kinds.new.items ≡ kinds.old.items ++ beginning workflow_type.now) }
 {
     let kind = EventKind::WorkflowExecutionStarted {
@@ -78,7 +77,7 @@ impl<'a> Tip<'a> {
     }
 
     /// Appends an event that leaves the decision as it is and, where none is pending, the scheduling of one.
-    fn push_woken(&self, kind: EventKind, kinds: &mut Vec<EventKind>) -> Result<(), AllocError>
+    fn push_woken(&self, kind: EventKind, kinds: &mut Vec<EventKind>) -> Result<(), OutOfMemory>
         ensures { OnOk result (kinds.new.items ≡ kinds.old.items ++ kind ∷ wake (state_at self.now)) }
     {
         kinds.push(kind)?;

@@ -3,8 +3,7 @@ ghost use Rattle.std.specs.Str.{bytes_eq};
 ghost use Rattle.ndc_domain.specs.Clusters.{has_name, has_initial, member_fault, fault_from};
 ghost use Rattle.ndc_domain.specs.Next.{next_with_rest};
 
-use ndc_event::Name;
-use std::alloc::AllocError;
+use ndc_event::{Name, OutOfMemory};
 use std::marker::Model;
 use thiserror::Error;
 
@@ -274,7 +273,7 @@ impl Clusters {
     }
 
     /// The same clusters.
-    pub fn try_copy(&self) -> Result<Clusters, AllocError>
+    pub fn try_copy(&self) -> Result<Clusters, OutOfMemory>
         ensures { IfOk result (λ copy. copy ≡ self.now) }
     {
         let mut members = Vec::with_capacity(*self.members.allocator(), self.members.len())?;

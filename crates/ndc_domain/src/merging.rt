@@ -3,7 +3,8 @@ ghost use Rattle.ndc_domain.specs.Records.{Rise};
 ghost use Rattle.ndc_domain.specs.Merge.{merged_record, merged, brings, merge_count};
 
 use crate::record::DomainRecord;
-use std::alloc::{AllocError, Global};
+use ndc_event::OutOfMemory;
+use std::alloc::Global;
 use std::cmp::Ordering;
 
 /// The greater of two numbers.
@@ -15,7 +16,7 @@ fn greater(one: u64, two: u64) -> u64
 
 /// The record of both: the greater versions, the days of the greater config version, the members of
 /// both.
-fn merged_record(ours: &DomainRecord, theirs: &DomainRecord) -> Result<DomainRecord, AllocError>
+fn merged_record(ours: &DomainRecord, theirs: &DomainRecord) -> Result<DomainRecord, OutOfMemory>
     ensures { IfOk result (λ both. both ≡ merged_record ours.now theirs.now) }
 {
     Ok(DomainRecord {
@@ -78,7 +79,7 @@ pub(crate) fn merge_count(records: &[DomainRecord], others: &[DomainRecord]) -> 
 }
 
 /// Puts copies of the records behind the others.
-fn push_copies(all: &mut Vec<DomainRecord>, records: &[DomainRecord]) -> Result<(), AllocError>
+fn push_copies(all: &mut Vec<DomainRecord>, records: &[DomainRecord]) -> Result<(), OutOfMemory>
     ensures { OnOk result (all.new.items ≡ all.old.items ++ records.now) }
 {
     for record in records {
@@ -92,7 +93,7 @@ pub(crate) fn merged(
     alloc: Global,
     records: &[DomainRecord],
     others: &[DomainRecord],
-) -> Result<Vec<DomainRecord>, AllocError>
+) -> Result<Vec<DomainRecord>, OutOfMemory>
     ensures { IfOk result (λ all. all.items ≡ merged records.now others.now) }
 {
     let mut all = Vec::with_capacity(alloc, records.len() + others.len())?;

@@ -1,7 +1,7 @@
 ghost use Rattle.std.specs.Prelude.{◌≡◌};
 
 use crate::members::Members;
-use ndc_event::Name;
+use ndc_event::{Name, OutOfMemory};
 use std::alloc::{AllocError, AllocFailed};
 use thiserror::Error;
 
@@ -25,7 +25,7 @@ impl DomainRecord {
     ghost use Rattle.ndc_domain.specs.Records.{record_eq};
 
     /// The same record.
-    pub fn try_copy(&self) -> Result<DomainRecord, AllocError>
+    pub fn try_copy(&self) -> Result<DomainRecord, OutOfMemory>
         ensures { IfOk result (λ copy. copy ≡ self.now) }
     {
         Ok(DomainRecord {

@@ -7,8 +7,8 @@ use crate::clusters::{ClusterNo, Clusters};
 use crate::members::Members;
 use crate::merging::{merge_count, merged};
 use crate::record::{DomainError, DomainRecord, FailoverError, JoinError, RetainError};
-use ndc_event::Name;
-use std::alloc::{AllocError, Global};
+use ndc_event::{Name, OutOfMemory};
+use std::alloc::Global;
 use std::marker::Model;
 
 /// The records that a cluster has of domains. Seen as their list in order of name, in which each
@@ -253,7 +253,7 @@ impl DomainTable {
     /// or changed. A missing record is taken whole. Of two records of one domain the greater
     /// failover version and the greater config version with its days are kept, and the members of
     /// both. Where memory runs out, the table stays as it was.
-    pub fn merge(&mut self, other: &DomainTable) -> Result<u64, AllocError>
+    pub fn merge(&mut self, other: &DomainTable) -> Result<u64, OutOfMemory>
         ensures merged { OnOk result (self.new ≡ merged self.old other.now) }
         ensures count { IfOk result (λ count. count ≡ merge_count self.old other.now) }
         ensures unchanged { OnErr result (self.new ≡ self.old) }
@@ -272,7 +272,7 @@ impl DomainTable {
     }
 
     /// The names of the domains, ascending.
-    pub fn names(&self) -> Result<Vec<Name>, AllocError>
+    pub fn names(&self) -> Result<Vec<Name>, OutOfMemory>
         ensures { IfOk result (λ names. names.items ≡ names_of self.now) }
     {
         let mut names = Vec::with_capacity(*self.records.allocator(), self.records.len())?;
@@ -283,7 +283,7 @@ impl DomainTable {
     }
 
     /// The table with the record of this domain alone; without a record where there is none.
-    pub fn only(&self, name: &Name) -> Result<DomainTable, AllocError>
+    pub fn only(&self, name: &Name) -> Result<DomainTable, OutOfMemory>
         ensures { IfOk result (λ table. table ≡ only_of self.now name.now) }
     {
         let mut records = Vec::new(*self.records.allocator());
@@ -294,7 +294,7 @@ impl DomainTable {
     }
 
     /// The same table.
-    pub fn try_copy(&self) -> Result<DomainTable, AllocError>
+    pub fn try_copy(&self) -> Result<DomainTable, OutOfMemory>
         ensures { IfOk result (λ copy. copy ≡ self.now) }
     {
         let mut records = Vec::with_capacity(*self.records.allocator(), self.records.len())?;

@@ -19,13 +19,13 @@ use crate::migrated::standing_for;
 use crate::read::view_lines;
 use crate::showing::runs_of;
 use ndc_dump_causes::{DumpError, LineCause, sound_or};
-use ndc_event::Batch;
+use ndc_event::{Batch, OutOfMemory};
 use ndc_model_sets::{Batches, RunViews, View};
 use ndc_text::TextForm;
-use std::alloc::{AllocError, Global};
+use std::alloc::Global;
 
 /// The view of the set that batches stand for.
-fn view_of(alloc: Global, form: TextForm, batches: Vec<Batch>) -> Result<View, AllocError>
+fn view_of(alloc: Global, form: TextForm, batches: Vec<Batch>) -> Result<View, OutOfMemory>
     requires read { AreRead batches.items }
     requires sound { sound_or batches.items ≡ Ok tt }
     ensures { IfOk result (λ view. view ≡ view_of (standing_for form batches.items)) }

@@ -10,9 +10,9 @@ ghost use Rattle.ndc_dump_causes.specs.Given.{AreRead};
 use crate::cut::without_end;
 use crate::frame::{Heading, begins_batch};
 use ndc_dump_causes::{DumpError, LineCause};
-use ndc_event::{Batch, BatchKey};
+use ndc_event::{Batch, BatchKey, OutOfMemory};
 use ndc_text::{TextError, TextForm, read_batch, read_batch_1};
-use std::alloc::{AllocError, Global};
+use std::alloc::Global;
 
 /// Why the text of the line with this number is that of no batch.
 fn text_fault(line: u64, error: TextError) -> DumpError
@@ -85,7 +85,7 @@ fn out_of_order(heading: &Heading, last: Option<BatchKey>, batch: &Batch) -> Opt
 }
 
 /// The same batch of the heading's domain and workflow, by the heading's names, whose bytes are shared.
-fn with_shared_names(heading: &Heading, batch: Batch) -> Result<Batch, AllocError>
+fn with_shared_names(heading: &Heading, batch: Batch) -> Result<Batch, OutOfMemory>
     requires { is_own heading.now batch ≡ true }
     ensures { IfOk result (λ shared. shared ≡ batch) }
 {

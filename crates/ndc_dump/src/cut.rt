@@ -2,7 +2,8 @@
 ghost use Rattle.std.specs.Prelude.{◌≡◌, ◌<◌, length, map, IfOk, IfSome, IfNone, [], ◌∷◌};
 ghost use Rattle.ndc_dump.specs.Lines.{line_len, lines_of, without_end};
 
-use std::alloc::{AllocError, Global};
+use ndc_event::OutOfMemory;
+use std::alloc::Global;
 
 /// How many bytes stand in front of the first line end.
 fn end_of(bytes: &[u8]) -> usize
@@ -36,7 +37,7 @@ fn split_line(bytes: &[u8]) -> Option<(&[u8], &[u8])>
 }
 
 /// The lines of a text, each with its line end, which the last one may lack.
-pub(crate) fn lines_of(alloc: Global, bytes: &[u8]) -> Result<Vec<&[u8]>, AllocError>
+pub(crate) fn lines_of(alloc: Global, bytes: &[u8]) -> Result<Vec<&[u8]>, OutOfMemory>
     ensures { IfOk result (λ lines. map (λ line. line.now) lines.items ≡ lines_of bytes.now) }
 {
     let mut lines = Vec::new(alloc);

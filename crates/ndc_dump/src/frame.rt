@@ -7,7 +7,7 @@ ghost use Rattle.ndc_dump.specs.Frame.{begins_batch, body_of, form_of, begins_fi
 
 use crate::cut::without_end;
 use ndc_dump_causes::{DumpError, LineCause};
-use ndc_event::{Name, NameError};
+use ndc_event::{Name, NameError, OutOfMemory};
 use ndc_text::TextForm;
 use std::alloc::{AllocError, Global};
 
@@ -34,7 +34,7 @@ fn form_of(word: &[u8]) -> Option<TextForm>
 }
 
 /// The name that bytes are.
-fn named(alloc: Global, bytes: &[u8]) -> Result<Option<Name>, AllocError>
+fn named(alloc: Global, bytes: &[u8]) -> Result<Option<Name>, OutOfMemory>
     ensures { IfOk result (λ name. name ≡ named bytes.now) }
 {
     match Name::new(alloc, bytes) {
@@ -67,7 +67,7 @@ fn heading_with(
 }
 
 /// The heading of these words.
-fn heading_in(alloc: Global, words: &[&[u8]]) -> Result<Option<Heading>, AllocError>
+fn heading_in(alloc: Global, words: &[&[u8]]) -> Result<Option<Heading>, OutOfMemory>
     ensures { IfOk result (λ heading. heading ≡ heading_in (map (λ word. word.now) words.now)) }
 {
     match words {
@@ -82,14 +82,14 @@ fn heading_in(alloc: Global, words: &[&[u8]]) -> Result<Option<Heading>, AllocEr
 }
 
 /// The first words of a line, with single spaces between them: as many as a heading has, and one more.
-fn first_words(alloc: Global, line: &[u8]) -> Result<Vec<&[u8]>, AllocError>
+fn first_words(alloc: Global, line: &[u8]) -> Result<Vec<&[u8]>, OutOfMemory>
     ensures { IfOk result (λ words. map (λ word. word.now) words.items ≡ take 5 (slice_split (λ byte. byte == 32) line.now)) }
 {
     line.split(|byte| *byte == b' ').take(5).collect(alloc)
 }
 
 /// The heading of a line.
-fn heading_on(alloc: Global, line: &[u8]) -> Result<Option<Heading>, AllocError>
+fn heading_on(alloc: Global, line: &[u8]) -> Result<Option<Heading>, OutOfMemory>
     ensures { IfOk result (λ heading. heading ≡ heading_in (slice_split (λ byte. byte == 32) line.now)) }
 {
     let words = first_words(alloc, line)?;

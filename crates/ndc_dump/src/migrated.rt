@@ -5,9 +5,9 @@ ghost use Rattle.ndc_dump.specs.Migrated.{is_carried, key_before, migrated, stan
 
 use ndc_dump_causes::causes::closes_for;
 use ndc_dump_causes::found::batch_at;
-use ndc_event::{Batch, BatchKey};
+use ndc_event::{Batch, BatchKey, OutOfMemory};
 use ndc_text::TextForm;
-use std::alloc::{AllocError, Global};
+use std::alloc::Global;
 
 /// The key just before, of the same version.
 fn key_before(key: BatchKey) -> BatchKey
@@ -28,7 +28,7 @@ fn is_carried(batches: &[Batch], batch: &Batch) -> bool
 }
 
 /// Which of the batches begin a run that the batch just before continues as.
-fn carried(alloc: Global, batches: &[Batch]) -> Result<Vec<bool>, AllocError>
+fn carried(alloc: Global, batches: &[Batch]) -> Result<Vec<bool>, OutOfMemory>
     requires { Rise batches.now }
     ensures { IfOk result (λ marks. marks.items ≡ map (is_carried batches.now) batches.now) }
 {
@@ -63,7 +63,7 @@ pub(crate) fn standing_for(
     alloc: Global,
     form: TextForm,
     batches: Vec<Batch>,
-) -> Result<Vec<Batch>, AllocError>
+) -> Result<Vec<Batch>, OutOfMemory>
     requires { Rise batches.items }
     ensures { IfOk result (λ list. list.items ≡ standing_for form batches.items) }
 {

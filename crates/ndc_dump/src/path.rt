@@ -6,8 +6,8 @@ ghost use Rattle.ndc_model_sets.specs.Paths.{path_from};
 ghost use Rattle.ndc_dump_causes.specs.Keys.{is_listed};
 
 use ndc_dump_causes::keys::KeySet;
-use ndc_event::{Batch, BatchKey};
-use std::alloc::{AllocError, Global};
+use ndc_event::{Batch, BatchKey, OutOfMemory};
+use std::alloc::Global;
 
 /// The keys of the path among these batches that ends where this key is wanted: the batches are gone over once, from
 /// the last to the first.
@@ -15,7 +15,7 @@ pub(crate) fn path_keys(
     alloc: Global,
     batches: &[&Batch],
     tip: Option<BatchKey>,
-) -> Result<KeySet, AllocError>
+) -> Result<KeySet, OutOfMemory>
     ensures { IfOk result (λ keys. (key : BatchKey) → is_listed key keys ≡ has_key (Some key) (path_from tip (map (λ b. b.now) batches.now))) }
 {
     let mut keys = KeySet::new(alloc);

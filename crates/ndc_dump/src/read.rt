@@ -19,11 +19,11 @@ use crate::frame::{begins_batch, body_of, heading_of};
 use crate::migrated::standing_for;
 use crate::showing::runs_of;
 use ndc_dump_causes::{DumpError, LineCause, sound_or};
-use ndc_event::Batch;
+use ndc_event::{Batch, OutOfMemory};
 use ndc_model_sets::{Batches, RunView, RunViews, View};
 use ndc_text::TextForm;
 use ndc_text::dump::push_runs;
-use std::alloc::{AllocError, Global};
+use std::alloc::Global;
 
 /// How many lines stand in front of the first that is none of a batch.
 fn batch_count(lines: &[&[u8]]) -> usize
@@ -72,7 +72,7 @@ fn differ_at(number: u64, lines: &[&[u8]], wanted: &[&[u8]]) -> Option<u64>
 }
 
 /// The lines of runs with their branches and states, and the last line.
-fn view_text(alloc: Global, runs: &[RunView]) -> Result<Vec<u8>, AllocError>
+fn view_text(alloc: Global, runs: &[RunView]) -> Result<Vec<u8>, OutOfMemory>
     ensures { IfOk result (λ text. text.items ≡ flat_map run_state_lines runs.now ++ codes "end\n") }
 {
     let mut text = Vec::new(alloc);
@@ -87,7 +87,7 @@ fn first_other(
     number: u64,
     lines: &[&[u8]],
     runs: &[RunView],
-) -> Result<Option<u64>, AllocError>
+) -> Result<Option<u64>, OutOfMemory>
     requires { number + length lines.now < 2 ^ 64 }
     ensures { IfOk result (λ other. other ≡ differ_at number (map (λ line. line.now) lines.now) (lines_of (flat_map run_state_lines runs.now ++ codes "end\n"))) }
 {

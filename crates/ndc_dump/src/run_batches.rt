@@ -5,8 +5,8 @@ ghost use Rattle.ndc_dump.specs.Groups.{listed};
 ghost use Rattle.ndc_shard_runs.specs.RunMap.{part_of};
 
 use indexmap::IndexMap;
-use ndc_event::{Batch, RunId};
-use std::alloc::{AllocError, Global};
+use ndc_event::{Batch, OutOfMemory, RunId};
+use std::alloc::Global;
 use std::marker::Model;
 
 /// The batches of each run, in order. The map finds a run without going over the others.
@@ -49,7 +49,7 @@ impl<'b> RunBatches<'b> {
     }
 
     /// Puts the batch behind those of its run.
-    fn push(&mut self, alloc: Global, batch: &'b Batch) -> Result<(), AllocError>
+    fn push(&mut self, alloc: Global, batch: &'b Batch) -> Result<(), OutOfMemory>
         ensures { OnOk result ((run : Id) → listed run self.new ≡ listed run self.old ++ part_of run (batch.now ∷ [])) }
     {
         let found = self.lists.swap_remove(&batch.run);
@@ -61,7 +61,7 @@ impl<'b> RunBatches<'b> {
 }
 
 /// The batches run by run: they are gone over once.
-pub(crate) fn grouped(alloc: Global, batches: &[Batch]) -> Result<RunBatches, AllocError>
+pub(crate) fn grouped(alloc: Global, batches: &[Batch]) -> Result<RunBatches, OutOfMemory>
     ensures { IfOk result (λ groups. (run : Id) → listed run groups ≡ part_of run batches.now) }
 {
     let mut groups = RunBatches::new(alloc);

@@ -10,14 +10,14 @@ ghost use Rattle.ndc_dump.specs.Marks.{batch_head, current_key, marked_line, mar
 use crate::path::path_keys;
 use crate::run_batches::{RunBatches, grouped};
 use ndc_dump_causes::keys::KeySet;
-use ndc_event::{Batch, BatchKey, Event, Name};
+use ndc_event::{Batch, BatchKey, Event, Name, OutOfMemory};
 use ndc_model_sets::{BranchView, RunView, View, first_id, last_id};
 use ndc_text::dump::push_heading;
 use ndc_text::line::{push_branch_line, push_key, push_mark, push_number, push_run_line};
-use std::alloc::{AllocError, Global};
+use std::alloc::Global;
 
 /// Appends a parent's key, or a dash.
-fn push_parent(text: &mut Vec<u8>, parent: Option<BatchKey>) -> Result<(), AllocError>
+fn push_parent(text: &mut Vec<u8>, parent: Option<BatchKey>) -> Result<(), OutOfMemory>
     ensures { OnOk result (text.new.items ≡ text.old.items ++ parent_text parent) }
 {
     match parent {
@@ -27,7 +27,7 @@ fn push_parent(text: &mut Vec<u8>, parent: Option<BatchKey>) -> Result<(), Alloc
 }
 
 /// Appends `batch KEY after PARENT`.
-fn push_batch_head(text: &mut Vec<u8>, batch: &Batch) -> Result<(), AllocError>
+fn push_batch_head(text: &mut Vec<u8>, batch: &Batch) -> Result<(), OutOfMemory>
     ensures { OnOk result (text.new.items ≡ text.old.items ++ batch_head batch.now) }
 {
     text.extend_from_slice(b"batch ")?;
@@ -37,7 +37,7 @@ fn push_batch_head(text: &mut Vec<u8>, batch: &Batch) -> Result<(), AllocError>
 }
 
 /// Appends ` events FIRST..LAST`, with a mark where it is wanted, and the line end.
-fn push_events(text: &mut Vec<u8>, events: &[Event], mark: bool) -> Result<(), AllocError>
+fn push_events(text: &mut Vec<u8>, events: &[Event], mark: bool) -> Result<(), OutOfMemory>
     ensures { OnOk result (text.new.items ≡ text.old.items ++ codes " events " ++ decimal (first_id events.now) ++ codes ".."
         ++ decimal (last_id events.now) ++ current_mark mark ++ codes "\n") }
 {
@@ -50,7 +50,7 @@ fn push_events(text: &mut Vec<u8>, events: &[Event], mark: bool) -> Result<(), A
 }
 
 /// Appends the line of a batch, with a mark where it is on the current branch.
-fn push_batch_line(text: &mut Vec<u8>, batch: &Batch, is_current: bool) -> Result<(), AllocError>
+fn push_batch_line(text: &mut Vec<u8>, batch: &Batch, is_current: bool) -> Result<(), OutOfMemory>
     ensures { OnOk result (text.new.items ≡ text.old.items ++ marked_line is_current batch.now) }
 {
     push_batch_head(text, batch)?;
@@ -59,7 +59,11 @@ fn push_batch_line(text: &mut Vec<u8>, batch: &Batch, is_current: bool) -> Resul
 }
 
 /// Appends the lines of batches, those with a listed key marked.
-fn push_batch_lines(text: &mut Vec<u8>, batches: &[&Batch], keys: &KeySet) -> Result<(), AllocError>
+fn push_batch_lines(
+    text: &mut Vec<u8>,
+    batches: &[&Batch],
+    keys: &KeySet,
+) -> Result<(), OutOfMemory>
     ensures { OnOk result (text.new.items ≡ text.old.items ++ marked_lines keys.now (map (λ b. b.now) batches.now)) }
 {
     for batch in batches {
@@ -69,7 +73,7 @@ fn push_batch_lines(text: &mut Vec<u8>, batches: &[&Batch], keys: &KeySet) -> Re
 }
 
 /// Appends the lines of branches.
-fn push_branch_lines(text: &mut Vec<u8>, branches: &[BranchView]) -> Result<(), AllocError>
+fn push_branch_lines(text: &mut Vec<u8>, branches: &[BranchView]) -> Result<(), OutOfMemory>
     ensures { OnOk result (text.new.items ≡ text.old.items ++ flat_map branch_line branches.now) }
 {
     for branch in branches {
@@ -96,7 +100,7 @@ fn push_run_tree(
     text: &mut Vec<u8>,
     batches: &[&Batch],
     run: &RunView,
-) -> Result<(), AllocError>
+) -> Result<(), OutOfMemory>
     ensures { OnOk result (text.new.items ≡ text.old.items ++ run_tree (map (λ b. b.now) batches.now) run.now) }
 {
     let branches = run.branches.as_slice();
@@ -113,7 +117,7 @@ fn push_run_among(
     text: &mut Vec<u8>,
     batches: &RunBatches,
     run: &RunView,
-) -> Result<(), AllocError>
+) -> Result<(), OutOfMemory>
     ensures { OnOk result (text.new.items ≡ text.old.items ++ run_tree (listed run.now.run batches.now) run.now) }
 {
     match batches.get(run.run) {
@@ -128,7 +132,7 @@ fn push_run_trees(
     text: &mut Vec<u8>,
     batches: &RunBatches,
     runs: &[RunView],
-) -> Result<(), AllocError>
+) -> Result<(), OutOfMemory>
     ensures { OnOk result (text.new.items ≡ text.old.items ++ flat_map (λ run. run_tree (listed run.run batches.now) run) runs.now) }
 {
     for run in runs {
@@ -145,7 +149,7 @@ pub fn tree_text(
     domain: &Name,
     workflow: &Name,
     view: &View,
-) -> Result<Vec<u8>, AllocError>
+) -> Result<Vec<u8>, OutOfMemory>
     requires shown { view.now ≡ view_of view.now.batches }
     requires sound { IsSound view.now.batches }
     ensures { IfOk result (λ text. text.items ≡ tree_text domain.now workflow.now view.now) }

@@ -3,8 +3,8 @@ ghost use Rattle.std.specs.Prelude.{◌≡◌, None, IfOk};
 ghost use Rattle.ndc_dump_causes.specs.Chains.{first_loose, is_loose};
 
 use indexmap::IndexMap;
-use ndc_event::{Batch, BatchKey, RunId};
-use std::alloc::{AllocError, Global};
+use ndc_event::{Batch, BatchKey, OutOfMemory, RunId};
+use std::alloc::Global;
 use std::marker::Model;
 
 /// Whether a batch comes behind one of its version that is not its parent.
@@ -56,7 +56,7 @@ impl LastKeys {
     }
 
     /// Makes the key that of the last batch of the run.
-    fn put(&mut self, run: RunId, key: BatchKey) -> Result<(), AllocError>
+    fn put(&mut self, run: RunId, key: BatchKey) -> Result<(), OutOfMemory>
         ensures { OnOk result (self.new ≡ insert_entry same_run self.old run key) }
     {
         self.keys.insert(run, key)?;
@@ -66,7 +66,7 @@ impl LastKeys {
 
 /// The key of the first of the batches, in key order, that comes behind one of its run and version that is not its
 /// parent: they are gone over once.
-pub(crate) fn first_loose(alloc: Global, batches: &[Batch]) -> Result<Option<BatchKey>, AllocError>
+pub(crate) fn first_loose(alloc: Global, batches: &[Batch]) -> Result<Option<BatchKey>, OutOfMemory>
     ensures { IfOk result (λ key. key ≡ first_loose (λ run. None) batches.now) }
 {
     let mut last = LastKeys::new(alloc);

@@ -1,6 +1,6 @@
 use indexmap::IndexSet;
-use ndc_event::BatchKey;
-use std::alloc::{AllocError, Global};
+use ndc_event::{BatchKey, OutOfMemory};
+use std::alloc::Global;
 use std::marker::Model;
 
 /// Keys of batches, in any order. The set finds a key without going over the others.
@@ -39,7 +39,7 @@ impl KeySet {
     }
 
     /// Lists the key.
-    pub fn insert(&mut self, key: BatchKey) -> Result<(), AllocError>
+    pub fn insert(&mut self, key: BatchKey) -> Result<(), OutOfMemory>
         ensures { OnOk result (self.new ≡ with_key key self.old) }
     {
         self.keys.insert(key)?;

@@ -1,6 +1,6 @@
 // An order in which the batches of a set are well gone over.
-use ndc_event::{Batch, BatchKey};
-use std::alloc::{AllocError, Global};
+use ndc_event::{Batch, BatchKey, OutOfMemory};
+use std::alloc::Global;
 
 /// A batch to be gone over.
 #[derive(Clone, Copy)]
@@ -28,7 +28,7 @@ struct Chain {
 
 impl Chain {
     /// No place yet, of so many.
-    fn new(alloc: Global, count: usize) -> Result<Chain, AllocError> {
+    fn new(alloc: Global, count: usize) -> Result<Chain, OutOfMemory> {
         Ok(Chain {
             next: Vec::with_capacity(alloc, count)?,
             parents: Vec::with_capacity(alloc, count)?,
@@ -38,7 +38,7 @@ impl Chain {
     }
 
     /// Puts the next place right behind its parent's, or in front of all.
-    fn put(&mut self, parent: usize) -> Result<(), AllocError> {
+    fn put(&mut self, parent: usize) -> Result<(), OutOfMemory> {
         let place = self.next.len();
         let mut is_first = true;
         let mut behind = self.first;
@@ -80,7 +80,7 @@ fn place_of(batches: &[Batch], key: Option<BatchKey>) -> usize {
 /// The batches in an order in which each comes behind its parent, and all that hangs below a batch comes right behind
 /// it. No clause says so: who goes over batches in this order looks whether a parent is the one that is wanted, and what
 /// is promised does not rest on it.
-pub(crate) fn steps_of(alloc: Global, batches: &[Batch]) -> Result<Vec<Step>, AllocError> {
+pub(crate) fn steps_of(alloc: Global, batches: &[Batch]) -> Result<Vec<Step>, OutOfMemory> {
     let mut chain = Chain::new(alloc, batches.len())?;
     for batch in batches {
         chain.put(place_of(batches, batch.parent))?;

@@ -4,8 +4,8 @@ ghost use Rattle.std.specs.Option.{option_copied};
 ghost use Rattle.ndc_dump_causes.specs.Originals.{both, has_unfit_among, is_unfit_among, joined, same_signal, signal_in, with_batches};
 
 use indexmap::IndexMap;
-use ndc_event::{Batch, Event, EventKind, Name, Origin, RunId};
-use std::alloc::{AllocError, Global};
+use ndc_event::{Batch, Event, EventKind, Name, Origin, OutOfMemory, RunId};
+use std::alloc::Global;
 use std::marker::Model;
 
 /// The name and the input of an original signal.
@@ -40,7 +40,7 @@ fn is_same(one: &Signal, two: &Signal) -> bool
 }
 
 /// The original signal that an event of this kind is.
-fn signal_in(kind: &EventKind) -> Result<Option<Signal>, AllocError>
+fn signal_in(kind: &EventKind) -> Result<Option<Signal>, OutOfMemory>
     ensures { IfOk result (λ signal. signal ≡ signal_in kind.now) }
 {
     match kind {
@@ -109,7 +109,7 @@ impl Originals {
     }
 
     /// Takes an event of a run in.
-    fn add_event(&mut self, run: RunId, event: &Event) -> Result<(), AllocError>
+    fn add_event(&mut self, run: RunId, event: &Event) -> Result<(), OutOfMemory>
         ensures { OnOk result (self.new ≡ with_event run event.now self.old) }
     {
         let place = Origin {
@@ -124,7 +124,7 @@ impl Originals {
     }
 
     /// Takes events of a run in.
-    fn add_events(&mut self, run: RunId, events: &[Event]) -> Result<(), AllocError>
+    fn add_events(&mut self, run: RunId, events: &[Event]) -> Result<(), OutOfMemory>
         ensures { OnOk result (self.new ≡ with_events run events.now self.old) }
     {
         for event in events {
@@ -146,7 +146,7 @@ impl Originals {
 }
 
 /// What is known of the events of a set.
-pub(crate) fn originals_of(alloc: Global, batches: &[Batch]) -> Result<Originals, AllocError>
+pub(crate) fn originals_of(alloc: Global, batches: &[Batch]) -> Result<Originals, OutOfMemory>
     ensures { IfOk result (λ known. known ≡ with_batches batches.now []) }
 {
     let mut known = Originals::new(alloc);

@@ -17,7 +17,7 @@ use crate::ancestors::path_from;
 use crate::keys::KeySet;
 use crate::order::Step;
 use indexmap::IndexSet;
-use ndc_event::{Batch, BatchKey, Event, EventKind, Origin, RunId};
+use ndc_event::{Batch, BatchKey, Event, EventKind, Origin, OutOfMemory, RunId};
 use ndc_state::{State, StateError, Steps, origin_of};
 use std::alloc::{AllocError, Global};
 
@@ -46,7 +46,7 @@ pub(crate) fn replays(
     batches: &[Batch],
     run: RunId,
     wanted: Option<BatchKey>,
-) -> Result<bool, AllocError>
+) -> Result<bool, OutOfMemory>
     requires { AreRead batches.now }
     ensures { IfOk result (λ test. test ≡ is_ok (replay_of run (history_of (path_from wanted batches.now)))) }
 {
@@ -63,7 +63,7 @@ pub(crate) fn is_forbidden(
     alloc: Global,
     batches: &[Batch],
     batch: &Batch,
-) -> Result<bool, AllocError>
+) -> Result<bool, OutOfMemory>
     requires { AreRead batches.now }
     ensures { IfOk result (λ test. test ≡ is_forbidden batches.now batch.now) }
 {
@@ -74,7 +74,7 @@ pub(crate) fn is_forbidden(
 }
 
 /// Lists the origin of the event, where it is a signal.
-fn push_origin(origins: &mut Vec<Origin>, run: RunId, event: &Event) -> Result<(), AllocError>
+fn push_origin(origins: &mut Vec<Origin>, run: RunId, event: &Event) -> Result<(), OutOfMemory>
     ensures { OnOk result (origins.new.items ≡ origins.old.items ++ origins_in run (event.now ∷ [])) }
 {
     match &event.kind {
@@ -87,7 +87,7 @@ fn push_origin(origins: &mut Vec<Origin>, run: RunId, event: &Event) -> Result<(
 }
 
 /// Lists the origins of the signals among the events.
-fn push_origins(origins: &mut Vec<Origin>, run: RunId, events: &[Event]) -> Result<(), AllocError>
+fn push_origins(origins: &mut Vec<Origin>, run: RunId, events: &[Event]) -> Result<(), OutOfMemory>
     ensures { OnOk result (origins.new.items ≡ origins.old.items ++ origins_in run events.now) }
 {
     for event in events {
@@ -97,7 +97,7 @@ fn push_origins(origins: &mut Vec<Origin>, run: RunId, events: &[Event]) -> Resu
 }
 
 /// The origins of the signals on a path.
-fn origins_of(alloc: Global, run: RunId, path: &[&Batch]) -> Result<Vec<Origin>, AllocError>
+fn origins_of(alloc: Global, run: RunId, path: &[&Batch]) -> Result<Vec<Origin>, OutOfMemory>
     ensures { IfOk result (λ origins. origins.items ≡ origins_in run (history_of (map (λ b. b.now) path.now))) }
 {
     let mut origins = Vec::new(alloc);
@@ -108,7 +108,7 @@ fn origins_of(alloc: Global, run: RunId, path: &[&Batch]) -> Result<Vec<Origin>,
 }
 
 /// Whether an origin stands twice.
-fn has_twice(alloc: Global, origins: &[Origin]) -> Result<bool, AllocError>
+fn has_twice(alloc: Global, origins: &[Origin]) -> Result<bool, OutOfMemory>
     ensures { IfOk result (λ test. test ≡ has_twice origins.now) }
 {
     let mut seen: IndexSet<Origin> = IndexSet::new(alloc);
@@ -126,7 +126,7 @@ pub(crate) fn has_origin_twice(
     alloc: Global,
     batches: &[Batch],
     batch: &Batch,
-) -> Result<bool, AllocError>
+) -> Result<bool, OutOfMemory>
     requires { AreRead batches.now }
     ensures { IfOk result (λ test. test ≡ has_origin_twice batches.now batch.now) }
 {
@@ -149,7 +149,7 @@ fn kept_at(
     batches: &[Batch],
     key: BatchKey,
     is_last: bool,
-) -> Result<Option<State>, AllocError>
+) -> Result<Option<State>, OutOfMemory>
     requires { AreKept batches.now kept.old.items }
     ensures kept { OnOk result (AreKept batches.now kept.new.items) }
     ensures state { IfOk result (λ state. IfSome state (λ s. IsStateAt batches.now key s)) }
@@ -180,7 +180,7 @@ fn state_before(
     batches: &[Batch],
     batch: &Batch,
     is_last: bool,
-) -> Result<Option<State>, AllocError>
+) -> Result<Option<State>, OutOfMemory>
     requires has { Has batches.now batch.now }
     requires formed { holds_of_none NotWellFormed (is_ill_formed batches.now) batches.now ≡ Ok tt }
     requires kept { AreKept batches.now kept.old.items }
@@ -201,7 +201,7 @@ fn replay_one(
     batches: &[Batch],
     batch: &Batch,
     step: &Step,
-) -> Result<bool, AllocError>
+) -> Result<bool, OutOfMemory>
     requires read { AreRead batches.now }
     requires formed { holds_of_none NotWellFormed (is_ill_formed batches.now) batches.now ≡ Ok tt }
     requires once { holds_of_none OriginTwice (has_origin_twice batches.now) batches.now ≡ Ok tt }
@@ -235,7 +235,7 @@ fn replay_step(
     keys: &mut KeySet,
     batches: &[Batch],
     step: &Step,
-) -> Result<(), AllocError>
+) -> Result<(), OutOfMemory>
     requires read { AreRead batches.now }
     requires formed { holds_of_none NotWellFormed (is_ill_formed batches.now) batches.now ≡ Ok tt }
     requires once { holds_of_none OriginTwice (has_origin_twice batches.now) batches.now ≡ Ok tt }
@@ -261,7 +261,7 @@ pub(crate) fn keys_that_replay(
     alloc: Global,
     batches: &[Batch],
     steps: &[Step],
-) -> Result<KeySet, AllocError>
+) -> Result<KeySet, OutOfMemory>
     requires read { AreRead batches.now }
     requires formed { holds_of_none NotWellFormed (is_ill_formed batches.now) batches.now ≡ Ok tt }
     requires once { holds_of_none OriginTwice (has_origin_twice batches.now) batches.now ≡ Ok tt }

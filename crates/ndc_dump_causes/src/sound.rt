@@ -17,8 +17,8 @@ use crate::order::{Step, steps_of};
 use crate::originals::{has_unfit_copy, originals_of};
 use crate::replaying::{has_origin_twice, is_forbidden, keys_that_replay};
 use crate::trail::keys_without_origin_twice;
-use ndc_event::{Batch, BatchKey};
-use std::alloc::{AllocError, Global};
+use ndc_event::{Batch, BatchKey, OutOfMemory};
+use std::alloc::Global;
 
 /// The refusal of the batch with this key.
 fn refusal(key: BatchKey, cause: KeyCause) -> Result<(), DumpError>
@@ -72,7 +72,7 @@ fn has_origin_twice_by(
     known: &KeySet,
     batches: &[Batch],
     batch: &Batch,
-) -> Result<bool, AllocError>
+) -> Result<bool, OutOfMemory>
     requires read { AreRead batches.now }
     requires has { Has batches.now batch.now }
     requires known { AreKnown (λ b. has_origin_twice batches.now b ≡ false) batches.now known.now }
@@ -119,7 +119,7 @@ fn is_forbidden_by(
     known: &KeySet,
     batches: &[Batch],
     batch: &Batch,
-) -> Result<bool, AllocError>
+) -> Result<bool, OutOfMemory>
     requires read { AreRead batches.now }
     requires has { Has batches.now batch.now }
     requires known { AreKnown (λ b. replays_to batches.now b ≡ true) batches.now known.now }

@@ -8,9 +8,9 @@ ghost use Rattle.ndc_dump_causes.specs.declared.error.KeyCause.TheVariants.{NotW
 use crate::keys::KeySet;
 use crate::order::Step;
 use indexmap::IndexSet;
-use ndc_event::{Batch, BatchKey, Event, EventKind, Origin, RunId};
+use ndc_event::{Batch, BatchKey, Event, EventKind, Origin, OutOfMemory, RunId};
 use ndc_state::origin_of;
-use std::alloc::{AllocError, Global};
+use std::alloc::Global;
 use std::marker::Model;
 
 /// A batch of the path that is gone over, and how many origins were listed when its own were.
@@ -59,7 +59,7 @@ impl Trail {
     }
 
     /// Goes back to the batch of this key, where it is open; answers whether it is.
-    fn go_back_to(&mut self, batches: &[Batch], key: BatchKey) -> Result<bool, AllocError>
+    fn go_back_to(&mut self, batches: &[Batch], key: BatchKey) -> Result<bool, OutOfMemory>
         requires { IsTrail batches.now self.old }
         ensures trail { OnOk result (IsTrail batches.now self.new) }
         ensures at { IfOk result (λ is_open. is_open ≡ true → IsListed batches.now self.new.listed key) }
@@ -81,7 +81,7 @@ impl Trail {
     }
 
     /// Goes back to what this parent names, where it is open, or to the beginning; answers whether it could.
-    fn go_back(&mut self, batches: &[Batch], parent: Option<BatchKey>) -> Result<bool, AllocError>
+    fn go_back(&mut self, batches: &[Batch], parent: Option<BatchKey>) -> Result<bool, OutOfMemory>
         requires { IsTrail batches.now self.old }
         ensures trail { OnOk result (IsTrail batches.now self.new) }
         ensures at { IfOk result (λ is_open. is_open ≡ true → IsAt batches.now self.new.listed parent) }
@@ -96,7 +96,7 @@ impl Trail {
     }
 
     /// Lists an origin, where it is not listed; answers whether it was.
-    fn list(&mut self, origin: Origin) -> Result<bool, AllocError>
+    fn list(&mut self, origin: Origin) -> Result<bool, OutOfMemory>
         ensures again { IfOk result (λ again. again ≡ is_among origin self.old.listed) }
         ensures listed { OnOk result (self.new.listed ≡ with_origin origin self.old.listed) }
         ensures opened { self.new.opened ≡ self.old.opened }
@@ -106,7 +106,7 @@ impl Trail {
     }
 
     /// Lists the origin of an event, where it is a signal; answers whether it was listed before.
-    fn list_one(&mut self, run: RunId, event: &Event) -> Result<bool, AllocError>
+    fn list_one(&mut self, run: RunId, event: &Event) -> Result<bool, OutOfMemory>
         ensures again { IfOk result (λ again. again ≡ signal_again run event.now self.old.listed) }
         ensures listed { OnOk result (self.new.listed ≡ signal_listed run event.now self.old.listed) }
         ensures opened { self.new.opened ≡ self.old.opened }
@@ -121,7 +121,7 @@ impl Trail {
     }
 
     /// Lists the origins of the signals among the events; answers whether one of them was listed before it.
-    fn list_all(&mut self, run: RunId, events: &[Event]) -> Result<bool, AllocError>
+    fn list_all(&mut self, run: RunId, events: &[Event]) -> Result<bool, OutOfMemory>
         ensures again { IfOk result (λ again. again ≡ comes_again self.old.listed (origins_in run events.now)) }
         ensures listed { OnOk result (self.new.listed ≡ collected run self.old.listed events.now) }
         ensures opened { self.new.opened ≡ self.old.opened }
@@ -135,7 +135,7 @@ impl Trail {
     }
 
     /// Opens a batch behind its parent, where this is open and no origin comes again; answers whether the batch is open.
-    fn open(&mut self, batches: &[Batch], batch: &Batch) -> Result<bool, AllocError>
+    fn open(&mut self, batches: &[Batch], batch: &Batch) -> Result<bool, OutOfMemory>
         requires read { AreRead batches.now }
         requires formed { holds_of_none NotWellFormed (is_ill_formed batches.now) batches.now ≡ Ok tt }
         requires has { Has batches.now batch.now }
@@ -166,7 +166,7 @@ fn go_over(
     keys: &mut KeySet,
     batches: &[Batch],
     step: &Step,
-) -> Result<(), AllocError>
+) -> Result<(), OutOfMemory>
     requires read { AreRead batches.now }
     requires formed { holds_of_none NotWellFormed (is_ill_formed batches.now) batches.now ≡ Ok tt }
     requires trail { IsTrail batches.now trail.old }
@@ -191,7 +191,7 @@ pub(crate) fn keys_without_origin_twice(
     alloc: Global,
     batches: &[Batch],
     steps: &[Step],
-) -> Result<KeySet, AllocError>
+) -> Result<KeySet, OutOfMemory>
     requires read { AreRead batches.now }
     requires formed { holds_of_none NotWellFormed (is_ill_formed batches.now) batches.now ≡ Ok tt }
     ensures { IfOk result (λ keys. AreKnown (λ b. has_origin_twice batches.now b ≡ false) batches.now keys) }

@@ -2,10 +2,11 @@ ghost use Rattle.std.specs.Prelude.{◌≡◌, ◌+◌, ◌==◌, IfOk, MatchRes
 ghost use Rattle.std.specs.List.{list_all};
 ghost use Rattle.ndc_event.specs.Batch.{follow_from, are_consecutive, are_of_version, is_first_fit, is_parent_fit, is_carrier_fit, fault_of};
 
+use crate::OutOfMemory;
 use crate::key::{BatchKey, RunId};
 use crate::kind::EventKind;
 use crate::name::Name;
-use std::alloc::{AllocError, Global};
+use std::alloc::Global;
 use std::marker::Model;
 use std::sync::Arc;
 use thiserror::Error;
@@ -25,7 +26,7 @@ impl Event {
     ghost use Rattle.std.specs.Prelude.{◌≡◌, ◌↔◌, IfOk, IsTrue};
 
     /// The same event.
-    pub fn try_copy(&self) -> Result<Event, AllocError>
+    pub fn try_copy(&self) -> Result<Event, OutOfMemory>
         ensures { IfOk result (λ copy. copy ≡ self.now) }
     {
         self.clone()
@@ -76,7 +77,7 @@ impl Events {
     }
 
     /// The list of these events, which its copies share.
-    pub fn shared(alloc: Global, items: Vec<Event>) -> Result<Events, AllocError>
+    pub fn shared(alloc: Global, items: Vec<Event>) -> Result<Events, OutOfMemory>
         ensures { IfOk result (λ events. events ≡ items.items) }
     {
         let items = Arc::new(alloc, items)?;
@@ -96,7 +97,7 @@ impl Events {
     }
 
     /// The events, given back. It takes memory only where copies share them, which are left as they are.
-    pub fn into_vec(self) -> Result<Vec<Event>, AllocError>
+    pub fn into_vec(self) -> Result<Vec<Event>, OutOfMemory>
         ensures { IfOk result (λ items. items.items ≡ self) }
     {
         let Events { held } = self;
@@ -111,7 +112,7 @@ impl Events {
 
     /// The same list: over the same events, in the same time for any number of them, where they are shared; else over
     /// copies of them.
-    pub fn try_copy(&self) -> Result<Events, AllocError>
+    pub fn try_copy(&self) -> Result<Events, OutOfMemory>
         ensures { IfOk result (λ copy. copy ≡ self.now) }
     {
         let held = match &self.held {
@@ -130,7 +131,7 @@ impl Events {
 }
 
 /// Copies of the events.
-fn copied(items: &Vec<Event>) -> Result<Vec<Event>, AllocError>
+fn copied(items: &Vec<Event>) -> Result<Vec<Event>, OutOfMemory>
     ensures { IfOk result (λ copies. copies.items ≡ items.now.items) }
 {
     items.clone()
@@ -223,7 +224,7 @@ impl Batch {
     }
 
     /// The same batch.
-    pub fn try_copy(&self) -> Result<Batch, AllocError>
+    pub fn try_copy(&self) -> Result<Batch, OutOfMemory>
         ensures { IfOk result (λ copy. copy ≡ self.now) }
     {
         Ok(Batch {
@@ -256,7 +257,7 @@ impl Clone for Batch {
 
     ghost is_clone = { λ batch copy. copy ≡ batch };
 
-    fn clone(&self) -> Result<Batch, AllocError> {
+    fn clone(&self) -> Result<Batch, OutOfMemory> {
         self.try_copy()
     }
 }

@@ -1,6 +1,6 @@
 ghost use Rattle.std.specs.Prelude.{◌≡◌, List};
 
-use std::alloc::AllocError;
+use crate::OutOfMemory;
 use std::marker::Model;
 
 /// A list of things, in order: its value is the list of them.
@@ -51,7 +51,7 @@ impl<T: Drop + Clone> Clone for Items<T> {
 
     ghost is_clone = { λ items copies. AllZip T.is_clone items copies };
 
-    fn clone(&self) -> Result<Items<T>, AllocError> {
+    fn clone(&self) -> Result<Items<T>, OutOfMemory> {
         let items = self.items.clone()?;
         Ok(Items { items })
     }

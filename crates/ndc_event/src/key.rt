@@ -1,7 +1,8 @@
 ghost use Rattle.std.specs.Prelude.{◌≡◌, IfOk, List};
 ghost use Rattle.std.specs.String.{string_bytes};
 
-use std::alloc::{AllocError, Global};
+use crate::OutOfMemory;
+use std::alloc::Global;
 use std::hash::{Hash, Hasher};
 use uuid::Uuid;
 
@@ -49,7 +50,7 @@ impl RunId {
     }
 
     /// The id in hyphenated lower-case form, 36 bytes.
-    pub fn text(&self, alloc: Global) -> Result<String, AllocError>
+    pub fn text(&self, alloc: Global) -> Result<String, OutOfMemory>
         ensures { IfOk result (λ text. string_bytes text ≡ run_text self.now) }
     {
         let mut buffer = Uuid::encode_buffer();

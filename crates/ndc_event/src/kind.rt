@@ -1,10 +1,10 @@
 ghost use Rattle.std.specs.Prelude.{◌≡◌, ◌↔◌, IsTrue};
 ghost use Rattle.std.specs.Option.{option_copied};
 
+use crate::OutOfMemory;
 use crate::key::{Origin, RunId};
 use crate::name::Name;
 use crate::rare::Rare;
-use std::alloc::AllocError;
 
 /// What happened in an event, with its attributes.
 #[derive(Clone, Debug, Drop)]
@@ -155,7 +155,7 @@ impl EventKind {
     }
 
     /// The same kind with the same attributes.
-    pub fn try_copy(&self) -> Result<EventKind, AllocError>
+    pub fn try_copy(&self) -> Result<EventKind, OutOfMemory>
         ensures { IfOk result (λ copy. copy ≡ self.now) }
     {
         self.clone()

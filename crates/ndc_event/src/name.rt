@@ -7,6 +7,7 @@ ghost use Rattle.std.specs.String.{string_bytes};
 ghost use Rattle.ndc_event.specs.Front.{IsSpelled, front_of};
 ghost use Rattle.ndc_event.specs.Name.{is_name, is_name_byte};
 
+use crate::OutOfMemory;
 use std::alloc::{AllocError, Global};
 use std::cmp::Ordering;
 use std::fmt;
@@ -113,7 +114,7 @@ fn front_of(bytes: &[u8]) -> u64
 }
 
 /// What is kept of this name.
-fn spell(alloc: Global, text: &str) -> Result<Arc<Spelled, Global>, AllocError>
+fn spell(alloc: Global, text: &str) -> Result<Arc<Spelled, Global>, OutOfMemory>
     requires { IsTrue (is_name text.now) }
     ensures text { IfOk result (λ spelled. string_bytes (arc_value spelled).text ≡ text.now) }
     ensures spelled { IfOk result (λ spelled. IsSpelled (arc_value spelled)) }
@@ -199,7 +200,7 @@ impl Name {
     }
 
     /// The same name, over the same bytes.
-    pub fn try_copy(&self) -> Result<Name, AllocError>
+    pub fn try_copy(&self) -> Result<Name, OutOfMemory>
         ensures { IfOk result (λ copy. copy ≡ self.now) }
     {
         Ok(Name {
@@ -235,7 +236,7 @@ impl Clone for Name {
 
     ghost is_clone = { λ name copy. copy ≡ name };
 
-    fn clone(&self) -> Result<Name, AllocError> {
+    fn clone(&self) -> Result<Name, OutOfMemory> {
         self.try_copy()
     }
 }

@@ -2,7 +2,8 @@ ghost use Rattle.std.specs.Prelude.{◌≡◌, IfOk, None, Option};
 ghost use Rattle.std.specs.Option.{option_copied};
 ghost use Rattle.ndc_event.specs.Rare.{unboxed};
 
-use std::alloc::{AllocError, Global};
+use crate::OutOfMemory;
+use std::alloc::Global;
 use std::marker::Model;
 
 /// A value that is mostly absent: it stands in a box, so that its absence takes two words. Seen as the option that it is.
@@ -29,7 +30,7 @@ impl<T: Drop> Rare<T> {
     }
 
     /// This value, or none. Where there is one, it takes memory for its box.
-    pub fn of(alloc: Global, value: Option<T>) -> Result<Rare<T>, AllocError>
+    pub fn of(alloc: Global, value: Option<T>) -> Result<Rare<T>, OutOfMemory>
         ensures { IfOk result (λ rare. rare ≡ value) }
     {
         let boxed = match value {
@@ -73,7 +74,7 @@ impl<T: Drop + Clone> Clone for Rare<T> {
 
     ghost is_clone = { IsOptionClone T.is_clone };
 
-    fn clone(&self) -> Result<Rare<T>, AllocError> {
+    fn clone(&self) -> Result<Rare<T>, OutOfMemory> {
         let boxed = self.boxed.clone()?;
         Ok(Rare { boxed })
     }

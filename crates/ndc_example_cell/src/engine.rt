@@ -5,7 +5,7 @@ ghost use Rattle.ndc_example_cell.specs.Shared.{AreShared, CanTell, IsSentBy};
 
 use ndc_command::{Command, Refusal};
 use ndc_domain::{ClusterNo, Clusters, DomainTable};
-use ndc_event::{BatchKey, Name};
+use ndc_event::{BatchKey, Name, OutOfMemory};
 use ndc_model_cells::Message;
 use ndc_shard::{Arrived, Home, Shard, ShardError, Written};
 use ndc_state::Steps;
@@ -50,7 +50,7 @@ pub(crate) fn write(
     shared: &Shared,
     table: &DomainTable,
     command: &Command,
-) -> Result<Result<Written, Refusal>, AllocError>
+) -> Result<Result<Written, Refusal>, OutOfMemory>
     requires shared { AreShared shared.now.clusters.now shared.now.me shared.now.them shared.now.most shared.now.domain.now shared.now.workflow.now mine.old theirs.now }
     requires room { shared.now.most ≤ 1000000 }
     ensures { OnOk result (AreShared shared.now.clusters.now shared.now.me shared.now.them (shared.now.most + 104) shared.now.domain.now shared.now.workflow.now mine.new theirs.now) }
@@ -79,7 +79,7 @@ fn hear(
     theirs: &mut Shard,
     shared: &Shared,
     message: &Message,
-) -> Result<Arrived, AllocError>
+) -> Result<Arrived, OutOfMemory>
     requires shared { AreShared shared.now.clusters.now shared.now.me shared.now.them shared.now.most shared.now.domain.now shared.now.workflow.now mine.now theirs.old }
     requires sent { IsSentBy mine.now message.now }
     ensures { OnOk result (AreShared shared.now.clusters.now shared.now.me shared.now.them shared.now.most shared.now.domain.now shared.now.workflow.now mine.now theirs.new) }
@@ -97,7 +97,7 @@ fn hear_last(
     theirs: &mut Shard,
     shared: &Shared,
     message: Message,
-) -> Result<Arrived, AllocError>
+) -> Result<Arrived, OutOfMemory>
     requires shared { AreShared shared.now.clusters.now shared.now.me shared.now.them shared.now.most shared.now.domain.now shared.now.workflow.now mine.now theirs.old }
     requires sent { IsSentBy mine.now message }
     ensures { OnOk result (AreShared shared.now.clusters.now shared.now.me shared.now.them shared.now.most shared.now.domain.now shared.now.workflow.now mine.now theirs.new) }
@@ -111,7 +111,7 @@ fn hear_all(
     theirs: &mut Shard,
     shared: &Shared,
     messages: &[Message],
-) -> Result<(), AllocError>
+) -> Result<(), OutOfMemory>
     requires shared { AreShared shared.now.clusters.now shared.now.me shared.now.them shared.now.most shared.now.domain.now shared.now.workflow.now mine.now theirs.old }
     requires sent { AllByRecursion (IsSentBy mine.now) messages.now }
     ensures { OnOk result (AreShared shared.now.clusters.now shared.now.me shared.now.them shared.now.most shared.now.domain.now shared.now.workflow.now mine.now theirs.new) }
@@ -128,7 +128,7 @@ pub(crate) fn tell(
     theirs: &mut Shard,
     shared: &Shared,
     key: BatchKey,
-) -> Result<Option<Arrived>, AllocError>
+) -> Result<Option<Arrived>, OutOfMemory>
     requires { AreShared shared.now.clusters.now shared.now.me shared.now.them shared.now.most shared.now.domain.now shared.now.workflow.now mine.now theirs.old }
     ensures { OnOk result (AreShared shared.now.clusters.now shared.now.me shared.now.them shared.now.most shared.now.domain.now shared.now.workflow.now mine.now theirs.new) }
 {
@@ -141,7 +141,11 @@ pub(crate) fn tell(
 }
 
 /// A cell is served for what it has put off by the other one: for how many gaps.
-pub(crate) fn repair(mine: &Shard, theirs: &mut Shard, shared: &Shared) -> Result<usize, AllocError>
+pub(crate) fn repair(
+    mine: &Shard,
+    theirs: &mut Shard,
+    shared: &Shared,
+) -> Result<usize, OutOfMemory>
     requires { AreShared shared.now.clusters.now shared.now.me shared.now.them shared.now.most shared.now.domain.now shared.now.workflow.now mine.now theirs.old }
     ensures { OnOk result (AreShared shared.now.clusters.now shared.now.me shared.now.them shared.now.most shared.now.domain.now shared.now.workflow.now mine.now theirs.new) }
 {
@@ -160,7 +164,7 @@ fn learn(
     copy: &mut Shard,
     shared: &Shared,
     message: &Message,
-) -> Result<Arrived, AllocError>
+) -> Result<Arrived, OutOfMemory>
     requires told { CanTell shared.now.most shared.now.domain.now shared.now.workflow.now mine.now copy.old }
     requires sent { IsSentBy mine.now message.now }
     ensures { OnOk result (CanTell shared.now.most shared.now.domain.now shared.now.workflow.now mine.now copy.new) }
@@ -178,7 +182,7 @@ fn learn_all(
     copy: &mut Shard,
     shared: &Shared,
     messages: &[Message],
-) -> Result<(), AllocError>
+) -> Result<(), OutOfMemory>
     requires told { CanTell shared.now.most shared.now.domain.now shared.now.workflow.now mine.now copy.old }
     requires sent { AllByRecursion (IsSentBy mine.now) messages.now }
 {
@@ -194,7 +198,7 @@ pub(crate) fn remake(
     mine: &Shard,
     theirs: &Shard,
     shared: &Shared,
-) -> Result<Shard, AllocError>
+) -> Result<Shard, OutOfMemory>
     requires { AreShared shared.now.clusters.now shared.now.me shared.now.them shared.now.most shared.now.domain.now shared.now.workflow.now mine.now theirs.now }
 {
     let home = home_of(shared.clusters, shared.them);
@@ -211,7 +215,7 @@ pub(crate) fn reapply(
     theirs: &Shard,
     shared: &Shared,
     table: &DomainTable,
-) -> Result<usize, AllocError>
+) -> Result<usize, OutOfMemory>
     requires { AreShared shared.now.clusters.now shared.now.me shared.now.them shared.now.most shared.now.domain.now shared.now.workflow.now mine.old theirs.now }
 {
     let home = home_of(shared.clusters, shared.me);

@@ -6,9 +6,9 @@ use crate::error::StoryError;
 use crate::telling::shown;
 use ndc_command::{Command, Refusal};
 use ndc_domain::{ClusterNo, Clusters, DomainTable};
-use ndc_event::{BatchKey, Name};
+use ndc_event::{BatchKey, Name, OutOfMemory};
 use ndc_shard::{Arrived, Shard, Written};
-use std::alloc::{AllocError, Global};
+use std::alloc::Global;
 use std::marker::Model;
 use std::mem::swap;
 
@@ -59,7 +59,7 @@ impl<'a> Pair<'a> {
         clusters: &'a Clusters,
         domain: &'a Name,
         workflow: &'a Name,
-    ) -> Result<Pair<'a>, AllocError> {
+    ) -> Result<Pair<'a>, OutOfMemory> {
         let mine = Shard::new(alloc, &home_of(clusters, A))?;
         let theirs = Shard::new(alloc, &home_of(clusters, B))?;
         Ok(Pair {
@@ -91,7 +91,7 @@ impl<'a> Pair<'a> {
     }
 
     /// Whether a cell shows the same of the workflow as the one in hand.
-    pub(crate) fn shows_as(&self, alloc: Global, cell: &Shard) -> Result<bool, AllocError> {
+    pub(crate) fn shows_as(&self, alloc: Global, cell: &Shard) -> Result<bool, OutOfMemory> {
         let (domain, workflow) = (self.shared.domain, self.shared.workflow);
         let here = shown(alloc, &self.mine, domain, workflow)?;
         let there = shown(alloc, cell, domain, workflow)?;

@@ -1,17 +1,17 @@
 //! What is told, piece by piece.
 use ndc_command::Refusal;
-use ndc_event::{BatchKey, Name};
+use ndc_event::{BatchKey, Name, OutOfMemory};
 use ndc_shard::{Arrived, Shard, Written};
 use ndc_state::Steps;
 use ndc_text::dump_text;
 use ndc_text::line::{push_key, push_number};
-use std::alloc::{AllocError, Global};
+use std::alloc::Global;
 
 /// Marks the counters of steps of what is shown.
 struct Looking;
 
 /// Appends a word and a key, and ends the line.
-fn end_with_key(text: &mut Vec<u8>, word: &[u8], key: BatchKey) -> Result<(), AllocError> {
+fn end_with_key(text: &mut Vec<u8>, word: &[u8], key: BatchKey) -> Result<(), OutOfMemory> {
     text.extend_from_slice(word)?;
     push_key(text, key)?;
     text.extend_from_slice(b"\n")
@@ -32,7 +32,7 @@ pub(crate) fn tell_written(
     text: &mut Vec<u8>,
     who: &[u8],
     written: &Result<Written, Refusal>,
-) -> Result<(), AllocError> {
+) -> Result<(), OutOfMemory> {
     text.extend_from_slice(who)?;
     match written {
         Ok(written) => end_with_key(text, b" writes ", written.key),
@@ -49,7 +49,7 @@ pub(crate) fn tell_arrived(
     text: &mut Vec<u8>,
     who: &[u8],
     arrived: &Option<Arrived>,
-) -> Result<(), AllocError> {
+) -> Result<(), OutOfMemory> {
     text.extend_from_slice(who)?;
     match arrived {
         Some(Arrived::Learned { .. }) => text.extend_from_slice(b" learns it\n"),
@@ -62,7 +62,7 @@ pub(crate) fn tell_arrived(
 }
 
 /// Tells a count.
-pub(crate) fn tell_count(text: &mut Vec<u8>, what: &[u8], count: usize) -> Result<(), AllocError> {
+pub(crate) fn tell_count(text: &mut Vec<u8>, what: &[u8], count: usize) -> Result<(), OutOfMemory> {
     text.extend_from_slice(what)?;
     push_number(text, count as u64)?;
     text.extend_from_slice(b"\n")
@@ -74,7 +74,7 @@ pub(crate) fn shown(
     cell: &Shard,
     domain: &Name,
     workflow: &Name,
-) -> Result<Vec<u8>, AllocError> {
+) -> Result<Vec<u8>, OutOfMemory> {
     let mut steps: Steps<Looking> = Steps::new();
     match cell.view(domain, workflow, &mut steps)? {
         Some(view) => dump_text(alloc, domain, workflow, &view),
@@ -83,7 +83,7 @@ pub(crate) fn shown(
 }
 
 /// Tells whether two cells show the same.
-pub(crate) fn tell_alike(text: &mut Vec<u8>, alike: bool) -> Result<(), AllocError> {
+pub(crate) fn tell_alike(text: &mut Vec<u8>, alike: bool) -> Result<(), OutOfMemory> {
     text.extend_from_slice(if alike {
         b"both show the same\n"
     } else {

@@ -5,13 +5,13 @@ ghost use Rattle.ndc_script_types.specs.WellFormed.{IsCluster, IsWellFormedHeade
 use crate::telling::{push_answer, push_count};
 use ndc_domain::ClusterNo;
 use ndc_dump::dump_text;
-use ndc_event::{BatchKey, Name};
+use ndc_event::{BatchKey, Name, OutOfMemory};
 use ndc_script_types::Header;
 use ndc_shard::{Shard, shard_of};
 use ndc_state::Steps;
 use ndc_text::line::push_key;
 use ndc_world::World;
-use std::alloc::{AllocError, Global};
+use std::alloc::Global;
 
 /// Marks the counters of steps of this program.
 struct Looking;
@@ -40,7 +40,7 @@ pub(crate) fn tell_record(
     header: &Header,
     at: ClusterNo,
     domain: &Name,
-) -> Result<(), AllocError>
+) -> Result<(), OutOfMemory>
     requires unspent { world.now.spent ≡ false }
     requires header { world.now.header ≡ header.now }
     requires at { IsCluster header.now at }
@@ -61,7 +61,7 @@ pub(crate) fn tell_learned(
     domain: &Name,
     workflow: &Name,
     key: BatchKey,
-) -> Result<(), AllocError> {
+) -> Result<(), OutOfMemory> {
     text.extend_from_slice(b"it has learned ")?;
     push_key(text, key)?;
     let is = cell.has_learned(domain, workflow, key);
@@ -74,7 +74,7 @@ pub(crate) fn shown(
     cell: &Shard,
     domain: &Name,
     workflow: &Name,
-) -> Result<Vec<u8>, AllocError> {
+) -> Result<Vec<u8>, OutOfMemory> {
     let mut steps: Steps<Looking> = Steps::new();
     match cell.view(domain, workflow, &mut steps)? {
         Some(view) => dump_text(alloc, domain, workflow, &view),

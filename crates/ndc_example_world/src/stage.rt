@@ -6,11 +6,11 @@ use crate::error::StoryError;
 use crate::looking::{self, cell, shown};
 use crate::making::{Made, cluster, command_line, start_of};
 use crate::running;
-use ndc_event::{BatchKey, Name};
+use ndc_event::{BatchKey, Name, OutOfMemory};
 use ndc_script_types::Header;
 use ndc_shard::Shard;
 use ndc_world::{Summary, World};
-use std::alloc::{AllocError, Global};
+use std::alloc::Global;
 use std::marker::Model;
 use std::thread::Threads;
 
@@ -55,7 +55,7 @@ impl<'a> Stage<'a> {
         header: &'a Header,
         domain: &'a Name,
         workflow: &'a Name,
-    ) -> Result<Stage<'a>, AllocError>
+    ) -> Result<Stage<'a>, OutOfMemory>
         requires { IsWellFormedHeader header.now }
     {
         let world = World::<Shard>::build(alloc, header)?;

@@ -9,10 +9,10 @@ ghost use Rattle.ndc_script_words.specs.Number.{number_of};
 ghost use Rattle.ndc_explain.specs.Asked.{asked_of, clusters_on, clusters_or, member_in, member_of, member_with, members_on, name_on, named_by, number_or, request_for};
 
 use ndc_domain::Clusters;
-use ndc_event::{Name, NameError};
+use ndc_event::{Name, NameError, OutOfMemory};
 use ndc_script_words::number_of;
 use ndc_tool_words::{WordsError, parts_of};
-use std::alloc::{AllocError, Global};
+use std::alloc::Global;
 
 /// The number that a word is.
 fn number_on(word: &[u8]) -> Result<u64, WordsError>
@@ -46,7 +46,7 @@ fn member_with(alloc: Global, name: &[u8], initial: &[u8]) -> Result<(Name, u64)
 }
 
 /// What stands between the equals signs of a text.
-fn sides_of<'a>(alloc: Global, text: &'a [u8]) -> Result<Vec<&'a [u8]>, AllocError>
+fn sides_of<'a>(alloc: Global, text: &'a [u8]) -> Result<Vec<&'a [u8]>, OutOfMemory>
     ensures { IfOk result (λ parts. map (λ part. part.now) parts.items ≡ slice_split (λ byte. byte == 61) text.now) }
 {
     text.split(|byte| *byte == b'=').collect(alloc)

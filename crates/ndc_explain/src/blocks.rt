@@ -6,8 +6,8 @@ ghost use Rattle.ndc_explain.specs.Blocks.{blocks_of, copied_by, copies_in, copi
 use crate::standing::insert;
 use crate::summary::Summary;
 use ndc_dump_causes::keys::KeySet;
-use ndc_event::{Batch, BatchKey, Event, EventKind, Origin};
-use std::alloc::{AllocError, Global};
+use ndc_event::{Batch, BatchKey, Event, EventKind, Origin, OutOfMemory};
+use std::alloc::Global;
 use std::marker::Model;
 use std::mem;
 
@@ -36,7 +36,7 @@ fn insert_fork(
     keys: &mut KeySet,
     parent: Option<BatchKey>,
     before: Option<BatchKey>,
-) -> Result<(), AllocError>
+) -> Result<(), OutOfMemory>
     ensures { OnOk result (keys.new ≡ with_fork parent before keys.old) }
 {
     if is_behind(parent, before) {
@@ -47,7 +47,7 @@ fn insert_fork(
 }
 
 /// The parents of batches that do not come directly behind them.
-fn forks(alloc: Global, batches: &[Batch]) -> Result<KeySet, AllocError>
+fn forks(alloc: Global, batches: &[Batch]) -> Result<KeySet, OutOfMemory>
     ensures { IfOk result (λ keys. keys ≡ forks batches.now) }
 {
     let mut keys = KeySet::new(alloc);
@@ -108,7 +108,7 @@ impl<'v> Block<'v> {
     }
 
     /// The batch goes last.
-    fn push(&mut self, batch: &'v Batch) -> Result<(), AllocError>
+    fn push(&mut self, batch: &'v Batch) -> Result<(), OutOfMemory>
         ensures { OnOk result (self.new ≡ self.old ++ batch.now ∷ []) }
     {
         self.batches.push(batch)?;
@@ -117,7 +117,7 @@ impl<'v> Block<'v> {
 }
 
 /// Appends a block, unless it is empty.
-fn push_block<'v>(done: &mut Vec<Block<'v>>, block: Block<'v>) -> Result<(), AllocError>
+fn push_block<'v>(done: &mut Vec<Block<'v>>, block: Block<'v>) -> Result<(), OutOfMemory>
     ensures { OnOk result (done.new.items ≡ with_block block.entry done.old.items) }
 {
     match block.as_slice() {
@@ -161,7 +161,7 @@ impl<'v> Blocks<'v> {
     }
 
     /// The block ends.
-    fn end(&mut self, alloc: Global) -> Result<(), AllocError>
+    fn end(&mut self, alloc: Global) -> Result<(), OutOfMemory>
         ensures { OnOk result (self.new ≡ ended self.old) }
     {
         let block = mem::replace(&mut self.block, Block::new(alloc));
@@ -169,7 +169,7 @@ impl<'v> Blocks<'v> {
     }
 
     /// The batch goes last in the block.
-    fn push(&mut self, batch: &'v Batch) -> Result<(), AllocError>
+    fn push(&mut self, batch: &'v Batch) -> Result<(), OutOfMemory>
         ensures { OnOk result (self.new ≡ with_last batch.now self.old) }
     {
         self.block.push(batch)?;
@@ -178,7 +178,7 @@ impl<'v> Blocks<'v> {
     }
 
     /// The batch goes on in the block, or begins the next one.
-    fn add(&mut self, alloc: Global, keys: &KeySet, batch: &'v Batch) -> Result<(), AllocError>
+    fn add(&mut self, alloc: Global, keys: &KeySet, batch: &'v Batch) -> Result<(), OutOfMemory>
         ensures { OnOk result (self.new ≡ with_batch keys.now batch.now self.old) }
     {
         if !goes_on(keys, self.before, batch) {
@@ -193,7 +193,7 @@ impl<'v> Blocks<'v> {
         alloc: Global,
         keys: &KeySet,
         batches: &'v [Batch],
-    ) -> Result<(), AllocError>
+    ) -> Result<(), OutOfMemory>
         ensures { OnOk result (self.new ≡ with_batches keys.now batches.now self.old) }
     {
         for batch in batches {
@@ -207,7 +207,7 @@ impl<'v> Blocks<'v> {
 pub(crate) fn blocks_of<'v>(
     alloc: Global,
     batches: &'v [Batch],
-) -> Result<Vec<Block<'v>>, AllocError>
+) -> Result<Vec<Block<'v>>, OutOfMemory>
     ensures { IfOk result (λ blocks. blocks.items ≡ blocks_of batches.now) }
 {
     let keys = forks(alloc, batches)?;
@@ -218,7 +218,7 @@ pub(crate) fn blocks_of<'v>(
 }
 
 /// Appends the names of the kinds of events.
-fn push_kinds(kinds: &mut Vec<&'static str>, events: &[Event]) -> Result<(), AllocError>
+fn push_kinds(kinds: &mut Vec<&'static str>, events: &[Event]) -> Result<(), OutOfMemory>
     ensures { OnOk result (map (λ kind. kind.now) kinds.new.items ≡ map (λ kind. kind.now) kinds.old.items ++ kinds_in events.now) }
 {
     for event in events {
@@ -228,7 +228,7 @@ fn push_kinds(kinds: &mut Vec<&'static str>, events: &[Event]) -> Result<(), All
 }
 
 /// The names of the kinds of the events of batches.
-pub(crate) fn kinds_of(alloc: Global, batches: &[&Batch]) -> Result<Vec<&'static str>, AllocError>
+pub(crate) fn kinds_of(alloc: Global, batches: &[&Batch]) -> Result<Vec<&'static str>, OutOfMemory>
     ensures { IfOk result (λ kinds. map (λ kind. kind.now) kinds.items ≡ kinds_of (map (λ b. b.now) batches.now)) }
 {
     let mut kinds = Vec::new(alloc);
@@ -265,7 +265,7 @@ fn copied_by(kind: &EventKind) -> Option<Origin>
 }
 
 /// Appends the origin, where there is one.
-fn push_copy(copies: &mut Vec<Origin>, copied: Option<Origin>) -> Result<(), AllocError>
+fn push_copy(copies: &mut Vec<Origin>, copied: Option<Origin>) -> Result<(), OutOfMemory>
     ensures { OnOk result (copies.new.items ≡ copies.old.items ++ cons_option copied []) }
 {
     if let Some(origin) = copied {
@@ -275,7 +275,7 @@ fn push_copy(copies: &mut Vec<Origin>, copied: Option<Origin>) -> Result<(), All
 }
 
 /// Appends the origins that events copy.
-fn push_copies(copies: &mut Vec<Origin>, events: &[Event]) -> Result<(), AllocError>
+fn push_copies(copies: &mut Vec<Origin>, events: &[Event]) -> Result<(), OutOfMemory>
     ensures { OnOk result (copies.new.items ≡ copies.old.items ++ copies_in events.now) }
 {
     for event in events {
@@ -285,7 +285,7 @@ fn push_copies(copies: &mut Vec<Origin>, events: &[Event]) -> Result<(), AllocEr
 }
 
 /// The origins that batches copy.
-pub(crate) fn copies_of(alloc: Global, batches: &[&Batch]) -> Result<Vec<Origin>, AllocError>
+pub(crate) fn copies_of(alloc: Global, batches: &[&Batch]) -> Result<Vec<Origin>, OutOfMemory>
     ensures { IfOk result (λ copies. copies.items ≡ copies_of (map (λ b. b.now) batches.now)) }
 {
     let mut copies = Vec::new(alloc);

@@ -8,10 +8,10 @@ use crate::loss::push_losses;
 use crate::piece::{Piece, push_pieces};
 use crate::writer::writer_name;
 use ndc_domain::Clusters;
-use ndc_event::{BatchKey, Event, RunId};
+use ndc_event::{BatchKey, Event, OutOfMemory, RunId};
 use ndc_model_sets::{BranchView, RunView};
 use ndc_text::line::push_run_line;
-use std::alloc::{AllocError, Global};
+use std::alloc::Global;
 
 /// The branch that leads.
 pub(crate) fn leader(branches: &[BranchView]) -> Option<&BranchView>
@@ -30,7 +30,7 @@ fn push_leading(
     text: &mut Vec<u8>,
     clusters: &Option<Clusters>,
     branch: &BranchView,
-) -> Result<(), AllocError>
+) -> Result<(), OutOfMemory>
     ensures { OnOk result (text.new.items ≡ text.old.items ++ leading_line clusters.now branch.now) }
 {
     let version = branch.tip.version;
@@ -53,7 +53,7 @@ fn push_losing(
     clusters: &Option<Clusters>,
     lead: &BranchView,
     branch: &BranchView,
-) -> Result<(), AllocError>
+) -> Result<(), OutOfMemory>
     ensures { OnOk result (text.new.items ≡ text.old.items ++ losing_line clusters.now lead.now branch.now) }
 {
     let greater = lead.tip.version;
@@ -86,7 +86,7 @@ fn push_branch(
     clusters: &Option<Clusters>,
     lead: &BranchView,
     branch: &BranchView,
-) -> Result<(), AllocError>
+) -> Result<(), OutOfMemory>
     ensures { OnOk result (text.new.items ≡ text.old.items ++ branch_told clusters.now lead.now branch.now) }
 {
     if branch.is_current {
@@ -102,7 +102,7 @@ fn push_beside(
     clusters: &Option<Clusters>,
     lead: &BranchView,
     branches: &[BranchView],
-) -> Result<(), AllocError>
+) -> Result<(), OutOfMemory>
     ensures { OnOk result (text.new.items ≡ text.old.items ++ flat_map (branch_told clusters.now lead.now) branches.now) }
 {
     for branch in branches {
@@ -116,7 +116,7 @@ fn push_branches(
     text: &mut Vec<u8>,
     clusters: &Option<Clusters>,
     branches: &[BranchView],
-) -> Result<(), AllocError>
+) -> Result<(), OutOfMemory>
     ensures { OnOk result (text.new.items ≡ text.old.items ++ branches_told clusters.now (leader branches.now) branches.now) }
 {
     match leader(branches) {
@@ -133,7 +133,7 @@ fn push_run<'x>(
     clusters: &'x Option<Clusters>,
     lost: &[(RunId, BatchKey, &'x Event)],
     run: &RunView,
-) -> Result<(), AllocError>
+) -> Result<(), OutOfMemory>
     ensures { OnOk result (text.new.items ≡ text.old.items ++ run_told clusters.now (map (λ entry. (entry.0, entry.1, entry.2.now)) lost.now) run.now) }
 {
     push_run_line(alloc, text, run)?;
@@ -148,7 +148,7 @@ pub(crate) fn push_runs<'x>(
     clusters: &'x Option<Clusters>,
     lost: &[(RunId, BatchKey, &'x Event)],
     runs: &[RunView],
-) -> Result<(), AllocError>
+) -> Result<(), OutOfMemory>
     ensures { OnOk result (text.new.items ≡ text.old.items ++ flat_map (run_told clusters.now (map (λ entry. (entry.0, entry.1, entry.2.now)) lost.now)) runs.now) }
 {
     for run in runs {

@@ -3,8 +3,7 @@ ghost use Rattle.std.specs.Prelude.{◌≡◌, ◌<◌, is_some, length, IfSome,
 ghost use Rattle.ndc_explain.specs.Graph.{column_from, column_of, columns_behind, empty_from, is_column, next_of, put, with_column};
 
 use crate::summary::Summary;
-use ndc_event::BatchKey;
-use std::alloc::AllocError;
+use ndc_event::{BatchKey, OutOfMemory};
 
 /// Whether a column goes on with this batch.
 pub(crate) fn is_column(key: BatchKey, column: Option<BatchKey>) -> bool
@@ -54,7 +53,7 @@ fn put(
     columns: &mut Vec<Option<BatchKey>>,
     place: Option<usize>,
     column: Option<BatchKey>,
-) -> Result<(), AllocError>
+) -> Result<(), OutOfMemory>
     requires { IfSome place (λ place. place < length columns.old.items) }
     ensures { OnOk result (columns.new.items ≡ put place column columns.old.items) }
 {
@@ -70,7 +69,7 @@ fn put(
 }
 
 /// Makes a column for this batch, where there is none.
-pub(crate) fn widen(columns: &mut Vec<Option<BatchKey>>, key: BatchKey) -> Result<(), AllocError>
+pub(crate) fn widen(columns: &mut Vec<Option<BatchKey>>, key: BatchKey) -> Result<(), OutOfMemory>
     ensures { OnOk result (columns.new.items ≡ with_column key columns.old.items) }
 {
     if has_column(key, columns.as_slice()) {
@@ -101,7 +100,7 @@ fn next_of(parent: Option<BatchKey>, columns: &[Option<BatchKey>]) -> Option<Bat
 pub(crate) fn go_behind(
     columns: &mut Vec<Option<BatchKey>>,
     summary: Summary,
-) -> Result<(), AllocError>
+) -> Result<(), OutOfMemory>
     ensures { OnOk result (columns.new.items ≡ columns_behind summary columns.old.items) }
 {
     let place = column_of(summary.last, columns.as_slice());

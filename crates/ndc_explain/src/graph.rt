@@ -12,10 +12,10 @@ use crate::writer::writer_name;
 use ndc_domain::Clusters;
 use ndc_dump::Dump;
 use ndc_dump_causes::keys::KeySet;
-use ndc_event::{Batch, BatchKey, Origin};
+use ndc_event::{Batch, BatchKey, Origin, OutOfMemory};
 use ndc_history::Item;
 use ndc_text::dump::push_heading;
-use std::alloc::{AllocError, Global};
+use std::alloc::Global;
 use std::marker::Model;
 
 /// The mark of a column beside a block: a star or an o for the block itself.
@@ -40,7 +40,7 @@ fn push_nodes(
     stands: bool,
     key: BatchKey,
     columns: &[Option<BatchKey>],
-) -> Result<(), AllocError>
+) -> Result<(), OutOfMemory>
     ensures { OnOk result (text.new.items ≡ text.old.items ++ flat_map (node_text stands key) columns.now) }
 {
     for column in columns {
@@ -97,7 +97,7 @@ fn push_joint(
     parent: BatchKey,
     inside: bool,
     column: Option<BatchKey>,
-) -> Result<(), AllocError>
+) -> Result<(), OutOfMemory>
     ensures { OnOk result (text.new.items ≡ text.old.items
         ++ (joint_text key parent inside column ++ between_text (is_inside key parent inside column))) }
 {
@@ -112,7 +112,7 @@ fn push_joint_line(
     key: BatchKey,
     parent: BatchKey,
     columns: &[Option<BatchKey>],
-) -> Result<(), AllocError>
+) -> Result<(), OutOfMemory>
     ensures { OnOk result (text.new.items ≡ text.old.items ++ joint_line key parent false columns.now) }
 {
     let mut inside = false;
@@ -129,7 +129,7 @@ fn push_joint_of(
     key: BatchKey,
     parent: Option<BatchKey>,
     columns: &[Option<BatchKey>],
-) -> Result<(), AllocError>
+) -> Result<(), OutOfMemory>
     ensures { OnOk result (text.new.items ≡ text.old.items ++ joint_of key parent columns.now) }
 {
     match parent {
@@ -157,7 +157,7 @@ fn push_head(
     clusters: &Option<Clusters>,
     stands: bool,
     summary: Summary,
-) -> Result<(), AllocError>
+) -> Result<(), OutOfMemory>
     ensures { OnOk result (text.new.items ≡ text.old.items ++ block_head clusters.now stands summary) }
 {
     push_pieces(
@@ -174,7 +174,7 @@ fn push_head(
 }
 
 /// Appends a signal event that a block copies.
-fn push_copy(text: &mut Vec<u8>, origin: Origin) -> Result<(), AllocError>
+fn push_copy(text: &mut Vec<u8>, origin: Origin) -> Result<(), OutOfMemory>
     ensures { OnOk result (text.new.items ≡ text.old.items ++ copy_text origin) }
 {
     push_pieces(
@@ -190,7 +190,7 @@ fn push_copy(text: &mut Vec<u8>, origin: Origin) -> Result<(), AllocError>
 }
 
 /// Appends the signal events that a block copies.
-fn push_copies(text: &mut Vec<u8>, origins: &[Origin]) -> Result<(), AllocError>
+fn push_copies(text: &mut Vec<u8>, origins: &[Origin]) -> Result<(), OutOfMemory>
     ensures { OnOk result (text.new.items ≡ text.old.items ++ flat_map copy_text origins.now) }
 {
     for origin in origins {
@@ -200,14 +200,14 @@ fn push_copies(text: &mut Vec<u8>, origins: &[Origin]) -> Result<(), AllocError>
 }
 
 /// Appends a kind of event.
-fn push_kind(text: &mut Vec<u8>, kind: &'static str) -> Result<(), AllocError>
+fn push_kind(text: &mut Vec<u8>, kind: &'static str) -> Result<(), OutOfMemory>
     ensures { OnOk result (text.new.items ≡ text.old.items ++ kind_word kind.now) }
 {
     push_pieces(text, &[Piece::Plain(" "), Piece::Plain(kind)])
 }
 
 /// Appends kinds of events.
-fn push_kinds(text: &mut Vec<u8>, kinds: &[&'static str]) -> Result<(), AllocError>
+fn push_kinds(text: &mut Vec<u8>, kinds: &[&'static str]) -> Result<(), OutOfMemory>
     ensures { OnOk result (text.new.items ≡ text.old.items ++ flat_map kind_word (map (λ kind. kind.now) kinds.now)) }
 {
     for kind in kinds {
@@ -217,7 +217,7 @@ fn push_kinds(text: &mut Vec<u8>, kinds: &[&'static str]) -> Result<(), AllocErr
 }
 
 /// Appends how many events are not told, where there are such.
-fn push_more(text: &mut Vec<u8>, events: usize) -> Result<(), AllocError>
+fn push_more(text: &mut Vec<u8>, events: usize) -> Result<(), OutOfMemory>
     ensures { OnOk result (text.new.items ≡ text.old.items ++ more_words events) }
 {
     if 6 < events {
@@ -239,7 +239,7 @@ fn push_events(
     text: &mut Vec<u8>,
     kinds: &[&'static str],
     copies: &[Origin],
-) -> Result<(), AllocError>
+) -> Result<(), OutOfMemory>
     ensures { OnOk result (text.new.items ≡ text.old.items ++ block_events (map (λ kind. kind.now) kinds.now) copies.now) }
 {
     push_copies(text, copies)?;
@@ -258,7 +258,7 @@ fn push_row(
     batches: &[&Batch],
     summary: Summary,
     columns: &[Option<BatchKey>],
-) -> Result<(), AllocError>
+) -> Result<(), OutOfMemory>
     ensures { OnOk result (text.new.items ≡ text.old.items ++ row_text clusters.now stands (map (λ b. b.now) batches.now) summary columns.now) }
 {
     let kinds = kinds_of(alloc, batches)?;
@@ -307,7 +307,7 @@ impl Graph {
         keys: &KeySet,
         batches: &[&Batch],
         summary: Summary,
-    ) -> Result<(), AllocError>
+    ) -> Result<(), OutOfMemory>
         ensures { OnOk result (self.new ≡ with_row clusters.now keys.now (map (λ b. b.now) batches.now) summary self.old) }
     {
         let stands = keys.contains(summary.first);
@@ -331,7 +331,7 @@ impl Graph {
         keys: &KeySet,
         batches: &[&Batch],
         summary: Option<Summary>,
-    ) -> Result<(), AllocError>
+    ) -> Result<(), OutOfMemory>
         ensures { OnOk result (self.new ≡ with_block clusters.now keys.now (map (λ b. b.now) batches.now) summary self.old) }
     {
         match summary {
@@ -350,7 +350,7 @@ impl Graph {
         clusters: &Option<Clusters>,
         keys: &KeySet,
         block: &Block,
-    ) -> Result<(), AllocError>
+    ) -> Result<(), OutOfMemory>
         ensures { OnOk result (self.new ≡ with_block clusters.now keys.now block.now (summary_of block.now) self.old) }
     {
         let batches = block.as_slice();
@@ -364,7 +364,7 @@ impl Graph {
         clusters: &Option<Clusters>,
         keys: &KeySet,
         blocks: &[Block],
-    ) -> Result<(), AllocError>
+    ) -> Result<(), OutOfMemory>
         ensures { OnOk result (self.new ≡ with_blocks clusters.now keys.now blocks.now self.old) }
     {
         let mut place = blocks.len();
@@ -382,7 +382,7 @@ pub(crate) fn push_tree_picture(
     text: &mut Vec<u8>,
     clusters: &Option<Clusters>,
     dump: &Dump,
-) -> Result<(), AllocError>
+) -> Result<(), OutOfMemory>
     ensures { OnOk result (text.new.items ≡ text.old.items ++ tree_picture_of clusters.now dump.now) }
 {
     let keys = standing(alloc, true, &dump.view)?;

@@ -6,8 +6,8 @@ ghost use Rattle.ndc_explain.specs.Layout.{depth_of, height_for, is_lane, layout
 use crate::blocks::{Block, kinds_of, summary_of};
 use crate::places::{Place, Places, bottom_of};
 use crate::summary::Summary;
-use ndc_event::{Batch, BatchKey};
-use std::alloc::{AllocError, Global};
+use ndc_event::{Batch, BatchKey, OutOfMemory};
+use std::alloc::Global;
 
 /// The sum of two lengths; the greatest that can be told where it is longer.
 pub(crate) fn plus(one: u64, two: u64) -> u64
@@ -114,7 +114,7 @@ impl Layout {
     }
 
     /// Puts batches to a place as one block.
-    fn put(&mut self, batches: &[&Batch], place: Place) -> Result<(), AllocError>
+    fn put(&mut self, batches: &[&Batch], place: Place) -> Result<(), OutOfMemory>
         ensures { OnOk result (self.new ≡ with_place (map (λ b. b.now) batches.now) place self.old) }
     {
         self.bottom = place.bottom;
@@ -123,7 +123,12 @@ impl Layout {
     }
 
     /// Puts batches as one block into the lane.
-    fn lay(&mut self, alloc: Global, batches: &[&Batch], summary: Summary) -> Result<(), AllocError>
+    fn lay(
+        &mut self,
+        alloc: Global,
+        batches: &[&Batch],
+        summary: Summary,
+    ) -> Result<(), OutOfMemory>
         ensures { OnOk result (self.new ≡ with_laid (map (λ b. b.now) batches.now) summary self.old) }
     {
         let kinds = kinds_of(alloc, batches)?;
@@ -138,7 +143,7 @@ impl Layout {
         alloc: Global,
         batches: &[&Batch],
         summary: Option<Summary>,
-    ) -> Result<(), AllocError>
+    ) -> Result<(), OutOfMemory>
         ensures { OnOk result (self.new ≡ with_block (map (λ b. b.now) batches.now) summary self.old) }
     {
         match summary {
@@ -151,7 +156,7 @@ impl Layout {
     }
 
     /// Puts each block into the lane of its version.
-    fn add_all(&mut self, alloc: Global, blocks: &[Block]) -> Result<(), AllocError>
+    fn add_all(&mut self, alloc: Global, blocks: &[Block]) -> Result<(), OutOfMemory>
         ensures { OnOk result (self.new ≡ with_blocks blocks.now self.old) }
     {
         for block in blocks {
@@ -177,7 +182,7 @@ impl Layout {
 }
 
 /// The layout of blocks.
-pub(crate) fn layout_of(alloc: Global, blocks: &[Block]) -> Result<Layout, AllocError>
+pub(crate) fn layout_of(alloc: Global, blocks: &[Block]) -> Result<Layout, OutOfMemory>
     ensures { IfOk result (λ layout. layout ≡ layout_of blocks.now) }
 {
     let mut layout = Layout::new(alloc);

@@ -8,9 +8,9 @@ use crate::piece::{Piece, push_pieces};
 use crate::writer::writer_name;
 use ndc_domain::Clusters;
 use ndc_dump_causes::keys::KeySet;
-use ndc_event::{Batch, BatchKey, Event, EventKind, RunId};
+use ndc_event::{Batch, BatchKey, Event, EventKind, OutOfMemory, RunId};
 use ndc_history::Item;
-use std::alloc::{AllocError, Global};
+use std::alloc::Global;
 
 /// Whether the event of a run is no signal.
 fn is_no_signal(run: RunId, event: &Event) -> bool
@@ -28,7 +28,7 @@ fn push_unless_signal<'b>(
     lost: &mut Vec<(RunId, BatchKey, &'b Event)>,
     batch: &Batch,
     event: &'b Event,
-) -> Result<(), AllocError>
+) -> Result<(), OutOfMemory>
     ensures { OnOk result (map (λ entry. (entry.0, entry.1, entry.2.now)) lost.new.items ≡ map (λ entry. (entry.0, entry.1, entry.2.now)) lost.old.items ++ given_up_at batch.now event.now) }
 {
     if is_no_signal(batch.run, event) {
@@ -42,7 +42,7 @@ fn push_given_up<'b>(
     lost: &mut Vec<(RunId, BatchKey, &'b Event)>,
     batch: &Batch,
     events: &'b [Event],
-) -> Result<(), AllocError>
+) -> Result<(), OutOfMemory>
     ensures { OnOk result (map (λ entry. (entry.0, entry.1, entry.2.now)) lost.new.items ≡ map (λ entry. (entry.0, entry.1, entry.2.now)) lost.old.items ++ given_up_in batch.now events.now) }
 {
     for event in events {
@@ -56,7 +56,7 @@ pub(crate) fn given_up<'b>(
     alloc: Global,
     keys: &KeySet,
     batches: &'b [Batch],
-) -> Result<Vec<(RunId, BatchKey, &'b Event)>, AllocError>
+) -> Result<Vec<(RunId, BatchKey, &'b Event)>, OutOfMemory>
     ensures { IfOk result (λ lost. map (λ entry. (entry.0, entry.1, entry.2.now)) lost.items ≡ given_up keys.now batches.now) }
 {
     let mut lost = Vec::new(alloc);
@@ -110,7 +110,7 @@ fn push_loss<'x>(
     clusters: &'x Option<Clusters>,
     key: BatchKey,
     event: &'x Event,
-) -> Result<(), AllocError>
+) -> Result<(), OutOfMemory>
     ensures { OnOk result (text.new.items ≡ text.old.items ++ given_up_line clusters.now key event.now) }
 {
     push_pieces(
@@ -138,7 +138,7 @@ fn push_loss_of<'x>(
     clusters: &'x Option<Clusters>,
     run: RunId,
     entry: (RunId, BatchKey, &'x Event),
-) -> Result<(), AllocError>
+) -> Result<(), OutOfMemory>
     ensures { OnOk result (text.new.items ≡ text.old.items ++ loss_told clusters.now run (entry.entry.0, entry.entry.1, entry.entry.2.now)) }
 {
     if entry.0.value == run.value {
@@ -154,7 +154,7 @@ pub(crate) fn push_losses<'x>(
     clusters: &'x Option<Clusters>,
     run: RunId,
     lost: &[(RunId, BatchKey, &'x Event)],
-) -> Result<(), AllocError>
+) -> Result<(), OutOfMemory>
     ensures { OnOk result (text.new.items ≡ text.old.items ++ losses_told clusters.now run (map (λ entry. (entry.0, entry.1, entry.2.now)) lost.now)) }
 {
     for entry in lost {

@@ -14,14 +14,14 @@ use crate::writer::writer_name;
 use ndc_domain::Clusters;
 use ndc_dump::Dump;
 use ndc_dump_causes::keys::KeySet;
-use ndc_event::{Batch, BatchKey, Name, Origin};
+use ndc_event::{Batch, BatchKey, Name, Origin, OutOfMemory};
 use ndc_model_sets::View;
-use std::alloc::{AllocError, Global};
+use std::alloc::Global;
 use std::marker::Model;
 
 /// Appends the beginning of the document.
 #[tactic(auto, unfolding(crate::specs::Picture::size_text))]
-fn push_size(text: &mut Vec<u8>, width: u64, depth: u64) -> Result<(), AllocError>
+fn push_size(text: &mut Vec<u8>, width: u64, depth: u64) -> Result<(), OutOfMemory>
     ensures { OnOk result (text.new.items ≡ text.old.items ++ size_text width depth) }
 {
     push_pieces(
@@ -42,7 +42,7 @@ fn push_size(text: &mut Vec<u8>, width: u64, depth: u64) -> Result<(), AllocErro
 
 /// Appends how lines and boxes look.
 #[tactic(auto, unfolding(crate::specs::Picture::style_text))]
-fn push_style(text: &mut Vec<u8>) -> Result<(), AllocError>
+fn push_style(text: &mut Vec<u8>) -> Result<(), OutOfMemory>
     ensures { OnOk result (text.new.items ≡ text.old.items ++ style_text) }
 {
     push_pieces(
@@ -77,7 +77,7 @@ fn push_title<'n>(
     text: &mut Vec<u8>,
     domain: &'n [u8],
     workflow: &'n [u8],
-) -> Result<(), AllocError>
+) -> Result<(), OutOfMemory>
     ensures { OnOk result (text.new.items ≡ text.old.items ++ title_text domain.now workflow.now) }
 {
     push_pieces(
@@ -100,7 +100,7 @@ fn push_title<'n>(
 
 /// Appends what its lines say.
 #[tactic(auto, unfolding(crate::specs::Picture::legend_text))]
-fn push_legend(text: &mut Vec<u8>) -> Result<(), AllocError>
+fn push_legend(text: &mut Vec<u8>) -> Result<(), OutOfMemory>
     ensures { OnOk result (text.new.items ≡ text.old.items ++ legend_text) }
 {
     push_pieces(
@@ -129,7 +129,7 @@ fn push_lane(
     clusters: &Option<Clusters>,
     version: u64,
     left: u64,
-) -> Result<(), AllocError>
+) -> Result<(), OutOfMemory>
     ensures { OnOk result (text.new.items ≡ text.old.items ++ lane_text clusters.now version left) }
 {
     push_pieces(
@@ -170,7 +170,7 @@ fn push_straight(
     class: &'static str,
     from: Place,
     to: Place,
-) -> Result<(), AllocError>
+) -> Result<(), OutOfMemory>
     ensures { OnOk result (text.new.items ≡ text.old.items ++ straight_text class.now from to) }
 {
     push_pieces(
@@ -196,7 +196,7 @@ fn push_bent(
     class: &'static str,
     from: Place,
     to: Place,
-) -> Result<(), AllocError>
+) -> Result<(), OutOfMemory>
     ensures { OnOk result (text.new.items ≡ text.old.items ++ bent_text class.now from to) }
 {
     push_pieces(
@@ -227,7 +227,7 @@ fn push_line(
     class: &'static str,
     from: Option<&Place>,
     to: Place,
-) -> Result<(), AllocError>
+) -> Result<(), OutOfMemory>
     ensures { OnOk result (text.new.items ≡ text.old.items ++ line_text class.now (option_copied from.entry) to) }
 {
     match from {
@@ -262,7 +262,7 @@ fn push_arrow_path(
     turn: u64,
     depth: u64,
     side: u64,
-) -> Result<(), AllocError>
+) -> Result<(), OutOfMemory>
     ensures { OnOk result (text.new.items ≡ text.old.items ++ arrow_path left top turn depth side) }
 {
     push_pieces(
@@ -285,7 +285,7 @@ fn push_arrow_path(
 
 /// Appends an arrow from one block to another, where the first one has a place: it goes down on the right of the first
 /// one's lane.
-fn push_arrow(text: &mut Vec<u8>, from: Option<&Place>, to: Place) -> Result<(), AllocError>
+fn push_arrow(text: &mut Vec<u8>, from: Option<&Place>, to: Place) -> Result<(), OutOfMemory>
     ensures { OnOk result (text.new.items ≡ text.old.items ++ arrow_text (option_copied from.entry) to) }
 {
     match from {
@@ -307,7 +307,7 @@ fn push_arrows(
     places: &Places,
     to: Place,
     origins: &[Origin],
-) -> Result<(), AllocError>
+) -> Result<(), OutOfMemory>
     ensures { OnOk result (text.new.items ≡ text.old.items ++ arrows_text places.now to origins.now) }
 {
     for origin in origins {
@@ -324,7 +324,7 @@ fn push_rect(
     left: u64,
     top: u64,
     height: u64,
-) -> Result<(), AllocError>
+) -> Result<(), OutOfMemory>
     ensures { OnOk result (text.new.items ≡ text.old.items ++ rect_text class.now left top height) }
 {
     push_pieces(
@@ -345,7 +345,7 @@ fn push_rect(
 
 /// Appends the key and the run of a block, where its text begins.
 #[tactic(auto, unfolding(crate::specs::Picture::name_text))]
-fn push_name(text: &mut Vec<u8>, summary: Summary, left: u64, base: u64) -> Result<(), AllocError>
+fn push_name(text: &mut Vec<u8>, summary: Summary, left: u64, base: u64) -> Result<(), OutOfMemory>
     ensures { OnOk result (text.new.items ≡ text.old.items ++ name_text summary left base) }
 {
     push_pieces(
@@ -372,7 +372,7 @@ fn push_box(
     class: &'static str,
     summary: Summary,
     place: Place,
-) -> Result<(), AllocError>
+) -> Result<(), OutOfMemory>
     ensures { OnOk result (text.new.items ≡ text.old.items ++ box_text class.now summary place) }
 {
     let height = place.bottom.saturating_sub(place.top);
@@ -382,7 +382,7 @@ fn push_box(
 
 /// Appends a line for a kind of event.
 #[tactic(auto, unfolding(crate::specs::Picture::kind_text))]
-fn push_kind(text: &mut Vec<u8>, left: u64, kind: &'static str) -> Result<(), AllocError>
+fn push_kind(text: &mut Vec<u8>, left: u64, kind: &'static str) -> Result<(), OutOfMemory>
     ensures { OnOk result (text.new.items ≡ text.old.items ++ kind_text left kind.now) }
 {
     push_pieces(
@@ -398,7 +398,7 @@ fn push_kind(text: &mut Vec<u8>, left: u64, kind: &'static str) -> Result<(), Al
 }
 
 /// Appends a line for each of these kinds.
-fn push_each_kind(text: &mut Vec<u8>, left: u64, kinds: &[&'static str]) -> Result<(), AllocError>
+fn push_each_kind(text: &mut Vec<u8>, left: u64, kinds: &[&'static str]) -> Result<(), OutOfMemory>
     ensures { OnOk result (text.new.items ≡ text.old.items ++ flat_map (kind_text left) (map (λ kind. kind.now) kinds.now)) }
 {
     for kind in kinds {
@@ -409,7 +409,7 @@ fn push_each_kind(text: &mut Vec<u8>, left: u64, kinds: &[&'static str]) -> Resu
 
 /// Appends how many events are not told, where there are such.
 #[tactic(auto, unfolding(crate::specs::Picture::more_text))]
-fn push_more(text: &mut Vec<u8>, left: u64, events: usize) -> Result<(), AllocError>
+fn push_more(text: &mut Vec<u8>, left: u64, events: usize) -> Result<(), OutOfMemory>
     ensures { OnOk result (text.new.items ≡ text.old.items ++ more_text left events) }
 {
     if 6 < events {
@@ -429,7 +429,7 @@ fn push_more(text: &mut Vec<u8>, left: u64, events: usize) -> Result<(), AllocEr
 }
 
 /// Appends the lines for the events of a block.
-fn push_kinds(text: &mut Vec<u8>, left: u64, kinds: &[&'static str]) -> Result<(), AllocError>
+fn push_kinds(text: &mut Vec<u8>, left: u64, kinds: &[&'static str]) -> Result<(), OutOfMemory>
     ensures { OnOk result (text.new.items ≡ text.old.items ++ kinds_text left (map (λ kind. kind.now) kinds.now)) }
 {
     push_each_kind(text, left, kinds_told(kinds))?;
@@ -455,7 +455,7 @@ impl<'v> Model for Drawing<'v> {
 }
 
 /// What of a view is drawn.
-fn drawn<'v>(alloc: Global, view: &'v View) -> Result<Drawing<'v>, AllocError>
+fn drawn<'v>(alloc: Global, view: &'v View) -> Result<Drawing<'v>, OutOfMemory>
     ensures { IfOk result (λ drawing. drawing ≡ drawn view.now) }
 {
     let blocks = blocks_of(alloc, view.batches.as_slice())?;
@@ -483,7 +483,7 @@ impl<'v> Drawing<'v> {
         batches: &[&Batch],
         summary: Summary,
         place: Place,
-    ) -> Result<(), AllocError>
+    ) -> Result<(), OutOfMemory>
         ensures { OnOk result (text.new.items ≡ text.old.items ++ lines_to self.now (map (λ b. b.now) batches.now) summary (Some place)) }
     {
         let places = &self.layout.places;
@@ -499,7 +499,7 @@ impl<'v> Drawing<'v> {
         alloc: Global,
         text: &mut Vec<u8>,
         batches: &[&Batch],
-    ) -> Result<(), AllocError>
+    ) -> Result<(), OutOfMemory>
         ensures { OnOk result (text.new.items ≡ text.old.items ++ lines_of self.now (map (λ b. b.now) batches.now) (summary_of (map (λ b. b.now) batches.now))) }
     {
         let Some(summary) = summary_of(batches) else {
@@ -512,7 +512,7 @@ impl<'v> Drawing<'v> {
     }
 
     /// Appends the lines to each block.
-    fn push_lines(&self, alloc: Global, text: &mut Vec<u8>) -> Result<(), AllocError>
+    fn push_lines(&self, alloc: Global, text: &mut Vec<u8>) -> Result<(), OutOfMemory>
         ensures { OnOk result (text.new.items ≡ text.old.items ++ flat_map (λ block. lines_of self.now block (summary_of block)) self.now.blocks) }
     {
         for block in self.blocks.as_slice() {
@@ -529,7 +529,7 @@ impl<'v> Drawing<'v> {
         batches: &[&Batch],
         summary: Summary,
         place: Place,
-    ) -> Result<(), AllocError>
+    ) -> Result<(), OutOfMemory>
         ensures { OnOk result (text.new.items ≡ text.old.items ++ box_at self.now (map (λ b. b.now) batches.now) summary (Some place)) }
     {
         push_box(text, class_of(&self.keys, summary.first), summary, place)?;
@@ -546,7 +546,7 @@ impl<'v> Drawing<'v> {
         alloc: Global,
         text: &mut Vec<u8>,
         batches: &[&Batch],
-    ) -> Result<(), AllocError>
+    ) -> Result<(), OutOfMemory>
         ensures { OnOk result (text.new.items ≡ text.old.items ++ box_of self.now (map (λ b. b.now) batches.now) (summary_of (map (λ b. b.now) batches.now))) }
     {
         let Some(summary) = summary_of(batches) else {
@@ -559,7 +559,7 @@ impl<'v> Drawing<'v> {
     }
 
     /// Appends the boxes of the blocks.
-    fn push_boxes(&self, alloc: Global, text: &mut Vec<u8>) -> Result<(), AllocError>
+    fn push_boxes(&self, alloc: Global, text: &mut Vec<u8>) -> Result<(), OutOfMemory>
         ensures { OnOk result (text.new.items ≡ text.old.items ++ flat_map (λ block. box_of self.now block (summary_of block)) self.now.blocks) }
     {
         for block in self.blocks.as_slice() {
@@ -574,7 +574,7 @@ impl<'v> Drawing<'v> {
         alloc: Global,
         text: &mut Vec<u8>,
         clusters: &Option<Clusters>,
-    ) -> Result<(), AllocError>
+    ) -> Result<(), OutOfMemory>
         ensures { OnOk result (text.new.items ≡ text.old.items ++ lanes_text clusters.now self.now) }
     {
         push_heads(text, clusters, &self.layout.places, self.blocks.as_slice())?;
@@ -589,7 +589,7 @@ fn push_head_at(
     clusters: &Option<Clusters>,
     version: u64,
     place: Option<&Place>,
-) -> Result<(), AllocError>
+) -> Result<(), OutOfMemory>
     ensures { OnOk result (text.new.items ≡ text.old.items ++ head_at clusters.now version (option_copied place.entry)) }
 {
     match place {
@@ -605,7 +605,7 @@ fn push_head_of(
     places: &Places,
     before: Option<u64>,
     summary: Option<Summary>,
-) -> Result<(), AllocError>
+) -> Result<(), OutOfMemory>
     ensures { OnOk result (text.new.items ≡ text.old.items ++ head_of clusters.now places.now before summary) }
 {
     let Some(summary) = summary else {
@@ -640,7 +640,7 @@ fn push_heads(
     clusters: &Option<Clusters>,
     places: &Places,
     blocks: &[Block],
-) -> Result<(), AllocError>
+) -> Result<(), OutOfMemory>
     ensures { OnOk result (text.new.items ≡ text.old.items ++ heads_of clusters.now places.now None blocks.now) }
 {
     let mut before = None;
@@ -658,7 +658,7 @@ fn push_frame(
     domain: &Name,
     workflow: &Name,
     layout: &Layout,
-) -> Result<(), AllocError>
+) -> Result<(), OutOfMemory>
     ensures { OnOk result (text.new.items ≡ text.old.items ++ frame_text domain.now workflow.now layout.now) }
 {
     push_size(text, layout.width(), layout.depth())?;
@@ -674,7 +674,7 @@ fn push_drawing(
     clusters: &Option<Clusters>,
     dump: &Dump,
     drawing: &Drawing,
-) -> Result<(), AllocError>
+) -> Result<(), OutOfMemory>
     ensures { OnOk result (text.new.items ≡ text.old.items ++ picture_with clusters.now dump.now drawing.now) }
 {
     push_frame(text, &dump.domain, &dump.workflow, &drawing.layout)?;
@@ -688,7 +688,7 @@ pub(crate) fn push_picture(
     text: &mut Vec<u8>,
     clusters: &Option<Clusters>,
     dump: &Dump,
-) -> Result<(), AllocError>
+) -> Result<(), OutOfMemory>
     ensures { OnOk result (text.new.items ≡ text.old.items ++ picture_of clusters.now dump.now) }
 {
     let drawing = drawn(alloc, &dump.view)?;

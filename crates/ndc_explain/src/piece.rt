@@ -6,10 +6,9 @@ ghost use Rattle.ndc_text.specs.Views.{key_text};
 ghost use Rattle.ndc_explain.specs.Pieces.{behind_space, by_text, carrier_text, escaped, escaped_by_text, escaped_text, piece_text, shared_text, span_text};
 
 use crate::summary::Summary;
-use ndc_event::{BatchKey, RunId};
+use ndc_event::{BatchKey, OutOfMemory, RunId};
 use ndc_history::Item;
 use ndc_text::line::{push_item, push_key, push_number};
-use std::alloc::AllocError;
 
 /// A piece of a line.
 #[derive(Clone, Copy)]
@@ -43,7 +42,7 @@ pub(crate) enum Piece<'a> {
 }
 
 /// Appends ` by` and a name, where it is not empty.
-fn push_writer(text: &mut Vec<u8>, name: &[u8]) -> Result<(), AllocError>
+fn push_writer(text: &mut Vec<u8>, name: &[u8]) -> Result<(), OutOfMemory>
     ensures { OnOk result (text.new.items ≡ text.old.items ++ by_text name.now) }
 {
     match name {
@@ -56,7 +55,7 @@ fn push_writer(text: &mut Vec<u8>, name: &[u8]) -> Result<(), AllocError>
 }
 
 /// Appends a name behind a space, where it is not empty.
-fn push_name(text: &mut Vec<u8>, name: &[u8]) -> Result<(), AllocError>
+fn push_name(text: &mut Vec<u8>, name: &[u8]) -> Result<(), OutOfMemory>
     ensures { OnOk result (text.new.items ≡ text.old.items ++ behind_space name.now) }
 {
     match name {
@@ -69,7 +68,7 @@ fn push_name(text: &mut Vec<u8>, name: &[u8]) -> Result<(), AllocError>
 }
 
 /// Appends what two branches share.
-fn push_shared(text: &mut Vec<u8>, shared: Option<Item>) -> Result<(), AllocError>
+fn push_shared(text: &mut Vec<u8>, shared: Option<Item>) -> Result<(), OutOfMemory>
     ensures { OnOk result (text.new.items ≡ text.old.items ++ shared_text shared) }
 {
     match shared {
@@ -83,7 +82,7 @@ fn push_shared(text: &mut Vec<u8>, shared: Option<Item>) -> Result<(), AllocErro
 }
 
 /// Appends a byte of a name as it stands in an XML document.
-fn push_escaped_byte(text: &mut Vec<u8>, byte: u8) -> Result<(), AllocError>
+fn push_escaped_byte(text: &mut Vec<u8>, byte: u8) -> Result<(), OutOfMemory>
     ensures { OnOk result (text.new.items ≡ text.old.items ++ escaped byte) }
 {
     if byte == 38 {
@@ -99,7 +98,7 @@ fn push_escaped_byte(text: &mut Vec<u8>, byte: u8) -> Result<(), AllocError>
 }
 
 /// Appends a name as it stands in an XML document.
-fn push_escaped(text: &mut Vec<u8>, bytes: &[u8]) -> Result<(), AllocError>
+fn push_escaped(text: &mut Vec<u8>, bytes: &[u8]) -> Result<(), OutOfMemory>
     ensures { OnOk result (text.new.items ≡ text.old.items ++ escaped_text bytes.now) }
 {
     for byte in bytes {
@@ -109,7 +108,7 @@ fn push_escaped(text: &mut Vec<u8>, bytes: &[u8]) -> Result<(), AllocError>
 }
 
 /// Appends ` by` and a name as it stands in an XML document, where it is not empty.
-fn push_escaped_writer(text: &mut Vec<u8>, name: &[u8]) -> Result<(), AllocError>
+fn push_escaped_writer(text: &mut Vec<u8>, name: &[u8]) -> Result<(), OutOfMemory>
     ensures { OnOk result (text.new.items ≡ text.old.items ++ escaped_by_text name.now) }
 {
     match name {
@@ -122,7 +121,7 @@ fn push_escaped_writer(text: &mut Vec<u8>, name: &[u8]) -> Result<(), AllocError
 }
 
 /// Appends the id of a run.
-fn push_run_id(text: &mut Vec<u8>, run: RunId) -> Result<(), AllocError>
+fn push_run_id(text: &mut Vec<u8>, run: RunId) -> Result<(), OutOfMemory>
     ensures { OnOk result (text.new.items ≡ text.old.items ++ run_text run) }
 {
     let alloc = *text.allocator();
@@ -130,7 +129,7 @@ fn push_run_id(text: &mut Vec<u8>, run: RunId) -> Result<(), AllocError>
 }
 
 /// Appends from which batch to which a block of several goes.
-fn push_several(text: &mut Vec<u8>, summary: Summary) -> Result<(), AllocError>
+fn push_several(text: &mut Vec<u8>, summary: Summary) -> Result<(), OutOfMemory>
     ensures { OnOk result (text.new.items ≡ text.old.items
         ++ concat (key_text summary.first ∷ codes " to " ∷ key_text summary.last ∷ codes ", " ∷ decimal summary.count ∷ codes " batches" ∷ [])) }
 {
@@ -143,7 +142,7 @@ fn push_several(text: &mut Vec<u8>, summary: Summary) -> Result<(), AllocError>
 }
 
 /// Appends from which batch to which a block goes.
-fn push_span(text: &mut Vec<u8>, summary: Summary) -> Result<(), AllocError>
+fn push_span(text: &mut Vec<u8>, summary: Summary) -> Result<(), OutOfMemory>
     ensures { OnOk result (text.new.items ≡ text.old.items ++ span_text summary) }
 {
     if summary.count == 1 {
@@ -154,7 +153,7 @@ fn push_span(text: &mut Vec<u8>, summary: Summary) -> Result<(), AllocError>
 }
 
 /// Appends the batch that a run continues, where there is one.
-fn push_carrier(text: &mut Vec<u8>, carrier: Option<BatchKey>) -> Result<(), AllocError>
+fn push_carrier(text: &mut Vec<u8>, carrier: Option<BatchKey>) -> Result<(), OutOfMemory>
     ensures { OnOk result (text.new.items ≡ text.old.items ++ carrier_text carrier) }
 {
     match carrier {
@@ -167,7 +166,7 @@ fn push_carrier(text: &mut Vec<u8>, carrier: Option<BatchKey>) -> Result<(), All
 }
 
 /// Appends a piece.
-fn push_piece(text: &mut Vec<u8>, piece: Piece) -> Result<(), AllocError>
+fn push_piece(text: &mut Vec<u8>, piece: Piece) -> Result<(), OutOfMemory>
     ensures { OnOk result (text.new.items ≡ text.old.items ++ piece_text piece.entry) }
 {
     match piece {
@@ -188,7 +187,7 @@ fn push_piece(text: &mut Vec<u8>, piece: Piece) -> Result<(), AllocError>
 }
 
 /// Appends pieces one after the other.
-pub(crate) fn push_pieces(text: &mut Vec<u8>, pieces: &[Piece]) -> Result<(), AllocError>
+pub(crate) fn push_pieces(text: &mut Vec<u8>, pieces: &[Piece]) -> Result<(), OutOfMemory>
     ensures { OnOk result (text.new.items ≡ text.old.items ++ concat (map piece_text pieces.now)) }
 {
     for piece in pieces {

@@ -4,9 +4,9 @@ ghost use Rattle.std.specs.Option.{option_copied};
 ghost use Rattle.ndc_explain.specs.Places.{bottom_of};
 
 use indexmap::IndexMap;
-use ndc_event::{Batch, BatchKey, Event, EventKind, Origin, Rare, RunId};
+use ndc_event::{Batch, BatchKey, Event, EventKind, Origin, OutOfMemory, Rare, RunId};
 use ndc_state::origin_of;
-use std::alloc::{AllocError, Global};
+use std::alloc::Global;
 use std::marker::Model;
 
 /// Where a block is drawn: the left end of its lane, and where it begins and ends in it.
@@ -80,7 +80,7 @@ impl Places {
         place: Place,
         origin: Origin,
         copied: Option<Origin>,
-    ) -> Result<(), AllocError>
+    ) -> Result<(), OutOfMemory>
         ensures { OnOk result (self.new ≡ with_own place origin copied self.old) }
     {
         match copied {
@@ -93,7 +93,7 @@ impl Places {
     }
 
     /// Takes an event of a run in at this place.
-    fn add_event(&mut self, place: Place, run: RunId, event: &Event) -> Result<(), AllocError>
+    fn add_event(&mut self, place: Place, run: RunId, event: &Event) -> Result<(), OutOfMemory>
         ensures { OnOk result (self.new ≡ with_kind place run event.now.id event.now.version event.now.kind self.old) }
     {
         match &event.kind {
@@ -109,7 +109,7 @@ impl Places {
     }
 
     /// Takes events of a run in at this place.
-    fn add_events(&mut self, place: Place, run: RunId, events: &[Event]) -> Result<(), AllocError>
+    fn add_events(&mut self, place: Place, run: RunId, events: &[Event]) -> Result<(), OutOfMemory>
         ensures { OnOk result (self.new ≡ with_events place run events.now self.old) }
     {
         for event in events {
@@ -119,7 +119,7 @@ impl Places {
     }
 
     /// Takes a batch in at this place, without its events.
-    fn add_key(&mut self, place: Place, key: BatchKey) -> Result<(), AllocError>
+    fn add_key(&mut self, place: Place, key: BatchKey) -> Result<(), OutOfMemory>
         ensures { OnOk result (self.new ≡ with_key place key self.old) }
     {
         self.keys.insert(key, place)?;
@@ -127,7 +127,11 @@ impl Places {
     }
 
     /// Takes batches in at this place.
-    pub(crate) fn add_batches(&mut self, place: Place, batches: &[&Batch]) -> Result<(), AllocError>
+    pub(crate) fn add_batches(
+        &mut self,
+        place: Place,
+        batches: &[&Batch],
+    ) -> Result<(), OutOfMemory>
         ensures { OnOk result (self.new ≡ with_batches place (map (λ b. b.now) batches.now) self.old) }
     {
         for batch in batches {

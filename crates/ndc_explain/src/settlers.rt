@@ -4,9 +4,9 @@ ghost use Rattle.ndc_explain.specs.Signals.{with_listed};
 
 use indexmap::IndexMap;
 use ndc_dump_causes::keys::KeySet;
-use ndc_event::{Batch, BatchKey, Event, EventKind, Origin};
+use ndc_event::{Batch, BatchKey, Event, EventKind, Origin, OutOfMemory};
 use ndc_state::origin_of;
-use std::alloc::{AllocError, Global};
+use std::alloc::Global;
 use std::marker::Model;
 
 /// A batch that settles a signal, with the signal itself or with a copy of it.
@@ -56,7 +56,7 @@ impl Settlers {
     }
 
     /// Takes an event of a batch in.
-    fn add_event(&mut self, batch: &Batch, event: &Event) -> Result<(), AllocError>
+    fn add_event(&mut self, batch: &Batch, event: &Event) -> Result<(), OutOfMemory>
         ensures { OnOk result (self.new ≡ with_kind batch.now event.now.id event.now.version event.now.kind self.old) }
     {
         match &event.kind {
@@ -74,7 +74,7 @@ impl Settlers {
     }
 
     /// Takes these events of a batch in.
-    fn add_events(&mut self, batch: &Batch, events: &[Event]) -> Result<(), AllocError>
+    fn add_events(&mut self, batch: &Batch, events: &[Event]) -> Result<(), OutOfMemory>
         ensures { OnOk result (self.new ≡ with_events batch.now events.now self.old) }
     {
         for event in events {
@@ -89,7 +89,7 @@ pub(crate) fn settlers_of(
     alloc: Global,
     keys: &KeySet,
     batches: &[Batch],
-) -> Result<Settlers, AllocError>
+) -> Result<Settlers, OutOfMemory>
     ensures { IfOk result (λ known. known ≡ with_listed keys.now batches.now []) }
 {
     let mut known = Settlers::new(alloc);

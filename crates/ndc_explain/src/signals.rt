@@ -11,14 +11,14 @@ use crate::piece::{Piece, push_pieces};
 use crate::settlers::{Settler, Settlers};
 use crate::writer::writer_name;
 use ndc_domain::Clusters;
-use ndc_event::{Batch, Event, EventKind, Name, RunId};
+use ndc_event::{Batch, Event, EventKind, Name, OutOfMemory, RunId};
 use ndc_history::Item;
 use ndc_reapply::{Stray, strays};
 use ndc_state::origin_of;
-use std::alloc::{AllocError, Global};
+use std::alloc::Global;
 
 /// Appends the signal that an event of a run is.
-fn push_signal(list: &mut Vec<Stray>, run: RunId, event: &Event) -> Result<(), AllocError>
+fn push_signal(list: &mut Vec<Stray>, run: RunId, event: &Event) -> Result<(), OutOfMemory>
     ensures { OnOk result (list.new.items ≡ list.old.items ++ cons_option (signal_of run event.now.id event.now.version event.now.kind) []) }
 {
     match &event.kind {
@@ -39,7 +39,7 @@ fn push_signal(list: &mut Vec<Stray>, run: RunId, event: &Event) -> Result<(), A
 }
 
 /// Appends the signals among events of a run.
-fn push_signals(list: &mut Vec<Stray>, run: RunId, events: &[Event]) -> Result<(), AllocError>
+fn push_signals(list: &mut Vec<Stray>, run: RunId, events: &[Event]) -> Result<(), OutOfMemory>
     ensures { OnOk result (list.new.items ≡ list.old.items ++ signals_in run events.now) }
 {
     for event in events {
@@ -49,7 +49,7 @@ fn push_signals(list: &mut Vec<Stray>, run: RunId, events: &[Event]) -> Result<(
 }
 
 /// The signals of batches.
-fn signals_of(alloc: Global, batches: &[Batch]) -> Result<Vec<Stray>, AllocError>
+fn signals_of(alloc: Global, batches: &[Batch]) -> Result<Vec<Stray>, OutOfMemory>
     ensures { IfOk result (λ list. list.items ≡ signals batches.now) }
 {
     let mut list = Vec::new(alloc);
@@ -60,7 +60,7 @@ fn signals_of(alloc: Global, batches: &[Batch]) -> Result<Vec<Stray>, AllocError
 }
 
 /// The signals of batches, each once by its origin, and in order.
-pub(crate) fn each_signal(alloc: Global, batches: &[Batch]) -> Result<Vec<Stray>, AllocError>
+pub(crate) fn each_signal(alloc: Global, batches: &[Batch]) -> Result<Vec<Stray>, OutOfMemory>
     ensures { IfOk result (λ list. list.items ≡ strays_of (signals batches.now) []) }
 {
     let list = signals_of(alloc, batches)?;
@@ -88,7 +88,7 @@ pub(crate) fn waiting_count(known: &Settlers, signals: &[Stray]) -> usize
 }
 
 /// Appends what a signal says, and the event that it comes from.
-fn push_said(text: &mut Vec<u8>, signal: &Stray) -> Result<(), AllocError>
+fn push_said(text: &mut Vec<u8>, signal: &Stray) -> Result<(), OutOfMemory>
     ensures { OnOk result (text.new.items ≡ text.old.items ++ said_text signal.now) }
 {
     push_pieces(
@@ -109,7 +109,7 @@ fn push_said(text: &mut Vec<u8>, signal: &Stray) -> Result<(), AllocError>
 }
 
 /// Appends the beginning of a signal's line.
-fn push_head(alloc: Global, text: &mut Vec<u8>, signal: &Stray) -> Result<(), AllocError>
+fn push_head(alloc: Global, text: &mut Vec<u8>, signal: &Stray) -> Result<(), OutOfMemory>
     ensures { OnOk result (text.new.items ≡ text.old.items ++ signal_head signal.now) }
 {
     push_said(text, signal)?;
@@ -132,7 +132,7 @@ fn push_settled(
     text: &mut Vec<u8>,
     clusters: &Option<Clusters>,
     settler: Settler,
-) -> Result<(), AllocError>
+) -> Result<(), OutOfMemory>
     ensures { OnOk result (text.new.items ≡ text.old.items ++ settled_text clusters.now settler) }
 {
     push_pieces(
@@ -147,7 +147,7 @@ fn push_settled(
 }
 
 /// Appends what a signal waits for.
-fn push_waiting(text: &mut Vec<u8>, workflow: &Name, is_open: bool) -> Result<(), AllocError>
+fn push_waiting(text: &mut Vec<u8>, workflow: &Name, is_open: bool) -> Result<(), OutOfMemory>
     ensures { OnOk result (text.new.items ≡ text.old.items ++ waiting_text workflow.now is_open) }
 {
     if is_open {
@@ -180,7 +180,7 @@ fn push_fate(
     is_open: bool,
     known: &Settlers,
     signal: &Stray,
-) -> Result<(), AllocError>
+) -> Result<(), OutOfMemory>
     ensures { OnOk result (text.new.items ≡ text.old.items ++ signal_line clusters.now workflow.now is_open known.now signal.now) }
 {
     push_head(alloc, text, signal)?;
@@ -199,7 +199,7 @@ pub(crate) fn push_fates(
     is_open: bool,
     known: &Settlers,
     signals: &[Stray],
-) -> Result<(), AllocError>
+) -> Result<(), OutOfMemory>
     ensures { OnOk result (text.new.items ≡ text.old.items ++ flat_map (signal_line clusters.now workflow.now is_open known.now) signals.now) }
 {
     for signal in signals {

@@ -6,9 +6,9 @@ ghost use Rattle.ndc_explain.specs.Standing.{standing, with_optional, with_paren
 
 use crate::branches::leader;
 use ndc_dump_causes::keys::KeySet;
-use ndc_event::{Batch, BatchKey};
+use ndc_event::{Batch, BatchKey, OutOfMemory};
 use ndc_model_sets::{BranchView, RunStatus, RunView, View};
-use std::alloc::{AllocError, Global};
+use std::alloc::Global;
 
 /// Whether it is the status of a zombie.
 fn is_zombie(status: RunStatus) -> bool
@@ -31,7 +31,7 @@ fn current_key(branches: &[BranchView]) -> Option<BatchKey>
 }
 
 /// Lists the key, where there is one.
-pub(crate) fn insert(keys: &mut KeySet, key: Option<BatchKey>) -> Result<(), AllocError>
+pub(crate) fn insert(keys: &mut KeySet, key: Option<BatchKey>) -> Result<(), OutOfMemory>
     ensures { OnOk result (keys.new ≡ with_optional key keys.old) }
 {
     match key {
@@ -41,7 +41,7 @@ pub(crate) fn insert(keys: &mut KeySet, key: Option<BatchKey>) -> Result<(), All
 }
 
 /// Lists the tip of the current branch of a run, unless it is a zombie and these don't count.
-fn insert_tip(keys: &mut KeySet, zombies: bool, run: &RunView) -> Result<(), AllocError>
+fn insert_tip(keys: &mut KeySet, zombies: bool, run: &RunView) -> Result<(), OutOfMemory>
     ensures { OnOk result (keys.new ≡ with_tip zombies run.now keys.old) }
 {
     if zombies || !is_zombie(run.status) {
@@ -52,7 +52,7 @@ fn insert_tip(keys: &mut KeySet, zombies: bool, run: &RunView) -> Result<(), All
 }
 
 /// Lists the tips of the current branches of runs.
-fn insert_tips(keys: &mut KeySet, zombies: bool, runs: &[RunView]) -> Result<(), AllocError>
+fn insert_tips(keys: &mut KeySet, zombies: bool, runs: &[RunView]) -> Result<(), OutOfMemory>
     ensures { OnOk result (keys.new ≡ with_tips zombies runs.now keys.old) }
 {
     for run in runs {
@@ -62,7 +62,7 @@ fn insert_tips(keys: &mut KeySet, zombies: bool, runs: &[RunView]) -> Result<(),
 }
 
 /// Lists the parent of a batch that is listed.
-fn insert_parent(keys: &mut KeySet, batch: &Batch) -> Result<(), AllocError>
+fn insert_parent(keys: &mut KeySet, batch: &Batch) -> Result<(), OutOfMemory>
     ensures { OnOk result (keys.new ≡ with_parent batch.now keys.old) }
 {
     if keys.contains(batch.key) {
@@ -73,7 +73,7 @@ fn insert_parent(keys: &mut KeySet, batch: &Batch) -> Result<(), AllocError>
 }
 
 /// Lists the parents of those of the batches that are listed, from the last batch to the first.
-fn insert_parents(keys: &mut KeySet, batches: &[Batch]) -> Result<(), AllocError>
+fn insert_parents(keys: &mut KeySet, batches: &[Batch]) -> Result<(), OutOfMemory>
     ensures { OnOk result (keys.new ≡ with_parents batches.now keys.old) }
 {
     let mut place = batches.len();
@@ -85,7 +85,7 @@ fn insert_parents(keys: &mut KeySet, batches: &[Batch]) -> Result<(), AllocError
 }
 
 /// The keys of the batches on current branches: of all runs, or of those that are no zombies.
-pub(crate) fn standing(alloc: Global, zombies: bool, view: &View) -> Result<KeySet, AllocError>
+pub(crate) fn standing(alloc: Global, zombies: bool, view: &View) -> Result<KeySet, OutOfMemory>
     ensures { IfOk result (λ keys. keys ≡ standing zombies view.now) }
 {
     let mut keys = KeySet::new(alloc);

@@ -17,11 +17,11 @@ use crate::signals::{each_signal, push_fates, waiting_count};
 use crate::standing::standing;
 use ndc_domain::Clusters;
 use ndc_dump::Dump;
-use ndc_event::{BatchKey, Event, Name, RunId};
+use ndc_event::{BatchKey, Event, Name, OutOfMemory, RunId};
 use ndc_model_sets::{RunStatus, RunView, View};
 use ndc_reapply::Stray;
 use ndc_text::dump::push_heading;
-use std::alloc::{AllocError, Global};
+use std::alloc::Global;
 use std::marker::Model;
 
 /// What is told of a dump.
@@ -87,7 +87,7 @@ fn has_open(view: &View) -> bool
 }
 
 /// What a view holds beside its runs.
-fn findings(alloc: Global, view: &View) -> Result<Found, AllocError>
+fn findings(alloc: Global, view: &View) -> Result<Found, OutOfMemory>
     ensures { IfOk result (λ found. found ≡ findings view.now) }
 {
     let batches = view.batches.as_slice();
@@ -128,7 +128,7 @@ impl<'v> Found<'v> {
         text: &mut Vec<u8>,
         clusters: &Option<Clusters>,
         runs: &[RunView],
-    ) -> Result<(), AllocError>
+    ) -> Result<(), OutOfMemory>
         ensures { OnOk result (text.new.items ≡ text.old.items ++ flat_map (run_told clusters.now self.now.lost) runs.now) }
     {
         push_runs(alloc, text, clusters, self.lost.as_slice(), runs)
@@ -142,7 +142,7 @@ impl<'v> Found<'v> {
         clusters: &Option<Clusters>,
         workflow: &Name,
         is_open: bool,
-    ) -> Result<(), AllocError>
+    ) -> Result<(), OutOfMemory>
         ensures { OnOk result (text.new.items ≡ text.old.items ++ flat_map (signal_line clusters.now workflow.now is_open self.now.settlers) self.now.signals) }
     {
         push_fates(
@@ -157,7 +157,7 @@ impl<'v> Found<'v> {
     }
 
     /// Appends the line of counts.
-    fn push_counts(&self, text: &mut Vec<u8>, view: &View) -> Result<(), AllocError>
+    fn push_counts(&self, text: &mut Vec<u8>, view: &View) -> Result<(), OutOfMemory>
         ensures { OnOk result (text.new.items ≡ text.old.items ++ counts_line view.now self.now) }
     {
         push_pieces(
@@ -186,7 +186,7 @@ fn push_findings(
     clusters: &Option<Clusters>,
     dump: &Dump,
     found: &Found,
-) -> Result<(), AllocError>
+) -> Result<(), OutOfMemory>
     ensures { OnOk result (text.new.items ≡ text.old.items ++ findings_told clusters.now dump.now found.now) }
 {
     found.push_fates(alloc, text, clusters, &dump.workflow, has_open(&dump.view))?;
@@ -204,7 +204,7 @@ pub(crate) fn explain(
     alloc: Global,
     clusters: &Option<Clusters>,
     dump: &Dump,
-) -> Result<Explanation, AllocError>
+) -> Result<Explanation, OutOfMemory>
     ensures text { IfOk result (λ told. told.text.items ≡ explanation_of clusters.now dump.now) }
     ensures leaves { IfOk result (λ told. told.leaves_any ≡ leaves_any (findings dump.now.view)) }
 {
@@ -234,7 +234,7 @@ pub(crate) fn draw(
     alloc: Global,
     clusters: &Option<Clusters>,
     dump: &Dump,
-) -> Result<Explanation, AllocError>
+) -> Result<Explanation, OutOfMemory>
     ensures text { IfOk result (λ told. told.text.items ≡ picture_of clusters.now dump.now) }
     ensures leaves { IfOk result (λ told. told.leaves_any ≡ leaves_any (findings dump.now.view)) }
 {
@@ -255,7 +255,7 @@ pub(crate) fn draw_tree(
     alloc: Global,
     clusters: &Option<Clusters>,
     dump: &Dump,
-) -> Result<Explanation, AllocError>
+) -> Result<Explanation, OutOfMemory>
     ensures text { IfOk result (λ told. told.text.items ≡ tree_picture_of clusters.now dump.now) }
     ensures leaves { IfOk result (λ told. told.leaves_any ≡ leaves_any (findings dump.now.view)) }
 {
@@ -269,7 +269,11 @@ pub(crate) fn draw_tree(
 }
 
 /// Tells a dump in the form that was asked for.
-pub(crate) fn told(alloc: Global, request: &Request, dump: &Dump) -> Result<Explanation, AllocError>
+pub(crate) fn told(
+    alloc: Global,
+    request: &Request,
+    dump: &Dump,
+) -> Result<Explanation, OutOfMemory>
     ensures text { IfOk result (λ told. told.text.items ≡ told_of request.now dump.now) }
     ensures leaves { IfOk result (λ told. told.leaves_any ≡ leaves_any (findings dump.now.view)) }
 {

@@ -5,7 +5,7 @@ ghost use Rattle.ndc_domain.specs.Records.{record_of};
 ghost use Rattle.ndc_graceful.specs.Ready.{lagging_from, not_below};
 
 use ndc_domain::{ClusterNo, Clusters, DomainTable, FailoverError};
-use ndc_event::{Items, Name};
+use ndc_event::{Items, Name, OutOfMemory};
 use ndc_queue::Levels;
 use std::alloc::{AllocError, AllocFailed};
 use thiserror::Error;
@@ -139,7 +139,7 @@ impl Handover {
     }
 
     /// The same handover.
-    pub fn try_copy(&self) -> Result<Handover, AllocError>
+    pub fn try_copy(&self) -> Result<Handover, OutOfMemory>
         ensures { IfOk result (λ copy. copy ≡ self.now) }
     {
         Ok(Handover {

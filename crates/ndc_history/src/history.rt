@@ -7,7 +7,8 @@ ghost use Rattle.ndc_history.specs.Common.{best_from, better};
 
 use crate::item::{AddError, Item};
 use crate::rising::Rising;
-use std::alloc::{AllocError, Global};
+use ndc_event::OutOfMemory;
+use std::alloc::Global;
 use std::marker::Model;
 use std::sync::Arc;
 
@@ -48,7 +49,7 @@ impl VersionHistory {
     }
 
     /// The history of these items, whose ids and versions rise strictly.
-    pub fn of(alloc: Global, items: Vec<Item>) -> Result<VersionHistory, AllocError>
+    pub fn of(alloc: Global, items: Vec<Item>) -> Result<VersionHistory, OutOfMemory>
         requires { IsTrue (rises items.items) }
         ensures { IfOk result (λ history. history ≡ items.items) }
     {
@@ -110,7 +111,7 @@ impl VersionHistory {
     }
 
     /// The same history, over the same items: in the same time for any number of them.
-    pub fn try_copy(&self) -> Result<VersionHistory, AllocError>
+    pub fn try_copy(&self) -> Result<VersionHistory, OutOfMemory>
         ensures { IfOk result (λ copy. copy ≡ self.now) }
     {
         let shared = match &self.shared {

@@ -2,7 +2,8 @@ ghost use Rattle.std.specs.Prelude.{◌≡◌};
 ghost use Rattle.ndc_history.specs.History.{last_item};
 
 use crate::item::{AddError, Item};
-use std::alloc::{AllocError, Global};
+use ndc_event::OutOfMemory;
+use std::alloc::Global;
 use std::marker::Model;
 
 /// Items of which ids and versions rise strictly.
@@ -29,7 +30,7 @@ impl Clone for Rising {
 
     ghost is_clone = { λ rising copy. copy ≡ rising };
 
-    fn clone(&self) -> Result<Rising, AllocError> {
+    fn clone(&self) -> Result<Rising, OutOfMemory> {
         Ok(Rising {
             items: self.items.clone()?,
         })
@@ -59,7 +60,7 @@ impl Rising {
     }
 
     /// The item alone.
-    pub(crate) fn one(alloc: Global, item: Item) -> Result<Rising, AllocError>
+    pub(crate) fn one(alloc: Global, item: Item) -> Result<Rising, OutOfMemory>
         ensures { IfOk result (λ rising. rising ≡ item ∷ []) }
     {
         let mut items = Vec::new(alloc);

@@ -8,7 +8,7 @@ ghost use Rattle.ndc_index.specs.declared.choose.ChooseError.TheVariants.{Unknow
 use crate::indexer::Indexer;
 use crate::seat::{Seat, catch_up_all, push_lines, tell_all};
 use crate::seen::Seen;
-use ndc_event::Name;
+use ndc_event::{Name, OutOfMemory};
 use std::alloc::{AllocError, AllocFailed, Global};
 use thiserror::Error;
 
@@ -134,7 +134,7 @@ impl Indexers {
 
     /// Tells each of those that are told as the script runs, and none of the late ones. One whose call fails is dropped
     /// at once, and the number of its calls that went well is kept. Where memory runs out, no more is said of them.
-    pub fn told(&mut self, seen: &Seen) -> Result<(), AllocError>
+    pub fn told(&mut self, seen: &Seen) -> Result<(), OutOfMemory>
         ensures told { OnOk result (map (λ seat. seat_of seat.name seat.calls (option_map (λ b. shown (title b) (failing b) (list b)) seat.indexer)) self.new.asked.items
             ≡ map (after_told seen.now) (map (λ seat. seat_of seat.name seat.calls (option_map (λ b. shown (title b) (failing b) (list b)) seat.indexer)) self.old.asked.items)) }
         ensures late { self.new.late ≡ self.old.late }
@@ -144,7 +144,7 @@ impl Indexers {
 
     /// Tells each of the late ones all of these, up to its first call that fails; that one is then dropped, and the
     /// number of its calls that went well is kept. Where memory runs out, no more is said of them.
-    pub fn catch_up(&mut self, seen: &[Seen]) -> Result<(), AllocError>
+    pub fn catch_up(&mut self, seen: &[Seen]) -> Result<(), OutOfMemory>
         ensures told { OnOk result (map (λ seat. seat_of seat.name seat.calls (option_map (λ b. shown (title b) (failing b) (list b)) seat.indexer)) self.new.late.items
             ≡ map (after_all seen.now) (map (λ seat. seat_of seat.name seat.calls (option_map (λ b. shown (title b) (failing b) (list b)) seat.indexer)) self.old.late.items)) }
         ensures asked { self.new.asked ≡ self.old.asked }
@@ -153,7 +153,7 @@ impl Indexers {
     }
 
     /// Appends the line of each, in the order in which they were asked for, the late ones last.
-    pub fn lines(&self, into: &mut Vec<u8>) -> Result<(), AllocError>
+    pub fn lines(&self, into: &mut Vec<u8>) -> Result<(), OutOfMemory>
         ensures { OnOk result (into.new.items ≡ into.old.items
             ++ (flat_map (λ seat. seat_line (seat_of seat.name seat.calls (option_map (λ b. shown (title b) (failing b) (list b)) seat.indexer)) (own_text (option_map text seat.indexer))) self.now.asked.items
             ++ flat_map (λ seat. seat_line (seat_of seat.name seat.calls (option_map (λ b. shown (title b) (failing b) (list b)) seat.indexer)) (own_text (option_map text seat.indexer))) self.now.late.items)) }

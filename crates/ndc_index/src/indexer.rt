@@ -4,6 +4,7 @@ ghost use Rattle.ndc_index.specs.declared.indexer.ToldError.TheVariants.{Failed}
 ghost use Rattle.ndc_index.specs.declared.seen.Seen.{Seen};
 
 use crate::seen::Seen;
+use ndc_event::OutOfMemory;
 use std::alloc::{AllocError, AllocFailed};
 use thiserror::Error;
 
@@ -67,7 +68,7 @@ pub trait Indexer: Drop {
 
     /// Appends what it shows: what the indexers `kinds`, `open` and `signals` show of all that they were told; its own
     /// text, where it has another name.
-    fn line(&self, into: &mut Vec<u8>) -> Result<(), AllocError>
+    fn line(&self, into: &mut Vec<u8>) -> Result<(), OutOfMemory>
         ensures { OnOk result (into.new.items ≡ into.old.items ++ text_of (title self.now) (text self.now) (list self.now)) };
 }
 

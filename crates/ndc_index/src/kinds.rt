@@ -6,7 +6,7 @@ ghost use Rattle.ndc_index.specs.Texts.{count_text};
 
 use crate::indexer::{Indexer, ToldError};
 use crate::seen::Seen;
-use ndc_event::{Event, Name};
+use ndc_event::{Event, Name, OutOfMemory};
 use std::alloc::{AllocError, Global};
 use std::cmp::Ordering;
 use std::marker::Model;
@@ -23,7 +23,7 @@ impl Clone for KindCount {
 
     ghost is_clone = { λ entry copy. copy ≡ entry };
 
-    fn clone(&self) -> Result<KindCount, AllocError> {
+    fn clone(&self) -> Result<KindCount, OutOfMemory> {
         Ok(KindCount {
             name: self.name.try_copy()?,
             count: self.count,
@@ -70,14 +70,14 @@ fn place_of(counts: &[KindCount], name: &str) -> Result<usize, usize>
 }
 
 /// The name of this text; an error where it is no name.
-fn name_of(alloc: Global, text: &str) -> Result<Name, AllocError>
+fn name_of(alloc: Global, text: &str) -> Result<Name, OutOfMemory>
     ensures { IfOk result (λ name. name ≡ text.now) }
 {
     Name::new(alloc, text.as_bytes()).map_err(|_| AllocError)
 }
 
 /// One more of a name; an error where the count is too great.
-fn one_more(entry: &KindCount) -> Result<KindCount, AllocError>
+fn one_more(entry: &KindCount) -> Result<KindCount, OutOfMemory>
     ensures name { IfOk result (λ more. more.name ≡ entry.now.name) }
     ensures count { IfOk result (λ more. more.count ≡ entry.now.count + 1) }
 {
@@ -89,7 +89,7 @@ fn one_more(entry: &KindCount) -> Result<KindCount, AllocError>
 }
 
 /// Appends a count with its name.
-fn push_count(entry: &KindCount, into: &mut Vec<u8>) -> Result<(), AllocError>
+fn push_count(entry: &KindCount, into: &mut Vec<u8>) -> Result<(), OutOfMemory>
     ensures { OnOk result (into.new.items ≡ into.old.items ++ count_text (entry.now.name, entry.now.count)) }
 {
     let mut buffer = itoa::Buffer::new();
@@ -99,7 +99,7 @@ fn push_count(entry: &KindCount, into: &mut Vec<u8>) -> Result<(), AllocError>
 }
 
 /// Appends counts, each behind a space.
-fn push_later(entries: &[KindCount], into: &mut Vec<u8>) -> Result<(), AllocError>
+fn push_later(entries: &[KindCount], into: &mut Vec<u8>) -> Result<(), OutOfMemory>
     ensures { OnOk result (into.new.items ≡ into.old.items
         ++ flat_map (λ later. codes " " ++ count_text later) (map (λ entry. (entry.name, entry.count)) entries.now)) }
 {
@@ -127,7 +127,7 @@ impl KindCounts {
     }
 
     /// The same.
-    fn try_copy(&self) -> Result<KindCounts, AllocError>
+    fn try_copy(&self) -> Result<KindCounts, OutOfMemory>
         ensures { IfOk result (λ copy. copy ≡ self.now) }
     {
         Ok(KindCounts {
@@ -137,7 +137,7 @@ impl KindCounts {
     }
 
     /// Counts a name once more. Where memory runs out, or the count is too great, all stays as it was.
-    fn add(&mut self, name: &str) -> Result<(), AllocError>
+    fn add(&mut self, name: &str) -> Result<(), OutOfMemory>
         ensures added { OnOk result (self.new ≡ with_one_more self.old name.now) }
         ensures unchanged { OnErr result (self.new ≡ self.old) }
     {
@@ -155,7 +155,7 @@ impl KindCounts {
     }
 
     /// Counts the kind of each event.
-    fn add_all(&mut self, events: &[Event]) -> Result<(), AllocError>
+    fn add_all(&mut self, events: &[Event]) -> Result<(), OutOfMemory>
         ensures { OnOk result (self.new ≡ fold with_one_more self.old (map (λ event. kind_name event.kind) events.now)) }
     {
         for event in events {
@@ -165,7 +165,7 @@ impl KindCounts {
     }
 
     /// Appends the counts with spaces between them, or a dash.
-    fn push(&self, into: &mut Vec<u8>) -> Result<(), AllocError>
+    fn push(&self, into: &mut Vec<u8>) -> Result<(), OutOfMemory>
         ensures { OnOk result (into.new.items ≡ into.old.items ++ counts_text self.now) }
     {
         match self.items.as_slice() {
@@ -235,7 +235,7 @@ impl Indexer for KindsIndexer {
         Ok(())
     }
 
-    fn line(&self, into: &mut Vec<u8>) -> Result<(), AllocError> {
+    fn line(&self, into: &mut Vec<u8>) -> Result<(), OutOfMemory> {
         self.counts.push(into)
     }
 }

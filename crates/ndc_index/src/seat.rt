@@ -6,7 +6,7 @@ ghost use Rattle.ndc_index.specs.Told.{fails_next, text_of};
 
 use crate::indexer::{Indexer, ToldError};
 use crate::seen::Seen;
-use ndc_event::Name;
+use ndc_event::{Name, OutOfMemory};
 use std::alloc::{AllocError, Global};
 
 /// An indexer that was asked for by its name. It is told until one of its calls fails; then it is dropped, and the
@@ -22,7 +22,7 @@ pub struct Seat {
 }
 
 /// Tells an indexer: whether the call went well.
-pub(crate) fn tell(indexer: &mut Box<dyn Indexer>, seen: &Seen) -> Result<bool, AllocError>
+pub(crate) fn tell(indexer: &mut Box<dyn Indexer>, seen: &Seen) -> Result<bool, OutOfMemory>
     ensures well { IfOk result (λ well. well ≡ not (fails_next (failing indexer.old) (list indexer.old))) }
     ensures told { result ≡ Ok true → list indexer.new ≡ list indexer.old ++ seen.now ∷ [] }
     ensures title { title indexer.new ≡ title indexer.old }
@@ -38,7 +38,7 @@ pub(crate) fn tell(indexer: &mut Box<dyn Indexer>, seen: &Seen) -> Result<bool, 
 impl Seat {
     /// Tells the indexer, where it is still there. Where memory runs out, no more is said of the seat.
     #[tactic(auto, unfolding(crate::specs::Seats::after_told))]
-    pub fn told(&mut self, seen: &Seen) -> Result<(), AllocError>
+    pub fn told(&mut self, seen: &Seen) -> Result<(), OutOfMemory>
         ensures { OnOk result (seat_of self.new.name self.new.calls (option_map (λ b. shown (title b) (failing b) (list b)) self.new.indexer)
             ≡ after_told seen.now (seat_of self.old.name self.old.calls (option_map (λ b. shown (title b) (failing b) (list b)) self.old.indexer))) }
     {
@@ -55,7 +55,7 @@ impl Seat {
 
     /// Tells the indexer of each of these, up to its first call that fails. Where memory runs out, no more is said of
     /// the seat.
-    pub fn catch_up(&mut self, seen: &[Seen]) -> Result<(), AllocError>
+    pub fn catch_up(&mut self, seen: &[Seen]) -> Result<(), OutOfMemory>
         ensures { OnOk result (seat_of self.new.name self.new.calls (option_map (λ b. shown (title b) (failing b) (list b)) self.new.indexer)
             ≡ after_all seen.now (seat_of self.old.name self.old.calls (option_map (λ b. shown (title b) (failing b) (list b)) self.old.indexer))) }
     {
@@ -67,7 +67,7 @@ impl Seat {
 
     /// Appends the line of the seat.
     #[tactic(auto, unfolding(crate::specs::Seats::seat_line))]
-    pub fn line(&self, into: &mut Vec<u8>) -> Result<(), AllocError>
+    pub fn line(&self, into: &mut Vec<u8>) -> Result<(), OutOfMemory>
         ensures { OnOk result (into.new.items ≡ into.old.items
             ++ seat_line (seat_of self.now.name self.now.calls (option_map (λ b. shown (title b) (failing b) (list b)) self.now.indexer)) (own_text (option_map text self.now.indexer))) }
     {
@@ -83,14 +83,14 @@ impl Seat {
 }
 
 /// Appends what an indexer shows.
-fn push_line(indexer: &Box<dyn Indexer>, into: &mut Vec<u8>) -> Result<(), AllocError>
+fn push_line(indexer: &Box<dyn Indexer>, into: &mut Vec<u8>) -> Result<(), OutOfMemory>
     ensures { OnOk result (into.new.items ≡ into.old.items ++ text_of (title indexer.now) (text indexer.now) (list indexer.now)) }
 {
     indexer.line(into)
 }
 
 /// Appends after how many calls an indexer failed.
-fn push_failed(calls: u64, into: &mut Vec<u8>) -> Result<(), AllocError>
+fn push_failed(calls: u64, into: &mut Vec<u8>) -> Result<(), OutOfMemory>
     ensures { OnOk result (into.new.items ≡ into.old.items ++ (codes "failed after " ++ decimal calls)) }
 {
     let mut buffer = itoa::Buffer::new();
@@ -99,7 +99,7 @@ fn push_failed(calls: u64, into: &mut Vec<u8>) -> Result<(), AllocError>
 }
 
 /// Tells the indexer of each seat.
-pub(crate) fn tell_all(seats: &mut Vec<Seat>, seen: &Seen) -> Result<(), AllocError>
+pub(crate) fn tell_all(seats: &mut Vec<Seat>, seen: &Seen) -> Result<(), OutOfMemory>
     ensures { OnOk result (map (λ seat. seat_of seat.name seat.calls (option_map (λ b. shown (title b) (failing b) (list b)) seat.indexer)) seats.new.items
         ≡ map (after_told seen.now) (map (λ seat. seat_of seat.name seat.calls (option_map (λ b. shown (title b) (failing b) (list b)) seat.indexer)) seats.old.items)) }
 {
@@ -110,7 +110,7 @@ pub(crate) fn tell_all(seats: &mut Vec<Seat>, seen: &Seen) -> Result<(), AllocEr
 }
 
 /// Tells the indexer of each seat all of these, up to its first call that fails.
-pub(crate) fn catch_up_all(seats: &mut Vec<Seat>, seen: &[Seen]) -> Result<(), AllocError>
+pub(crate) fn catch_up_all(seats: &mut Vec<Seat>, seen: &[Seen]) -> Result<(), OutOfMemory>
     ensures { OnOk result (map (λ seat. seat_of seat.name seat.calls (option_map (λ b. shown (title b) (failing b) (list b)) seat.indexer)) seats.new.items
         ≡ map (after_all seen.now) (map (λ seat. seat_of seat.name seat.calls (option_map (λ b. shown (title b) (failing b) (list b)) seat.indexer)) seats.old.items)) }
 {
@@ -121,7 +121,7 @@ pub(crate) fn catch_up_all(seats: &mut Vec<Seat>, seen: &[Seen]) -> Result<(), A
 }
 
 /// Appends the lines of seats.
-pub(crate) fn push_lines(seats: &[Seat], into: &mut Vec<u8>) -> Result<(), AllocError>
+pub(crate) fn push_lines(seats: &[Seat], into: &mut Vec<u8>) -> Result<(), OutOfMemory>
     ensures { OnOk result (into.new.items ≡ into.old.items
         ++ flat_map (λ seat. seat_line (seat_of seat.name seat.calls (option_map (λ b. shown (title b) (failing b) (list b)) seat.indexer)) (own_text (option_map text seat.indexer))) seats.now) }
 {

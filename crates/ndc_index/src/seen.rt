@@ -1,6 +1,5 @@
 use ndc_domain::ClusterNo;
-use ndc_event::Batch;
-use std::alloc::AllocError;
+use ndc_event::{Batch, OutOfMemory};
 
 /// A batch that became learned at a cluster.
 #[derive(Debug, Drop)]
@@ -15,7 +14,7 @@ impl Seen {
     ghost use Rattle.std.specs.Prelude.{◌≡◌, IfOk};
 
     /// The same.
-    pub fn try_copy(&self) -> Result<Seen, AllocError>
+    pub fn try_copy(&self) -> Result<Seen, OutOfMemory>
         ensures { IfOk result (λ copy. copy ≡ self.now) }
     {
         Ok(Seen {

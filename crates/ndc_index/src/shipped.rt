@@ -4,7 +4,8 @@ ghost use Rattle.ndc_index.specs.Texts.{events_told, open_text, signals_text};
 use crate::indexer::{Counted, Indexer, ToldError};
 use crate::seen::Seen;
 use crate::tally::Tally;
-use std::alloc::{AllocError, Global};
+use ndc_event::OutOfMemory;
+use std::alloc::Global;
 use std::marker::Model;
 
 /// Appends two words with a number behind each.
@@ -14,7 +15,7 @@ fn push_counts(
     firsts: u64,
     second: &str,
     seconds: u64,
-) -> Result<(), AllocError>
+) -> Result<(), OutOfMemory>
     ensures { OnOk result (into.new.items ≡ into.old.items ++ (first.now ++ decimal firsts ++ second.now ++ decimal seconds)) }
 {
     let mut buffer = itoa::Buffer::new();
@@ -77,7 +78,7 @@ impl Indexer for OpenIndexer {
     }
 
     #[tactic(auto, unfolding(crate::specs::Told::count_told))]
-    fn line(&self, into: &mut Vec<u8>) -> Result<(), AllocError> {
+    fn line(&self, into: &mut Vec<u8>) -> Result<(), OutOfMemory> {
         let (firsts, seconds) = (self.tally.firsts(), self.tally.seconds());
         push_counts(into, "started ", firsts, " closed ", seconds)
     }
@@ -136,7 +137,7 @@ impl Indexer for SignalsIndexer {
     }
 
     #[tactic(auto, unfolding(crate::specs::Told::count_told))]
-    fn line(&self, into: &mut Vec<u8>) -> Result<(), AllocError> {
+    fn line(&self, into: &mut Vec<u8>) -> Result<(), OutOfMemory> {
         let (firsts, seconds) = (self.tally.firsts(), self.tally.seconds());
         push_counts(into, "originals ", firsts, " copies ", seconds)
     }

@@ -5,7 +5,7 @@ ghost use Rattle.ndc_index.specs.declared.indexer.Counted.TheVariants as which;
 
 use crate::indexer::Counted;
 use crate::seen::Seen;
-use ndc_event::{Event, EventKind};
+use ndc_event::{Event, EventKind, OutOfMemory};
 use std::alloc::{AllocError, Global};
 use std::marker::Model;
 
@@ -117,7 +117,7 @@ impl Tally {
 
     /// Notes what is told. Where memory runs out, or a count is too great, all stays as it was.
     #[tactic(auto, using(crate::proofs::CountLemmas::count_more))]
-    pub(crate) fn told(&mut self, seen: &Seen) -> Result<(), AllocError>
+    pub(crate) fn told(&mut self, seen: &Seen) -> Result<(), OutOfMemory>
         ensures told { OnOk result (self.new ≡ record self.old { list = self.old.list ++ seen.now ∷ [] }) }
         ensures unchanged { OnErr result (self.new ≡ self.old) }
     {

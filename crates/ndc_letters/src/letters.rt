@@ -3,7 +3,7 @@ ghost use Rattle.ndc_model_cells.specs.Places.{is_at};
 ghost use Rattle.ndc_letters.specs.Letters.{place_of_letter, taken_of};
 
 use crate::letter::Letter;
-use ndc_event::Batch;
+use ndc_event::{Batch, OutOfMemory};
 use ndc_text::{TextError, read_batch};
 use std::alloc::{AllocError, Global};
 use std::marker::Model;
@@ -41,7 +41,7 @@ fn is_batch_of(letter: &Letter, batch: &Batch) -> bool
 
 /// Reads the bytes of a letter as the batch that it was.
 #[tactic(auto, unfolding(crate::specs::Letters::taken_of))]
-fn read_letter(alloc: Global, letter: &Letter) -> Result<Taken, AllocError>
+fn read_letter(alloc: Global, letter: &Letter) -> Result<Taken, OutOfMemory>
     ensures { IfOk result (λ taken. taken ≡ taken_of letter.now) }
 {
     match read_batch(alloc, letter.bytes.as_slice()) {
@@ -74,7 +74,7 @@ impl Letters {
     /// Takes a letter. It is [`Taken::Whole`], with the batch, exactly where [`ndc_text::read_batch`] reads the
     /// bytes as a batch of the letter's domain, workflow and key, and the list stays as it was; else it is
     /// [`Taken::Aside`], and the letter goes last. Where memory runs out, the list stays as it was.
-    pub fn take(&mut self, letter: Letter) -> Result<Taken, AllocError>
+    pub fn take(&mut self, letter: Letter) -> Result<Taken, OutOfMemory>
         ensures taken { IfOk result (λ taken. taken ≡ taken_of letter) }
         ensures list { OnOk result (self.new ≡ with_letter letter self.old) }
         ensures unchanged { OnErr result (self.new ≡ self.old) }

@@ -1,6 +1,5 @@
-use ndc_event::{Batch, Rare};
+use ndc_event::{Batch, OutOfMemory, Rare};
 use ndc_history::VersionHistory;
-use std::alloc::AllocError;
 
 /// What is sent from a cell to another: a batch with the version history of its path, and the batch that it
 /// carries, where it carries one. Both are learned together.
@@ -18,7 +17,7 @@ impl Message {
     ghost use Rattle.std.specs.Prelude.{◌≡◌, IfOk};
 
     /// The same message.
-    pub fn try_copy(&self) -> Result<Message, AllocError>
+    pub fn try_copy(&self) -> Result<Message, OutOfMemory>
         ensures { IfOk result (λ copy. copy ≡ self.now) }
     {
         Ok(Message {

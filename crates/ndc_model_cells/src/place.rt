@@ -1,5 +1,4 @@
-use ndc_event::{BatchKey, Name};
-use std::alloc::AllocError;
+use ndc_event::{BatchKey, Name, OutOfMemory};
 
 /// The place of a batch: its workflow, and its key there.
 #[derive(Debug, Drop)]
@@ -16,7 +15,7 @@ impl Place {
     ghost use Rattle.std.specs.Prelude.{◌≡◌, IfOk};
 
     /// The same place.
-    pub fn try_copy(&self) -> Result<Place, AllocError>
+    pub fn try_copy(&self) -> Result<Place, OutOfMemory>
         ensures { IfOk result (λ copy. copy ≡ self.now) }
     {
         Ok(Place {

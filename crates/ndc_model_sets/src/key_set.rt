@@ -1,5 +1,5 @@
-use ndc_event::BatchKey;
-use std::alloc::{AllocError, Global};
+use ndc_event::{BatchKey, OutOfMemory};
+use std::alloc::Global;
 use std::collections::BTreeSet;
 use std::marker::Model;
 
@@ -42,7 +42,7 @@ impl KeySet {
 
     /// Puts the key to its place, where it is not there. In time of the logarithm of their number. For want of memory
     /// nothing changes.
-    pub fn put(&mut self, key: BatchKey) -> Result<(), AllocError>
+    pub fn put(&mut self, key: BatchKey) -> Result<(), OutOfMemory>
         ensures ok { OnOk result (self.new ≡ with_key key self.old) }
         ensures err { OnErr result (self.new ≡ self.old) }
     {

@@ -17,3 +17,6 @@ pub use memory::{MemSink, MemSource};
 pub use reading::{ReadError, Source, read_all};
 pub use standard::{StdSink, StdSource};
 pub use writing::{Sink, write_all};
+
+/// Want of memory, where it is the only error.
+pub type OutOfMemory = std::alloc::AllocError;

@@ -2,10 +2,11 @@
 ghost use Rattle.std.specs.Prelude.{◌≡◌, ◌≤◌, [], length, take, drop, min, Some, IfOk, OnErr};
 ghost use Rattle.ndc_port.specs.Memory.{read_answer, after_read, write_answer, after_write};
 
+use crate::OutOfMemory;
 use crate::fault::Failed;
 use crate::reading::Source;
 use crate::writing::Sink;
-use std::alloc::{AllocError, Global};
+use std::alloc::Global;
 use std::marker::Model;
 
 /// A source that gives the bytes of a list, and fails at listed calls. Reading takes no memory.
@@ -117,7 +118,7 @@ impl Model for MemSink {
 impl MemSink {
     /// A sink with room for `room` bytes, nothing written, no call and no fault. The calls whose numbers are
     /// in `failing`, counted from 1, fail.
-    pub fn new(alloc: Global, room: usize, failing: Vec<u64>) -> Result<MemSink, AllocError>
+    pub fn new(alloc: Global, room: usize, failing: Vec<u64>) -> Result<MemSink, OutOfMemory>
         ensures { IfOk result (λ sink. sink
             ≡ record { written = []; room = room; calls = 0; failing = failing.items; faults = 0 }) }
     {

@@ -1,7 +1,7 @@
 use crate::progress::Progress;
 use crate::report::{ActivityRef, Report};
-use ndc_event::Name;
-use std::alloc::{AllocError, Global};
+use ndc_event::{Name, OutOfMemory};
+use std::alloc::Global;
 use std::marker::Model;
 
 /// What a cluster holds of the progress of activities: each report that it came to hold, in order, and of these the
@@ -32,7 +32,7 @@ impl Holding {
     ghost use Rattle.ndc_progress.specs.Reports.{greatest_of, held, merge_count, next_beat, next_report};
 
     /// One of so many clusters, in the beginning.
-    pub(crate) fn new(alloc: Global, clusters: usize) -> Result<Holding, AllocError>
+    pub(crate) fn new(alloc: Global, clusters: usize) -> Result<Holding, OutOfMemory>
         ensures { IfOk result (λ holding. holding ≡ new_holding clusters) }
     {
         let seen = vec![in alloc; 0; clusters]?;
@@ -66,7 +66,7 @@ impl Holding {
     }
 
     /// The greatest report of each activity among those behind the first so many.
-    pub(crate) fn behind(&self, count: usize) -> Result<Progress, AllocError>
+    pub(crate) fn behind(&self, count: usize) -> Result<Progress, OutOfMemory>
         requires { count ≤ length self.now.log }
         ensures { IfOk result (λ greatest. greatest ≡ greatest_of (drop count self.now.log)) }
     {
@@ -80,7 +80,7 @@ impl Holding {
         activity: ActivityRef,
         version: u64,
         details: Name,
-    ) -> Result<u64, AllocError>
+    ) -> Result<u64, OutOfMemory>
         requires { IfSome (held activity (greatest_of self.old.log)) (λ report. (report.version ≤ version) × (report.beat < 10 ^ 12)) }
         ensures beat { IfOk result (λ beat. beat ≡ next_beat version (held activity (greatest_of self.old.log))) }
         ensures told { OnOk result (self.new ≡ having_told (next_report activity version details (greatest_of self.old.log)) self.old) }
@@ -105,7 +105,7 @@ impl Holding {
         from: usize,
         fresh: &Progress,
         gone_over: usize,
-    ) -> Result<u64, AllocError>
+    ) -> Result<u64, OutOfMemory>
         requires from { from < length self.old.seen }
         requires once { AreOnce fresh.now }
         ensures count { IfOk result (λ count. count ≡ merge_count (greatest_of self.old.log) fresh.now) }

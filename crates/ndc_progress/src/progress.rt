@@ -6,8 +6,8 @@ ghost use Rattle.ndc_progress.specs.Reports.{held, next_beat, replaces, same_act
 
 use crate::report::{ActivityRef, Report};
 use indexmap::IndexMap;
-use ndc_event::Name;
-use std::alloc::{AllocError, Global};
+use ndc_event::{Name, OutOfMemory};
+use std::alloc::Global;
 use std::marker::Model;
 
 /// What is held of the progress of activities: the greatest report of each one, by version, then beat. Seen as the
@@ -82,7 +82,7 @@ fn news_among(
     own: &IndexMap<ActivityRef, Report>,
     others: &IndexMap<ActivityRef, Report>,
     alloc: Global,
-) -> Result<Vec<(ActivityRef, Report)>, AllocError>
+) -> Result<Vec<(ActivityRef, Report)>, OutOfMemory>
     requires { AreKeyed own.now.entries }
     ensures { IfOk result (λ taken. taken.items ≡ keyed (news (values_of own.now.entries) (values_of others.now.entries))) }
 {
@@ -99,7 +99,7 @@ fn news_among(
 }
 
 /// Copies of these reports.
-fn reports_of(alloc: Global, taken: &[(ActivityRef, Report)]) -> Result<Vec<Report>, AllocError>
+fn reports_of(alloc: Global, taken: &[(ActivityRef, Report)]) -> Result<Vec<Report>, OutOfMemory>
     ensures { IfOk result (λ reports. reports.items ≡ map (λ entry. entry.1) taken.now) }
 {
     let mut reports = Vec::new(alloc);
@@ -152,7 +152,7 @@ impl Progress {
         activity: ActivityRef,
         version: u64,
         details: Name,
-    ) -> Result<u64, AllocError>
+    ) -> Result<u64, OutOfMemory>
         requires { IfSome (held activity self.old) (λ report. (report.version ≤ version) × (report.beat < 10 ^ 12)) }
         ensures beat { IfOk result (λ beat. beat ≡ next_beat version (held activity self.old)) }
         ensures told { OnOk result (self.new ≡ with_report self.old (next_report activity version details self.old)) }
@@ -172,7 +172,7 @@ impl Progress {
 
     /// Takes over the reports of another one, and answers of how many activities it then holds another report: those
     /// of which it held none or a smaller one. Where memory runs out, all stays as it was.
-    pub fn merge(&mut self, other: &Progress) -> Result<u64, AllocError>
+    pub fn merge(&mut self, other: &Progress) -> Result<u64, OutOfMemory>
         ensures count { IfOk result (λ count. count ≡ merge_count self.old other.now) }
         ensures merged { OnOk result (self.new ≡ merged self.old other.now) }
         ensures unchanged { OnErr result (self.new ≡ self.old) }
@@ -188,7 +188,7 @@ impl Progress {
         &mut self,
         other: &Progress,
         log: &mut Vec<Report>,
-    ) -> Result<u64, AllocError>
+    ) -> Result<u64, OutOfMemory>
         ensures count { IfOk result (λ count. count ≡ merge_count self.old other.now) }
         ensures merged { OnOk result (self.new ≡ merged self.old other.now) }
         ensures news { OnOk result (log.new.items ≡ log.old.items ++ news self.old other.now) }
@@ -206,7 +206,7 @@ impl Progress {
     }
 
     /// A report joins what is held. Where memory runs out, all stays as it was.
-    pub(crate) fn take(&mut self, report: &Report) -> Result<(), AllocError>
+    pub(crate) fn take(&mut self, report: &Report) -> Result<(), OutOfMemory>
         ensures taken { OnOk result (self.new ≡ with_report self.old report.now) }
         ensures unchanged { OnErr result (self.new ≡ self.old) }
     {
@@ -220,7 +220,7 @@ impl Progress {
     }
 
     /// The greatest report of each activity among these.
-    pub(crate) fn greatest_of(alloc: Global, reports: &[Report]) -> Result<Progress, AllocError>
+    pub(crate) fn greatest_of(alloc: Global, reports: &[Report]) -> Result<Progress, OutOfMemory>
         ensures { IfOk result (λ greatest. greatest ≡ greatest_of reports.now) }
     {
         let mut greatest = Progress::new(alloc);

@@ -1,5 +1,4 @@
-use ndc_event::{Name, RunId};
-use std::alloc::AllocError;
+use ndc_event::{Name, OutOfMemory, RunId};
 
 /// An activity, by the event that scheduled it.
 #[derive(Debug, Drop, PartialEq, Eq, Hash)]
@@ -20,7 +19,7 @@ impl ActivityRef {
     ghost use Rattle.std.specs.Prelude.{◌≡◌, IfOk};
 
     /// The same activity.
-    pub fn try_copy(&self) -> Result<ActivityRef, AllocError>
+    pub fn try_copy(&self) -> Result<ActivityRef, OutOfMemory>
         ensures { IfOk result (λ copy. copy ≡ self.now) }
     {
         Ok(ActivityRef {
@@ -50,7 +49,7 @@ impl Report {
     ghost use Rattle.std.specs.Prelude.{◌≡◌, IfOk};
 
     /// The same report.
-    pub fn try_copy(&self) -> Result<Report, AllocError>
+    pub fn try_copy(&self) -> Result<Report, OutOfMemory>
         ensures { IfOk result (λ copy. copy ≡ self.now) }
     {
         Ok(Report {

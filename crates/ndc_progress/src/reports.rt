@@ -1,8 +1,8 @@
 use crate::holding::Holding;
 use crate::progress::Progress;
 use crate::report::ActivityRef;
-use ndc_event::Name;
-use std::alloc::{AllocError, Global};
+use ndc_event::{Name, OutOfMemory};
+use std::alloc::Global;
 use std::marker::Model;
 
 /// The progress reports that all clusters hold. Seen as one list for each cluster: the greatest report of each activity, in
@@ -37,7 +37,7 @@ impl Reports {
     ghost use Rattle.ndc_progress.specs.Reports.{held, merge_count, merged, next_beat, next_report, with_report};
 
     /// None of so many clusters holds a report.
-    pub fn new(alloc: Global, clusters: usize) -> Result<Reports, AllocError>
+    pub fn new(alloc: Global, clusters: usize) -> Result<Reports, OutOfMemory>
         ensures { IfOk result (λ reports. reports ≡ replicate clusters []) }
     {
         let mut holdings = Vec::new(alloc);
@@ -62,7 +62,7 @@ impl Reports {
         activity: ActivityRef,
         version: u64,
         details: Name,
-    ) -> Result<u64, AllocError>
+    ) -> Result<u64, OutOfMemory>
         requires cluster { cluster < length self.old }
         requires held { IfSome (held activity (slice_index_or self.old cluster [])) (λ report. (report.version ≤ version) × (report.beat < 10 ^ 12)) }
         ensures beat { IfOk result (λ beat. beat ≡ next_beat version (held activity (slice_index_or self.old cluster []))) }
@@ -77,7 +77,7 @@ impl Reports {
     /// The cluster at one place takes over the reports of the one at another, and it is answered of how many activities it
     /// then holds another report. It looks only at reports that the other came to hold since it last took them over. Where
     /// memory runs out, all stays as it was.
-    pub fn take_over(&mut self, to: usize, from: usize) -> Result<u64, AllocError>
+    pub fn take_over(&mut self, to: usize, from: usize) -> Result<u64, OutOfMemory>
         requires to { to < length self.old }
         requires from { from < length self.old }
         ensures count { IfOk result (λ count. count ≡ merge_count (slice_index_or self.old to []) (slice_index_or self.old from [])) }

@@ -1,5 +1,6 @@
 ghost use Rattle.std.specs.Prelude.{◌≡◌};
 
+use ndc_event::OutOfMemory;
 use ndc_model_cells::Message;
 use std::alloc::{AllocError, AllocFailed, Global};
 use std::marker::Model;
@@ -79,7 +80,7 @@ impl Flight {
     }
 
     /// Puts messages last, in order. Where memory runs out, the list stays as it was.
-    pub fn put(&mut self, messages: Vec<Message>) -> Result<(), AllocError>
+    pub fn put(&mut self, messages: Vec<Message>) -> Result<(), OutOfMemory>
         ensures put { OnOk result (self.new ≡ self.old ++ messages.items) }
         ensures unchanged { OnErr result (self.new ≡ self.old) }
     {

@@ -2,7 +2,7 @@ ghost use Rattle.std.specs.Prelude.{◌≡◌, ◌≤◌, ◌*◌, drop, length,
 ghost use Rattle.std.specs.List.{AllByRecursion};
 ghost use Rattle.ndc_queue.specs.Queues.{IsEmptied};
 
-use ndc_event::{Events, Rare};
+use ndc_event::{Events, OutOfMemory, Rare};
 use ndc_history::VersionHistory;
 use ndc_model_cells::Message;
 use std::alloc::{AllocError, Global};
@@ -99,7 +99,7 @@ fn front(entries: &[Message], count: u64) -> &[Message]
 }
 
 /// Copies of the entries.
-fn copies(alloc: Global, entries: &[Message]) -> Result<Vec<Message>, AllocError>
+fn copies(alloc: Global, entries: &[Message]) -> Result<Vec<Message>, OutOfMemory>
     ensures { IfOk result (λ list. list.items ≡ entries.now) }
 {
     let mut list = Vec::with_capacity(alloc, entries.len())?;
@@ -127,7 +127,7 @@ impl Queue {
 
     /// Puts an entry last. Where memory runs out, the queue stays as it was; a full queue, of [`MAX_ENTRIES`] entries,
     /// answers so too.
-    pub fn push(&mut self, message: Message) -> Result<(), AllocError>
+    pub fn push(&mut self, message: Message) -> Result<(), OutOfMemory>
         ensures pushed { OnOk result (self.new ≡ pushed message self.old) }
         ensures unchanged { OnErr result (self.new ≡ self.old) }
         ensures full { IsFull self.old → IsErr result }
@@ -141,7 +141,7 @@ impl Queue {
     }
 
     /// Copies of the entries from a level on, at most so many. The level is not below `first` and not above `len`.
-    pub fn after(&self, level: u64, count: u64) -> Result<Vec<Message>, AllocError>
+    pub fn after(&self, level: u64, count: u64) -> Result<Vec<Message>, OutOfMemory>
         requires least { self.now.first ≤ level }
         requires most { level ≤ queue_len self.now }
         ensures { IfOk result (λ list. list.items ≡ take count (kept_from self.now.first level self.now.kept)) }

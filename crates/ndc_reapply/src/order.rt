@@ -6,8 +6,8 @@ ghost use Rattle.ndc_state.specs.Origins.{is_among, with_origin};
 
 use crate::stray::Stray;
 use indexmap::IndexSet;
-use ndc_event::{Origin, RunId};
-use std::alloc::{AllocError, Global};
+use ndc_event::{Origin, OutOfMemory, RunId};
+use std::alloc::Global;
 use std::collections::BTreeMap;
 use std::marker::Model;
 
@@ -63,7 +63,7 @@ impl Ordered {
     }
 
     /// Puts the signal to its place, instead of one that has its origin.
-    fn put(&mut self, signal: Stray) -> Result<(), AllocError>
+    fn put(&mut self, signal: Stray) -> Result<(), OutOfMemory>
         ensures ok { OnOk result (self.new ≡ with_stray signal self.old) }
         ensures err { OnErr result (self.new ≡ self.old) }
     {
@@ -72,7 +72,7 @@ impl Ordered {
     }
 
     /// The signals, in order.
-    fn into_vec(self, alloc: Global) -> Result<Vec<Stray>, AllocError>
+    fn into_vec(self, alloc: Global) -> Result<Vec<Stray>, OutOfMemory>
         ensures { IfOk result (λ list. list.items ≡ self) }
     {
         self.signals.into_values().collect(alloc)
@@ -80,7 +80,7 @@ impl Ordered {
 }
 
 /// Puts the origin into the set, where it is not there.
-fn insert(set: &mut IndexSet<Origin>, origin: Origin) -> Result<(), AllocError>
+fn insert(set: &mut IndexSet<Origin>, origin: Origin) -> Result<(), OutOfMemory>
     ensures ok { OnOk result (set.new.keys ≡ with_origin origin set.old.keys) }
     ensures err { OnErr result (set.new.keys ≡ set.old.keys) }
 {
@@ -89,7 +89,7 @@ fn insert(set: &mut IndexSet<Origin>, origin: Origin) -> Result<(), AllocError>
 }
 
 /// The origins as a set that is asked without going over them.
-fn set_of(alloc: Global, origins: &[Origin]) -> Result<IndexSet<Origin>, AllocError>
+fn set_of(alloc: Global, origins: &[Origin]) -> Result<IndexSet<Origin>, OutOfMemory>
     ensures { IfOk result (λ set. (origin : EventOrigin) → is_among origin set.keys ≡ is_among origin origins.now) }
 {
     let mut set = IndexSet::new(alloc);
@@ -112,7 +112,7 @@ fn unsettled(
     alloc: Global,
     signals: &[Stray],
     settled: &IndexSet<Origin>,
-) -> Result<Ordered, AllocError>
+) -> Result<Ordered, OutOfMemory>
     ensures { IfOk result (λ found. found ≡ strays_of signals.now settled.now.keys) }
 {
     let mut found = Ordered::new(alloc);
@@ -133,7 +133,7 @@ pub fn strays(
     alloc: Global,
     signals: &[Stray],
     settled: &[Origin],
-) -> Result<Vec<Stray>, AllocError>
+) -> Result<Vec<Stray>, OutOfMemory>
     ensures { IfOk result (λ list. list.items ≡ strays_of signals.now settled.now) }
 {
     let settled = set_of(alloc, settled)?;

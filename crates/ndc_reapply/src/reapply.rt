@@ -2,12 +2,12 @@ ghost use Rattle.std.specs.Prelude.{◌≡◌, ◌++◌, IfOk, OnOk, IsTrue, map
 ghost use Rattle.ndc_reapply.specs.Reapplied.{copy_of, reapplied};
 
 use crate::stray::Stray;
-use ndc_event::{EventKind, Rare};
+use ndc_event::{EventKind, OutOfMemory, Rare};
 use ndc_state::State;
-use std::alloc::{AllocError, Global};
+use std::alloc::Global;
 
 /// Appends a copy of each signal, in order.
-fn push_copies(alloc: Global, kinds: &mut Vec<EventKind>, list: &[Stray]) -> Result<(), AllocError>
+fn push_copies(alloc: Global, kinds: &mut Vec<EventKind>, list: &[Stray]) -> Result<(), OutOfMemory>
     ensures ok { OnOk result (kinds.new.items ≡ kinds.old.items ++ map copy_of list.now) }
 {
     for stray in list {
@@ -29,7 +29,7 @@ pub fn reapply_events(
     state: &State,
     version: u64,
     list: &[Stray],
-) -> Result<Vec<EventKind>, AllocError>
+) -> Result<Vec<EventKind>, OutOfMemory>
     requires { IsTrue state.now.running }
     ensures { IfOk result (λ kinds. kinds.items ≡ reapplied state.now version list.now) }
 {

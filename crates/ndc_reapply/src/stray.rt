@@ -1,5 +1,4 @@
-use ndc_event::{Name, Origin};
-use std::alloc::AllocError;
+use ndc_event::{Name, Origin, OutOfMemory};
 
 /// A signal by its origin: the signal event that it comes from, with what it says.
 #[derive(Debug, Drop)]
@@ -16,7 +15,7 @@ impl Stray {
     ghost use Rattle.std.specs.Prelude.{◌≡◌, IfOk};
 
     /// The same signal.
-    pub fn try_copy(&self) -> Result<Stray, AllocError>
+    pub fn try_copy(&self) -> Result<Stray, OutOfMemory>
         ensures { IfOk result (λ copy. copy ≡ self.now) }
     {
         Ok(Stray {

@@ -4,9 +4,9 @@ ghost use Rattle.ndc_rebuild.specs.Kept.{reaches};
 
 use crate::replay::{lent, rebuild_along, replay_batches};
 use indexmap::IndexMap;
-use ndc_event::{Batch, BatchKey, RunId};
+use ndc_event::{Batch, BatchKey, OutOfMemory, RunId};
 use ndc_state::{State, StateError, Steps, Tracked};
-use std::alloc::{AllocError, Global};
+use std::alloc::Global;
 use std::marker::Model;
 
 /// A state is kept where a batch takes its path's number of events to or past a multiple of this.
@@ -60,7 +60,7 @@ impl Checkpoints {
     /// Keeps a copy of the state, without its origins, for the tip of its path, where the last batch of the
     /// path, of so many events, took the path's number of events to or past a multiple of 512. It replaces
     /// what was kept for the tip. For want of memory what is kept stays.
-    pub fn keep(&mut self, tip: BatchKey, events: u64, state: &State) -> Result<(), AllocError>
+    pub fn keep(&mut self, tip: BatchKey, events: u64, state: &State) -> Result<(), OutOfMemory>
         ensures states { OnOk result (self.new.states ≡ with_kept tip events state.now self.old.states) }
         ensures run { self.new.run ≡ self.old.run }
         ensures err { OnErr result (self.new ≡ self.old) }
@@ -74,7 +74,7 @@ impl Checkpoints {
         tip: BatchKey,
         events: u64,
         state: &Tracked,
-    ) -> Result<(), AllocError>
+    ) -> Result<(), OutOfMemory>
         ensures states { OnOk result (self.new.states ≡ with_kept tip events state.now.current self.old.states) }
         ensures run { self.new.run ≡ self.old.run }
         ensures err { OnErr result (self.new ≡ self.old) }
@@ -165,7 +165,7 @@ fn reaches(events: u64, next: u64) -> bool
 }
 
 /// A copy of the state, with the origins of the signals in the batches behind those that it lists.
-fn refilled(state: &State, batches: &[&Batch]) -> Result<State, AllocError>
+fn refilled(state: &State, batches: &[&Batch]) -> Result<State, OutOfMemory>
     ensures { IfOk result (λ copy. copy ≡ record state.now { origins = collected state.now.run state.now.origins (history_of (map (λ b. b.now) batches.now)) }) }
 {
     let mut copy = state.try_copy()?;

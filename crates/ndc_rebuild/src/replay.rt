@@ -6,9 +6,9 @@ ghost use Rattle.ndc_state.specs.Replay.{history_of, replay, replay_of, allowed_
 ghost use Rattle.ndc_state.specs.Value.{new_state};
 ghost use Rattle.ndc_rebuild.specs.Rebuilt.{HaveSmallIds};
 
-use ndc_event::{Batch, RunId};
+use ndc_event::{Batch, OutOfMemory, RunId};
 use ndc_state::{State, StateError, Steps};
-use std::alloc::{AllocError, Global};
+use std::alloc::Global;
 
 /// The state of a run after all events of the batches, in order; one step is counted for each event that is
 /// applied. Refused with [`StateError::Invalid`] for the first event that is forbidden, with its first rule.
@@ -67,7 +67,7 @@ pub(crate) fn replay_batches<L>(
 }
 
 /// The batches, lent one by one.
-pub(crate) fn lent(alloc: Global, batches: &[Batch]) -> Result<Vec<&Batch>, AllocError>
+pub(crate) fn lent(alloc: Global, batches: &[Batch]) -> Result<Vec<&Batch>, OutOfMemory>
     ensures { IfOk result (λ list. map (λ b. b.now) list.items ≡ batches.now) }
 {
     batches.iter().collect(alloc)

@@ -1,10 +1,10 @@
 ghost use Rattle.std.specs.Prelude.{◌≡◌, IfOk};
 ghost use Rattle.ndc_resend.specs.Gaps.{is_between, served};
 
-use ndc_event::Batch;
+use ndc_event::{Batch, OutOfMemory};
 use ndc_history::Item;
 use ndc_model_sets::{first_id, last_id};
-use std::alloc::{AllocError, Global};
+use std::alloc::Global;
 
 /// A gap in a run: what comes after one event and before another one, each by its id and version.
 #[derive(Clone, Copy, Debug, PartialEq, Eq)]
@@ -25,7 +25,7 @@ pub fn is_between(gap: &Gap, batch: &Batch) -> bool
 
 /// Copies of the batches of a path that lie in the gap, in order: those whose first id is above that of the one end,
 /// and whose last id is below that of the other.
-pub fn serve(alloc: Global, path: &[Batch], gap: &Gap) -> Result<Vec<Batch>, AllocError>
+pub fn serve(alloc: Global, path: &[Batch], gap: &Gap) -> Result<Vec<Batch>, OutOfMemory>
     ensures { IfOk result (λ list. list.items ≡ served gap.now path.now) }
 {
     let mut list = Vec::new(alloc);

@@ -3,7 +3,7 @@ ghost use Rattle.ndc_event.specs.Outcome.{Gives};
 ghost use Rattle.ndc_reset.specs.Reset.{is_completed, is_signal, is_kept, is_point, repeated, repeated_kinds, events_before, signals_onward, reset_kinds, reset_of};
 ghost use Rattle.ndc_reset.specs.declared.plan.ResetError.TheVariants.{Memory};
 
-use ndc_event::{Event, EventKind, Name, NameError, Rare, RunId};
+use ndc_event::{Event, EventKind, Name, NameError, OutOfMemory, Rare, RunId};
 use ndc_state::origin_of;
 use std::alloc::{AllocError, AllocFailed, Global};
 use thiserror::Error;
@@ -96,7 +96,7 @@ fn count_kinds(history: &[&Event], point: u64) -> u64
 }
 
 /// The kind of the event as another run repeats it.
-fn repeated(alloc: Global, run: RunId, event: &Event) -> Result<EventKind, AllocError>
+fn repeated(alloc: Global, run: RunId, event: &Event) -> Result<EventKind, OutOfMemory>
     ensures { IfOk result (λ kind. kind ≡ repeated run event.now.id event.now.version event.now.kind) }
 {
     match &event.kind {
@@ -120,7 +120,7 @@ fn push_before(
     history: &[&Event],
     run: RunId,
     point: u64,
-) -> Result<(), AllocError>
+) -> Result<(), OutOfMemory>
     ensures ok { OnOk result (kinds.new.items ≡ kinds.old.items ++ repeated_kinds run (events_before point (map (λ e. e.now) history.now))) }
 {
     for event in history {
@@ -138,7 +138,7 @@ fn push_onward(
     history: &[&Event],
     run: RunId,
     point: u64,
-) -> Result<(), AllocError>
+) -> Result<(), OutOfMemory>
     ensures ok { OnOk result (kinds.new.items ≡ kinds.old.items ++ repeated_kinds run (signals_onward point (map (λ e. e.now) history.now))) }
 {
     for event in history {
@@ -151,7 +151,7 @@ fn push_onward(
 }
 
 /// The cause of the decision that a reset fails.
-fn reset_cause(alloc: Global) -> Result<Name, AllocError>
+fn reset_cause(alloc: Global) -> Result<Name, OutOfMemory>
     ensures { IfOk result (λ name. name ≡ codes "reset") }
 {
     match Name::new(alloc, b"reset".as_slice()) {
@@ -169,7 +169,7 @@ fn reset_kinds(
     run: RunId,
     point: u64,
     count: usize,
-) -> Result<Vec<EventKind>, AllocError>
+) -> Result<Vec<EventKind>, OutOfMemory>
     ensures { IfOk result (λ kinds. kinds.items ≡ reset_kinds run point (map (λ e. e.now) history.now)) }
 {
     let mut kinds = Vec::with_capacity(alloc, count)?;

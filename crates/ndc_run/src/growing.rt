@@ -9,11 +9,10 @@ ghost use Rattle.ndc_state.specs.Replay.{replay, CountsWithin};
 ghost use Rattle.ndc_tree.specs.Tree.{Joins};
 
 use crate::answer::RunError;
-use ndc_event::Batch;
+use ndc_event::{Batch, OutOfMemory};
 use ndc_rebuild::Checkpoints;
 use ndc_state::{State, Steps, Tracked};
 use ndc_tree::Tree;
-use std::alloc::AllocError;
 
 /// Keeps what is to be kept of the state, which is that of the batch's path, and takes the batch in; for want of
 /// memory both are as they were.
@@ -22,7 +21,7 @@ fn take_in(
     tree: &mut Tree,
     state: &Tracked,
     batch: &Batch,
-) -> Result<(), AllocError>
+) -> Result<(), OutOfMemory>
     requires joins { Joins tree.old.run tree.old.batches batch.now }
     requires fresh { kept_at batch.now.key kept.old.states ≡ None }
     ensures tree { OnOk result (tree.new ≡ record tree.old { batches = arrived batch.now tree.old.batches }) }

@@ -4,7 +4,7 @@ ghost use Rattle.ndc_run.specs.Leading.{leading_of, beside_of};
 
 use crate::answer::{Learned, RunError};
 use crate::growing::grow;
-use ndc_event::{Batch, BatchKey, RunId};
+use ndc_event::{Batch, BatchKey, OutOfMemory, RunId};
 use ndc_model_sets::is_key;
 use ndc_rebuild::Checkpoints;
 use ndc_state::{State, Steps};
@@ -171,7 +171,7 @@ impl Run {
         alloc: Global,
         tip: BatchKey,
         steps: &mut Steps<L>,
-    ) -> Result<Option<State>, AllocError>
+    ) -> Result<Option<State>, OutOfMemory>
         ensures state { IfOk result (λ state. state ≡ tip_state self.now.run self.now.batches tip) }
         ensures most_steps { CountsWithin steps.old 511 steps.new }
         ensures no_steps { result ≡ Ok None → steps.new ≡ steps.old }
@@ -280,7 +280,7 @@ impl Run {
         alloc: Global,
         key: BatchKey,
         steps: &mut Steps<L>,
-    ) -> Result<Box<Branch>, AllocError>
+    ) -> Result<Box<Branch>, OutOfMemory>
         requires { is_some (batch_at key self.old.batches) ≡ true }
         ensures tip { IfOk result (λ branch. branch.value.tip ≡ key) }
         ensures state { IfOk result (λ branch. branch.value.state ≡ state_to self.old.run key self.old.batches) }
@@ -302,7 +302,7 @@ impl Run {
         alloc: Global,
         key: BatchKey,
         steps: &mut Steps<L>,
-    ) -> Result<State, AllocError>
+    ) -> Result<State, OutOfMemory>
         requires { is_some (batch_at key self.now.batches) ≡ true }
         ensures state { IfOk result (λ state. state ≡ state_to self.now.run key self.now.batches) }
         ensures steps { CountsWithin steps.old 511 steps.new }
@@ -325,7 +325,7 @@ impl Run {
         alloc: Global,
         key: BatchKey,
         steps: &mut Steps<L>,
-    ) -> Result<State, AllocError>
+    ) -> Result<State, OutOfMemory>
         requires { is_some (batch_at key self.now.batches) ≡ true }
         ensures state { IfOk result (λ state. state ≡ state_to self.now.run key self.now.batches) }
         ensures steps { CountsWithin steps.old 511 steps.new }
@@ -338,7 +338,7 @@ impl Run {
     }
 
     /// The batches of the path to the one of this key.
-    fn path_to(&self, alloc: Global, key: BatchKey) -> Result<Vec<&Batch>, AllocError>
+    fn path_to(&self, alloc: Global, key: BatchKey) -> Result<Vec<&Batch>, OutOfMemory>
         requires { is_some (batch_at key self.now.batches) ≡ true }
         ensures { IfOk result (λ path. map (λ b. b.now) path.items ≡ path_to key self.now.batches) }
     {

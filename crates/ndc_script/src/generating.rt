@@ -8,12 +8,12 @@ ghost use Rattle.ndc_script.specs.Generate.{generated_header, next_state, drawn,
 
 use ndc_command::{Action, Actions, Command};
 use ndc_domain::{ClusterNo, Clusters, Members};
-use ndc_event::{Name, NameError};
+use ndc_event::{Name, NameError, OutOfMemory};
 use ndc_script_types::{Act, Header, Line, Lines, Script, clusters_below};
 use std::alloc::{AllocError, Global};
 
 /// The name of these bytes, which are one.
-fn name_of(alloc: Global, bytes: &[u8]) -> Result<Name, AllocError>
+fn name_of(alloc: Global, bytes: &[u8]) -> Result<Name, OutOfMemory>
     requires { is_name bytes.now ≡ true }
     ensures { IfOk result (λ name. name ≡ bytes.now) }
 {
@@ -25,7 +25,7 @@ fn name_of(alloc: Global, bytes: &[u8]) -> Result<Name, AllocError>
 }
 
 /// Some bytes and a number.
-fn numbered(alloc: Global, front: &[u8], number: u64) -> Result<Vec<u8>, AllocError>
+fn numbered(alloc: Global, front: &[u8], number: u64) -> Result<Vec<u8>, OutOfMemory>
     ensures { IfOk result (λ text. text.items ≡ front.now ++ decimal number) }
 {
     let mut text = Vec::from_slice(alloc, front)?;
@@ -35,7 +35,7 @@ fn numbered(alloc: Global, front: &[u8], number: u64) -> Result<Vec<u8>, AllocEr
 }
 
 /// The name of some bytes and a number.
-fn numbered_name(alloc: Global, front: &[u8], number: u64) -> Result<Name, AllocError>
+fn numbered_name(alloc: Global, front: &[u8], number: u64) -> Result<Name, OutOfMemory>
     requires bytes { list_all is_name_byte front.now ≡ true }
     requires short { length front.now ≤ 1 }
     requires small { number < 10 ^ 18 }
@@ -73,7 +73,7 @@ fn drawn_cluster(draw: u64) -> ClusterNo
 
 /// The domain of a draw.
 #[tactic(auto, unfolding(crate::specs::Generate::drawn_domain))]
-fn drawn_domain(alloc: Global, draw: u64) -> Result<Name, AllocError>
+fn drawn_domain(alloc: Global, draw: u64) -> Result<Name, OutOfMemory>
     ensures { IfOk result (λ name. name ≡ drawn_domain draw) }
 {
     if draw / 30 % 2 == 0 {
@@ -93,7 +93,7 @@ fn drawn_number(draw: u64) -> u64
 
 /// The workflow of a draw.
 #[tactic(auto, unfolding(crate::specs::Generate::drawn_workflow))]
-fn drawn_workflow(alloc: Global, draw: u64) -> Result<Name, AllocError>
+fn drawn_workflow(alloc: Global, draw: u64) -> Result<Name, OutOfMemory>
     ensures { IfOk result (λ name. name ≡ drawn_workflow draw) }
 {
     numbered_name(alloc, b"w", drawn_number(draw))
@@ -118,7 +118,7 @@ fn drawn_other(draw: u64) -> ClusterNo
 }
 
 /// The command of a draw of kind 0 to 5 for a place.
-fn drawn_command(alloc: Global, place: u64, kind: u64) -> Result<Command, AllocError>
+fn drawn_command(alloc: Global, place: u64, kind: u64) -> Result<Command, OutOfMemory>
     requires { place < 10 ^ 18 }
     ensures { IfOk result (λ command. command ≡ drawn_command place kind) }
 {
@@ -145,7 +145,7 @@ fn drawn_command(alloc: Global, place: u64, kind: u64) -> Result<Command, AllocE
 }
 
 /// What the line of a draw of kind 6 to 9 asks for.
-fn drawn_move(alloc: Global, draw: u64, kind: u64) -> Result<Act, AllocError>
+fn drawn_move(alloc: Global, draw: u64, kind: u64) -> Result<Act, OutOfMemory>
     ensures { IfOk result (λ act. act ≡ drawn_move draw kind) }
 {
     if kind == 6 {
@@ -173,7 +173,7 @@ fn drawn_move(alloc: Global, draw: u64, kind: u64) -> Result<Act, AllocError>
 
 /// What the line at a place, counted from 1, asks for, by its draw.
 #[tactic(auto, unfolding(crate::specs::Generate::generated_act))]
-fn generated_act(alloc: Global, place: u64, draw: u64) -> Result<Act, AllocError>
+fn generated_act(alloc: Global, place: u64, draw: u64) -> Result<Act, OutOfMemory>
     requires { place < 10 ^ 18 }
     ensures { IfOk result (λ act. act ≡ generated_act place draw) }
 {
@@ -191,7 +191,7 @@ fn generated_act(alloc: Global, place: u64, draw: u64) -> Result<Act, AllocError
 }
 
 /// The header of generated scripts.
-fn generated_header(alloc: Global) -> Result<Header, AllocError>
+fn generated_header(alloc: Global) -> Result<Header, OutOfMemory>
     ensures { IfOk result (λ header. header ≡ generated_header) }
 {
     let mut members = Vec::new(alloc);
@@ -209,7 +209,7 @@ fn generated_header(alloc: Global) -> Result<Header, AllocError>
 }
 
 /// The members of generated domains: all clusters.
-fn all_members(alloc: Global) -> Result<Members, AllocError>
+fn all_members(alloc: Global) -> Result<Members, OutOfMemory>
     ensures { IfOk result (λ members. members ≡ members_of (clusters_below 3)) }
 {
     let clusters = clusters_below(alloc, 3)?;
@@ -217,7 +217,7 @@ fn all_members(alloc: Global) -> Result<Members, AllocError>
 }
 
 /// The line that registers a domain of generated scripts.
-fn registering(alloc: Global, domain: &[u8], target: u32) -> Result<Act, AllocError>
+fn registering(alloc: Global, domain: &[u8], target: u32) -> Result<Act, OutOfMemory>
     requires { is_name domain.now ≡ true }
     ensures { IfOk result (λ act. act ≡ registering domain.now target) }
 {
@@ -241,7 +241,7 @@ fn telling(to: u32) -> Act
 }
 
 /// The line that starts a first workflow of generated scripts.
-fn starting(alloc: Global, cluster: u32, domain: &[u8]) -> Result<Act, AllocError>
+fn starting(alloc: Global, cluster: u32, domain: &[u8]) -> Result<Act, OutOfMemory>
     requires { is_name domain.now ≡ true }
     ensures { IfOk result (λ act. act ≡ starting cluster domain.now) }
 {
@@ -256,7 +256,7 @@ fn starting(alloc: Global, cluster: u32, domain: &[u8]) -> Result<Act, AllocErro
 }
 
 /// The first lines of generated scripts.
-fn first_lines(alloc: Global) -> Result<Vec<Line>, AllocError>
+fn first_lines(alloc: Global) -> Result<Vec<Line>, OutOfMemory>
     ensures { IfOk result (λ lines. lines.items ≡ first_lines) }
 {
     let alpha = registering(alloc, b"alpha", 0)?;
@@ -274,7 +274,7 @@ fn first_lines(alloc: Global) -> Result<Vec<Line>, AllocError>
 }
 
 /// Appends a line.
-fn push_act(lines: &mut Vec<Line>, number: u64, act: Act) -> Result<(), AllocError>
+fn push_act(lines: &mut Vec<Line>, number: u64, act: Act) -> Result<(), OutOfMemory>
     ensures { OnOk result (lines.new.items ≡ lines.old.items ++ line_at number act ∷ []) }
 {
     lines.push(Line { number, act })?;
@@ -282,7 +282,12 @@ fn push_act(lines: &mut Vec<Line>, number: u64, act: Act) -> Result<(), AllocErr
 }
 
 /// Appends the generated lines from a seed on.
-fn push_drawn(alloc: Global, lines: &mut Vec<Line>, count: u64, seed: u64) -> Result<(), AllocError>
+fn push_drawn(
+    alloc: Global,
+    lines: &mut Vec<Line>,
+    count: u64,
+    seed: u64,
+) -> Result<(), OutOfMemory>
     requires { count ≤ 99000 }
     ensures { OnOk result (lines.new.items ≡ lines.old.items ++ drawn_lines count 1 seed) }
 {
@@ -296,7 +301,7 @@ fn push_drawn(alloc: Global, lines: &mut Vec<Line>, count: u64, seed: u64) -> Re
 }
 
 /// The script of so many generated lines from a seed.
-fn script_of(alloc: Global, count: u64, seed: u64) -> Result<Script, AllocError>
+fn script_of(alloc: Global, count: u64, seed: u64) -> Result<Script, OutOfMemory>
     requires { count ≤ 99000 }
     ensures { IfOk result (λ script. script ≡ generated_script count seed) }
 {
@@ -312,7 +317,7 @@ fn script_of(alloc: Global, count: u64, seed: u64) -> Result<Script, AllocError>
 
 /// The script of `count` generated lines, 1 to 99,000, from a seed: three clusters, two domains, the drawn lines
 /// and `settle`. The seed goes on by x * 6364136223846793005 + 1442695040888963407 modulo 2^64 for each line.
-pub fn generate(alloc: Global, count: u64, seed: u64) -> Result<Script, AllocError>
+pub fn generate(alloc: Global, count: u64, seed: u64) -> Result<Script, OutOfMemory>
     requires least { 1 ≤ count }
     requires most { count ≤ 99000 }
     ensures script { IfOk result (λ script. script ≡ generated_script count seed) }

@@ -8,12 +8,12 @@ ghost use Rattle.ndc_script_types.specs.WellFormed.{IsWellFormed, IsWellFormedAc
 
 use ndc_command::{Action, Command};
 use ndc_domain::{ClusterNo, Clusters, Members};
-use ndc_event::Name;
+use ndc_event::{Name, OutOfMemory};
 use ndc_script_types::{Act, BurstJob, Header, Script, clusters_below};
-use std::alloc::{AllocError, Global};
+use std::alloc::Global;
 
 /// Appends a number behind a space.
-fn push_number(text: &mut Vec<u8>, number: u64) -> Result<(), AllocError>
+fn push_number(text: &mut Vec<u8>, number: u64) -> Result<(), OutOfMemory>
     ensures { OnOk result (text.new.items ≡ text.old.items ++ 32 ∷ decimal number) }
 {
     let mut buffer = itoa::Buffer::new();
@@ -22,7 +22,7 @@ fn push_number(text: &mut Vec<u8>, number: u64) -> Result<(), AllocError>
 }
 
 /// Appends a word behind a space.
-fn push_word(text: &mut Vec<u8>, word: &[u8]) -> Result<(), AllocError>
+fn push_word(text: &mut Vec<u8>, word: &[u8]) -> Result<(), OutOfMemory>
     ensures { OnOk result (text.new.items ≡ text.old.items ++ 32 ∷ word.now) }
 {
     text.extend_from_slice(b" ")?;
@@ -30,7 +30,7 @@ fn push_word(text: &mut Vec<u8>, word: &[u8]) -> Result<(), AllocError>
 }
 
 /// Appends words, each behind a space.
-fn push_words(text: &mut Vec<u8>, words: &[&[u8]]) -> Result<(), AllocError>
+fn push_words(text: &mut Vec<u8>, words: &[&[u8]]) -> Result<(), OutOfMemory>
     ensures { OnOk result (text.new.items ≡ text.old.items ++ behind_spaces (map (λ word. word.now) words.now)) }
 {
     for word in words {
@@ -40,7 +40,7 @@ fn push_words(text: &mut Vec<u8>, words: &[&[u8]]) -> Result<(), AllocError>
 }
 
 /// Appends numbers, each behind a space.
-fn push_numbers(text: &mut Vec<u8>, numbers: &[u64]) -> Result<(), AllocError>
+fn push_numbers(text: &mut Vec<u8>, numbers: &[u64]) -> Result<(), OutOfMemory>
     ensures { OnOk result (text.new.items ≡ text.old.items ++ behind_spaces (map decimal numbers.now)) }
 {
     for number in numbers {
@@ -55,7 +55,7 @@ fn push_line(
     word: &[u8],
     words: &[&[u8]],
     numbers: &[u64],
-) -> Result<(), AllocError>
+) -> Result<(), OutOfMemory>
     ensures { OnOk result (text.new.items ≡ text.old.items ++ line_text (word.now ∷ map (λ word. word.now) words.now ++ map decimal numbers.now)) }
 {
     text.extend_from_slice(word)?;
@@ -66,7 +66,7 @@ fn push_line(
 }
 
 /// Appends the words of an action, each behind a space.
-fn push_action(text: &mut Vec<u8>, action: &Action) -> Result<(), AllocError>
+fn push_action(text: &mut Vec<u8>, action: &Action) -> Result<(), OutOfMemory>
     ensures { OnOk result (text.new.items ≡ text.old.items ++ behind_spaces (action_words action.now)) }
 {
     match action {
@@ -105,7 +105,7 @@ fn push_respond(
     domain: &Name,
     workflow: &Name,
     actions: &[Action],
-) -> Result<(), AllocError>
+) -> Result<(), OutOfMemory>
     ensures { OnOk result (text.new.items ≡ text.old.items ++ line_text (codes "respond" ∷ cluster.now ∷ domain.now ∷ workflow.now ∷ flat_map action_words actions.now)) }
 {
     text.extend_from_slice(b"respond")?;
@@ -115,7 +115,7 @@ fn push_respond(
 }
 
 /// Appends the words of actions, each behind a space.
-fn push_actions(text: &mut Vec<u8>, actions: &[Action]) -> Result<(), AllocError>
+fn push_actions(text: &mut Vec<u8>, actions: &[Action]) -> Result<(), OutOfMemory>
     ensures { OnOk result (text.new.items ≡ text.old.items ++ behind_spaces (flat_map action_words actions.now)) }
 {
     for action in actions {
@@ -131,7 +131,7 @@ fn push_command(
     domain: &Name,
     workflow: &Name,
     command: &Command,
-) -> Result<(), AllocError>
+) -> Result<(), OutOfMemory>
     ensures { OnOk result (text.new.items ≡ text.old.items ++ line_text (command_words cluster.now domain.now workflow.now command.now)) }
 {
     let d = domain.as_bytes();
@@ -234,7 +234,7 @@ fn push_member(
     header: &Header,
     members: Members,
     number: u32,
-) -> Result<(), AllocError>
+) -> Result<(), OutOfMemory>
     ensures { OnOk result (text.new.items ≡ text.old.items ++ behind_spaces (if has_member members number then member_name header.now number ∷ [] else [])) }
 {
     let cluster = ClusterNo { number };
@@ -245,7 +245,7 @@ fn push_member(
 }
 
 /// Appends the names of members, each behind a space.
-fn push_members(text: &mut Vec<u8>, header: &Header, members: Members) -> Result<(), AllocError>
+fn push_members(text: &mut Vec<u8>, header: &Header, members: Members) -> Result<(), OutOfMemory>
     requires { AreMembers members }
     ensures { OnOk result (text.new.items ≡ text.old.items ++ behind_spaces (map (member_name header.now) members)) }
 {
@@ -256,7 +256,7 @@ fn push_members(text: &mut Vec<u8>, header: &Header, members: Members) -> Result
 }
 
 /// Whether the members are all clusters of the header.
-fn are_all(alloc: Global, header: &Header, members: Members) -> Result<bool, AllocError>
+fn are_all(alloc: Global, header: &Header, members: Members) -> Result<bool, OutOfMemory>
     ensures { IfOk result (λ all. all ≡ bytes_eq members (members_of (clusters_below (count_of header.now.clusters)))) }
 {
     let clusters = clusters_below(alloc, header.clusters.count())?;
@@ -269,7 +269,7 @@ fn push_member_words(
     text: &mut Vec<u8>,
     header: &Header,
     members: Members,
-) -> Result<(), AllocError>
+) -> Result<(), OutOfMemory>
     requires { AreMembers members }
     ensures { OnOk result (text.new.items ≡ text.old.items ++ behind_spaces (member_words header.now members)) }
 {
@@ -290,7 +290,7 @@ fn push_register(
     target: ClusterNo,
     days: u32,
     members: Members,
-) -> Result<(), AllocError>
+) -> Result<(), OutOfMemory>
     requires { AreMembers members }
     ensures { OnOk result (text.new.items ≡ text.old.items ++ line_text (codes "register" ∷ name_of header.now.clusters at ∷ domain.now ∷ name_of header.now.clusters target ∷ decimal days ∷ member_words header.now members)) }
 {
@@ -310,7 +310,7 @@ fn push_register(
 }
 
 /// Appends the lines of a burst behind its first.
-fn push_jobs(text: &mut Vec<u8>, cluster: &[u8], jobs: &[BurstJob]) -> Result<(), AllocError>
+fn push_jobs(text: &mut Vec<u8>, cluster: &[u8], jobs: &[BurstJob]) -> Result<(), OutOfMemory>
     ensures { OnOk result (text.new.items ≡ text.old.items ++ lines_text (map (job_words cluster.now) jobs.now)) }
 {
     for job in jobs {
@@ -320,7 +320,7 @@ fn push_jobs(text: &mut Vec<u8>, cluster: &[u8], jobs: &[BurstJob]) -> Result<()
 }
 
 /// Appends a burst.
-fn push_burst(text: &mut Vec<u8>, cluster: &[u8], jobs: &[BurstJob]) -> Result<(), AllocError>
+fn push_burst(text: &mut Vec<u8>, cluster: &[u8], jobs: &[BurstJob]) -> Result<(), OutOfMemory>
     ensures { OnOk result (text.new.items ≡ text.old.items ++ lines_text ((codes "burst" ∷ cluster.now ∷ []) ∷ map (job_words cluster.now) jobs.now ++ (codes "end" ∷ []) ∷ [])) }
 {
     push_line(text, b"burst", &[cluster], &[])?;
@@ -329,7 +329,12 @@ fn push_burst(text: &mut Vec<u8>, cluster: &[u8], jobs: &[BurstJob]) -> Result<(
 }
 
 /// Appends the lines of an act.
-fn push_act(alloc: Global, text: &mut Vec<u8>, header: &Header, act: &Act) -> Result<(), AllocError>
+fn push_act(
+    alloc: Global,
+    text: &mut Vec<u8>,
+    header: &Header,
+    act: &Act,
+) -> Result<(), OutOfMemory>
     requires { IsWellFormedAct header.now act.now }
     ensures { OnOk result (text.new.items ≡ text.old.items ++ lines_text (act_lines header.now act.now)) }
 {
@@ -655,7 +660,7 @@ fn push_act(alloc: Global, text: &mut Vec<u8>, header: &Header, act: &Act) -> Re
 }
 
 /// Appends a header.
-fn push_header(text: &mut Vec<u8>, header: &Header) -> Result<(), AllocError>
+fn push_header(text: &mut Vec<u8>, header: &Header) -> Result<(), OutOfMemory>
     ensures { OnOk result (text.new.items ≡ text.old.items ++ lines_text (header_lines header.now)) }
 {
     push_line(text, b"ndc", &[], &[1])?;
@@ -666,7 +671,7 @@ fn push_header(text: &mut Vec<u8>, header: &Header) -> Result<(), AllocError>
 }
 
 /// Appends the cluster lines.
-fn push_clusters(text: &mut Vec<u8>, clusters: &Clusters) -> Result<(), AllocError>
+fn push_clusters(text: &mut Vec<u8>, clusters: &Clusters) -> Result<(), OutOfMemory>
     ensures { OnOk result (text.new.items ≡ text.old.items ++ lines_text (map cluster_line_of clusters.now.members)) }
 {
     for number in 0..clusters.count() {
@@ -682,7 +687,7 @@ fn push_clusters(text: &mut Vec<u8>, clusters: &Clusters) -> Result<(), AllocErr
 }
 
 /// Prints a script: its header and its lines in order, words separated by one space, each line ended by a newline.
-pub fn print(alloc: Global, script: &Script) -> Result<Vec<u8>, AllocError>
+pub fn print(alloc: Global, script: &Script) -> Result<Vec<u8>, OutOfMemory>
     requires { IsWellFormed script.now }
     ensures { IfOk result (λ text. text.items ≡ script_text script.now) }
 {

@@ -7,14 +7,14 @@ ghost use Rattle.ndc_script_read.specs.Register.{all_differ, clusters_named, clu
 ghost use Rattle.ndc_script_types.specs.WellFormed.{IsCluster, IsName, AreDays, IsWellFormedAct};
 
 use ndc_domain::{ClusterNo, Members};
-use ndc_event::Name;
+use ndc_event::{Name, OutOfMemory};
 use ndc_script_types::{Act, Header, ScriptError, clusters_below};
 use ndc_script_words::{Interner, bad, known, named, numbered};
-use std::alloc::{AllocError, Global};
+use std::alloc::Global;
 use std::collections::BTreeSet;
 
 /// Whether no word stands twice.
-fn all_differ(alloc: Global, words: &[&[u8]]) -> Result<bool, AllocError>
+fn all_differ(alloc: Global, words: &[&[u8]]) -> Result<bool, OutOfMemory>
     ensures { IfOk result (λ differ. differ ≡ all_differ (map (λ word. word.now) words.now)) }
 {
     let mut seen = BTreeSet::new(alloc);

@@ -9,7 +9,7 @@ ghost use Rattle.ndc_script_words.specs.Header.{keyed_number, within, number_rea
 use crate::number::number_of;
 use crate::text::{KeptLine, Reading};
 use ndc_domain::{Clusters, ClustersError};
-use ndc_event::{Name, NameError};
+use ndc_event::{Name, NameError, OutOfMemory};
 use ndc_script_types::{Header, ScriptCause, ScriptError};
 use std::alloc::{AllocError, Global};
 use std::marker::Model;
@@ -185,7 +185,7 @@ fn named_initial(
     alloc: Global,
     name: &[u8],
     initial: &[u8],
-) -> Result<Option<(Name, u64)>, AllocError>
+) -> Result<Option<(Name, u64)>, OutOfMemory>
     ensures { IfOk result (λ member. member ≡ named_initial (name_of name.now) (number_of initial.now)) }
 {
     match Name::new(alloc, name) {
@@ -199,7 +199,7 @@ fn named_initial(
 }
 
 /// The name and initial version of a line `cluster NAME INITIAL`.
-fn cluster_words(alloc: Global, words: &[&[u8]]) -> Result<Option<(Name, u64)>, AllocError>
+fn cluster_words(alloc: Global, words: &[&[u8]]) -> Result<Option<(Name, u64)>, OutOfMemory>
     ensures { IfOk result (λ member. member ≡ cluster_words (map (λ word. word.now) words.now)) }
 {
     match words {
@@ -215,7 +215,7 @@ fn cluster_words(alloc: Global, words: &[&[u8]]) -> Result<Option<(Name, u64)>, 
 }
 
 /// The member that a well-formed cluster line names.
-fn member_of(alloc: Global, line: &KeptLine<'_>) -> Result<Option<(Name, u64)>, AllocError>
+fn member_of(alloc: Global, line: &KeptLine<'_>) -> Result<Option<(Name, u64)>, OutOfMemory>
     ensures { IfOk result (λ member. member ≡ member_of line.now) }
 {
     match line.reading() {
@@ -225,7 +225,7 @@ fn member_of(alloc: Global, line: &KeptLine<'_>) -> Result<Option<(Name, u64)>, 
 }
 
 /// The members of the well-formed cluster lines at the front.
-fn members_of(alloc: Global, lines: &[KeptLine<'_>]) -> Result<Vec<(Name, u64)>, AllocError>
+fn members_of(alloc: Global, lines: &[KeptLine<'_>]) -> Result<Vec<(Name, u64)>, OutOfMemory>
     ensures { IfOk result (λ members. members.items ≡ members_of lines.now) }
 {
     let mut members = Vec::new(alloc);

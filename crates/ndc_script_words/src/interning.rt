@@ -3,8 +3,8 @@ ghost use Rattle.ndc_event.specs.Name.{name_of};
 ghost use Rattle.ndc_event.specs.Outcome.{Gives};
 ghost use Rattle.ndc_event.specs.declared.name.NameError.TheVariants.{Memory};
 
-use ndc_event::{Name, NameError};
-use std::alloc::{AllocError, Global};
+use ndc_event::{Name, NameError, OutOfMemory};
+use std::alloc::Global;
 use std::marker::Model;
 
 /// How many names are kept.
@@ -37,7 +37,7 @@ fn place_of(word: &[u8]) -> usize
 
 impl Interner {
     /// None was read yet.
-    pub fn new(alloc: Global) -> Result<Interner, AllocError> {
+    pub fn new(alloc: Global) -> Result<Interner, OutOfMemory> {
         let mut kept = Vec::new(alloc);
         for _place in 0..KEPT {
             kept.push(None)?;

@@ -2,7 +2,8 @@ ghost use Rattle.std.specs.Prelude.{◌≡◌, ◌<◌, ◌≤◌, length, map, 
 ghost use Rattle.std.specs.List.{list_all};
 ghost use Rattle.ndc_script_words.specs.Text.{text_lines, line_len, words_of, is_line_byte, is_short, is_comment, is_skipped, kept_line, kept_from, kept_of, line_behind, line_after};
 
-use std::alloc::{AllocError, Global};
+use ndc_event::OutOfMemory;
+use std::alloc::Global;
 use std::marker::Model;
 
 /// The greatest number of lines that a script may have.
@@ -92,7 +93,7 @@ fn split_line(bytes: &[u8]) -> Option<(&[u8], &[u8])>
 }
 
 /// The words of a line.
-fn words_of<'a>(alloc: Global, line: &'a [u8]) -> Result<Vec<&'a [u8]>, AllocError>
+fn words_of<'a>(alloc: Global, line: &'a [u8]) -> Result<Vec<&'a [u8]>, OutOfMemory>
     ensures { IfOk result (λ words. map (λ word. word.now) words.items ≡ words_of line.now) }
 {
     line.split(|byte| *byte == b' ')
@@ -144,7 +145,7 @@ fn kept_line<'a>(
     alloc: Global,
     number: u64,
     line: &'a [u8],
-) -> Result<Option<KeptLine<'a>>, AllocError>
+) -> Result<Option<KeptLine<'a>>, OutOfMemory>
     ensures { IfOk result (λ kept. kept ≡ kept_line number line.now) }
 {
     let words = words_of(alloc, line)?;
@@ -175,7 +176,7 @@ pub fn kept_from<'a>(
     alloc: Global,
     first: u64,
     bytes: &'a [u8],
-) -> Result<Vec<KeptLine<'a>>, AllocError>
+) -> Result<Vec<KeptLine<'a>>, OutOfMemory>
     ensures { IfOk result (λ kept. kept.items ≡ kept_from first (text_lines bytes.now)) }
 {
     let mut kept = Vec::new(alloc);
@@ -200,7 +201,7 @@ pub fn kept_from<'a>(
 }
 
 /// The lines of a text that are not skipped, up to the limit and the first past it.
-pub fn kept_of<'a>(alloc: Global, bytes: &'a [u8]) -> Result<Vec<KeptLine<'a>>, AllocError>
+pub fn kept_of<'a>(alloc: Global, bytes: &'a [u8]) -> Result<Vec<KeptLine<'a>>, OutOfMemory>
     ensures { IfOk result (λ kept. kept.items ≡ kept_of bytes.now) }
 {
     kept_from(alloc, 1, bytes)

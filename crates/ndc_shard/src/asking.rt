@@ -9,11 +9,11 @@ ghost use Rattle.ndc_shard_entries.specs.Writer.{writes_to};
 
 use ndc_cluster_rounds::Desk;
 use ndc_command::{CommandError, Refusal};
-use ndc_event::{Batch, Name};
+use ndc_event::{Batch, Name, OutOfMemory};
 use ndc_model_cells::Place;
 use ndc_model_sets::Batches;
 use ndc_shard_entries::{Entry, writes_to};
-use std::alloc::{AllocError, Global};
+use std::alloc::Global;
 
 /// The version with which the cluster writes to a domain: that of its record. Takes no memory. Refused where there is no
 /// record, and where another cluster writes with that version, or none does.
@@ -48,7 +48,7 @@ pub(crate) fn as_command_error<T>(asked: Result<T, Refusal>) -> Result<T, Comman
 }
 
 /// Where a batch stands in a cell.
-pub(crate) fn place_of(batch: &Batch) -> Result<Place, AllocError>
+pub(crate) fn place_of(batch: &Batch) -> Result<Place, OutOfMemory>
     ensures { IfOk result (λ place. place ≡ place_of batch.now) }
 {
     Ok(Place {
@@ -59,7 +59,7 @@ pub(crate) fn place_of(batch: &Batch) -> Result<Place, AllocError>
 }
 
 /// Appends copies of the batches of an entry.
-pub(crate) fn push_batches(batches: &mut Vec<Batch>, entry: &Entry) -> Result<(), AllocError>
+pub(crate) fn push_batches(batches: &mut Vec<Batch>, entry: &Entry) -> Result<(), OutOfMemory>
     ensures { OnOk result (batches.new.items ≡ batches.old.items ++ batches_in entry.now) }
 {
     batches.push(entry.batch().try_copy()?)?;
@@ -70,7 +70,7 @@ pub(crate) fn push_batches(batches: &mut Vec<Batch>, entry: &Entry) -> Result<()
 }
 
 /// Copies of the batches of entries, in order.
-pub(crate) fn batches_of(alloc: Global, entries: &[Entry]) -> Result<Batches, AllocError>
+pub(crate) fn batches_of(alloc: Global, entries: &[Entry]) -> Result<Batches, OutOfMemory>
     ensures { IfOk result (λ batches. batches ≡ all_batches entries.now) }
 {
     let mut batches = Vec::with_capacity(alloc, entries.len())?;

@@ -8,10 +8,10 @@ use crate::shard::Shard;
 use ndc_cluster_rounds::{Desk, Home};
 use ndc_command::{Command, Refusal};
 use ndc_domain::DomainTable;
-use ndc_event::{Batch, BatchKey, Name};
+use ndc_event::{Batch, BatchKey, Name, OutOfMemory};
 use ndc_model_cells::{Arrived, Message, Written};
 use ndc_state::Steps;
-use std::alloc::{AllocError, Global};
+use std::alloc::Global;
 
 /// The keys of batches that were written: there is one, or there are two.
 fn keys_of(batches: &[Batch]) -> Result<Written, ShardError>
@@ -31,7 +31,7 @@ fn keys_of(batches: &[Batch]) -> Result<Written, ShardError>
 }
 
 /// Where batches stand, in order: the domain, the workflow and the key of each.
-fn places_of(alloc: Global, batches: &[Batch]) -> Result<Vec<(Name, Name, BatchKey)>, AllocError>
+fn places_of(alloc: Global, batches: &[Batch]) -> Result<Vec<(Name, Name, BatchKey)>, OutOfMemory>
     ensures { IfOk result (λ places. places.items ≡ map names_of batches.now) }
 {
     let mut places = Vec::with_capacity(alloc, batches.len())?;
@@ -127,7 +127,7 @@ impl Shard {
         &mut self,
         message: &Message,
         steps: &mut Steps<L>,
-    ) -> Result<Arrived, AllocError>
+    ) -> Result<Arrived, OutOfMemory>
         requires { CanArrive message.now self.old }
         ensures arrived { IfOk result (λ arrived. arrived ≡ arrival_of message.now self.old) }
         ensures cell { OnOk result (self.new ≡ arrived_at message.now self.old) }
@@ -145,7 +145,7 @@ impl Shard {
         home: &Home,
         table: &DomainTable,
         steps: &mut Steps<L>,
-    ) -> Result<Vec<(Name, Name, BatchKey)>, AllocError>
+    ) -> Result<Vec<(Name, Name, BatchKey)>, OutOfMemory>
         requires { CanWriteEach (desk_of home.now table.now) self.old }
         ensures cell { OnOk result (self.new ≡ reapplied_in (desk_of home.now table.now) (workflows_of self.old.arrived) self.old) }
         ensures places { IfOk result (λ places. places.items ≡ map names_of (reapplied_now (desk_of home.now table.now) (workflows_of self.old.arrived) self.old)) }

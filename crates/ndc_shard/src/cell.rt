@@ -2,13 +2,13 @@ use crate::jobs::{do_job, is_idle};
 use crate::shard::Shard;
 use ndc_cluster_reads::Reads;
 use ndc_cluster_rounds::{Cell, Desk, Home};
-use ndc_event::{BatchKey, Name};
+use ndc_event::{BatchKey, Name, OutOfMemory};
 use ndc_model_cells::{Job, JobReply, Message, Place};
 use ndc_resend::GapOf;
 use ndc_shard_gaps::gaps_at;
 use ndc_shard_runs::Runs;
 use ndc_shard_workflows::messages_of;
-use std::alloc::{AllocError, Global};
+use std::alloc::Global;
 
 impl Cell for Shard {
     ghost use Rattle.ndc_model_cells.specs.Allowed.{IsAllowed};
@@ -19,11 +19,11 @@ impl Cell for Shard {
 
     ghost may = { λ desk asked at given. given };
 
-    fn new(alloc: Global, home: &Home) -> Result<Shard, AllocError> {
+    fn new(alloc: Global, home: &Home) -> Result<Shard, OutOfMemory> {
         Shard::new(alloc, home)
     }
 
-    fn do_job(&mut self, desk: &Desk, job: &Job) -> Result<JobReply, AllocError> {
+    fn do_job(&mut self, desk: &Desk, job: &Job) -> Result<JobReply, OutOfMemory> {
         do_job(self, desk, job)
     }
 
@@ -39,11 +39,11 @@ impl Cell for Shard {
         Shard::written_len(self) as u64
     }
 
-    fn written_at(&self, place: u64) -> Result<Message, AllocError> {
+    fn written_at(&self, place: u64) -> Result<Message, OutOfMemory> {
         Shard::written_at(self, place as usize)
     }
 
-    fn learned_of(&self, alloc: Global, domains: &[Name]) -> Result<Vec<Message>, AllocError> {
+    fn learned_of(&self, alloc: Global, domains: &[Name]) -> Result<Vec<Message>, OutOfMemory> {
         messages_of(alloc, self.held(), domains)
     }
 }
@@ -60,11 +60,11 @@ impl Reads for Shard {
         }
     }
 
-    fn behind(&self, alloc: Global) -> Result<Vec<Place>, AllocError> {
+    fn behind(&self, alloc: Global) -> Result<Vec<Place>, OutOfMemory> {
         self.held().behind(alloc)
     }
 
-    fn gaps(&self, _alloc: Global) -> Result<Vec<GapOf>, AllocError> {
+    fn gaps(&self, _alloc: Global) -> Result<Vec<GapOf>, OutOfMemory> {
         Shard::gaps(self)
     }
 
@@ -73,11 +73,11 @@ impl Reads for Shard {
         alloc: Global,
         domain: &Name,
         workflow: &Name,
-    ) -> Result<Vec<GapOf>, AllocError> {
+    ) -> Result<Vec<GapOf>, OutOfMemory> {
         gaps_at(alloc, self.held(), domain, workflow)
     }
 
-    fn serve(&self, _alloc: Global, asked: &GapOf) -> Result<Vec<Message>, AllocError> {
+    fn serve(&self, _alloc: Global, asked: &GapOf) -> Result<Vec<Message>, OutOfMemory> {
         Shard::serve(self, asked)
     }
 
@@ -87,7 +87,7 @@ impl Reads for Shard {
         domain: &Name,
         workflow: &Name,
         key: BatchKey,
-    ) -> Result<Option<Message>, AllocError> {
+    ) -> Result<Option<Message>, OutOfMemory> {
         Shard::message(self, domain, workflow, key)
     }
 }

@@ -10,7 +10,7 @@ ghost use Rattle.ndc_model_cells.specs.Allowed.{IsAllowed, MayArrive, MayBeAsked
 use crate::shard::Shard;
 use ndc_cluster_rounds::Desk;
 use ndc_command::{Command, CommandError};
-use ndc_event::{Batch, Name};
+use ndc_event::{Batch, Name, OutOfMemory};
 use ndc_model_cells::{Job, JobReply, Message, Outcome, Written};
 use ndc_model_sets::Batches;
 use ndc_shard_workflows::Arrival;
@@ -21,7 +21,7 @@ use std::alloc::{AllocError, Global};
 struct Jobs;
 
 /// Does a job, as the cell that the shard is seen as does it.
-pub(crate) fn do_job(shard: &mut Shard, desk: &Desk, job: &Job) -> Result<JobReply, AllocError>
+pub(crate) fn do_job(shard: &mut Shard, desk: &Desk, job: &Job) -> Result<JobReply, OutOfMemory>
     requires { IsAllowed desk.now job.now shard.old }
     ensures cell { OnOk result (shard.new ≡ after_job desk.now job.now shard.old) }
     ensures reply { IfOk result (λ reply. reply ≡ reply_to desk.now job.now shard.old) }
@@ -49,7 +49,7 @@ fn do_command(
     domain: &Name,
     workflow: &Name,
     command: &Command,
-) -> Result<JobReply, AllocError>
+) -> Result<JobReply, OutOfMemory>
     requires { MayBeAsked desk.now domain.now workflow.now (command_of desk.now domain.now workflow.now command.now shard.old) shard.old }
     ensures cell { OnOk result (shard.new ≡ after_job desk.now (Commanded domain.now workflow.now command.now) shard.old) }
     ensures reply { IfOk result (λ reply. reply ≡ reply_to desk.now (Commanded domain.now workflow.now command.now) shard.old) }
@@ -62,7 +62,7 @@ fn do_command(
 
 /// A message arrives.
 #[tactic(auto, unfolding(ndc_model_cells::specs::Jobs::after_job, ndc_model_cells::specs::Jobs::outcome_of, ndc_model_cells::specs::Jobs::learned_in))]
-fn do_arrive(shard: &mut Shard, desk: &Desk, message: &Message) -> Result<JobReply, AllocError>
+fn do_arrive(shard: &mut Shard, desk: &Desk, message: &Message) -> Result<JobReply, OutOfMemory>
     requires { MayArrive message.now shard.old }
     ensures cell { OnOk result (shard.new ≡ after_job desk.now (Arrive message.now) shard.old) }
     ensures reply { IfOk result (λ reply. reply ≡ reply_to desk.now (Arrive message.now) shard.old) }
@@ -78,7 +78,7 @@ fn do_arrive(shard: &mut Shard, desk: &Desk, message: &Message) -> Result<JobRep
 
 /// Strays are applied again in each workflow.
 #[tactic(auto, unfolding(ndc_model_cells::specs::Jobs::after_job, ndc_model_cells::specs::Jobs::outcome_of, ndc_model_cells::specs::Jobs::learned_in))]
-fn do_reapply(shard: &mut Shard, desk: &Desk) -> Result<JobReply, AllocError>
+fn do_reapply(shard: &mut Shard, desk: &Desk) -> Result<JobReply, OutOfMemory>
     requires { MayReapply desk.now (workflows_of shard.old.arrived) shard.old }
     ensures cell { OnOk result (shard.new ≡ after_job desk.now Reapply shard.old) }
     ensures reply { IfOk result (λ reply. reply ≡ reply_to desk.now Reapply shard.old) }
@@ -107,7 +107,7 @@ fn do_reset(
     domain: &Name,
     workflow: &Name,
     event: u64,
-) -> Result<JobReply, AllocError>
+) -> Result<JobReply, OutOfMemory>
     requires { MayBeAsked desk.now domain.now workflow.now (reset_at desk.now domain.now workflow.now event shard.old) shard.old }
     ensures cell { OnOk result (shard.new ≡ after_job desk.now (Reset domain.now workflow.now event) shard.old) }
     ensures reply { IfOk result (λ reply. reply ≡ reply_to desk.now (Reset domain.now workflow.now event) shard.old) }
@@ -122,7 +122,7 @@ fn do_reset(
 fn written_reply(
     alloc: Global,
     written: Result<Batches, CommandError>,
-) -> Result<JobReply, AllocError>
+) -> Result<JobReply, OutOfMemory>
     ensures reply { IfOk result (λ reply. reply ≡ reply_of written) }
     ensures calm { IfOk result (λ _. written ≢ Err Memory) }
 {

@@ -6,14 +6,14 @@ ghost use Rattle.ndc_shard.specs.Again.{AreReappliedOf};
 use crate::asking::{as_command_error, batches_of, place_of, push_batches, refuses, version_of};
 use ndc_cluster_rounds::{Desk, Home};
 use ndc_command::{Command, CommandError, Refusal};
-use ndc_event::{Batch, Name};
+use ndc_event::{Batch, Name, OutOfMemory};
 use ndc_model_cells::{Message, Place};
 use ndc_model_sets::Batches;
 use ndc_shard_entries::{Entry, command_entry, reapplication_entry, reset_entries, unless_behind};
 use ndc_shard_runs::Runs;
 use ndc_shard_workflows::{Arrival, Workflows};
 use ndc_state::Steps;
-use std::alloc::{AllocError, Global};
+use std::alloc::Global;
 use std::marker::Model;
 
 /// One shard of one cluster: its workflows, and where the batches stand that it has written and that none carries, in the
@@ -71,7 +71,7 @@ impl Shard {
     ghost use Rattle.ndc_shard_workflows.specs.Workflow.{IsWorkflow};
 
     /// Nothing has happened.
-    pub fn new(alloc: Global, _home: &Home) -> Result<Shard, AllocError>
+    pub fn new(alloc: Global, _home: &Home) -> Result<Shard, OutOfMemory>
         ensures { IfOk result (λ shard. shard ≡ empty_cell) }
     {
         Ok(Shard {
@@ -110,7 +110,7 @@ impl Shard {
     }
 
     /// The message that it has written at a place, counted from 0 in the order of writing.
-    pub(crate) fn written_at(&self, place: usize) -> Result<Message, AllocError>
+    pub(crate) fn written_at(&self, place: usize) -> Result<Message, OutOfMemory>
         requires { place < length self.now.written }
         ensures { IfOk result (λ sent. slice_get self.now.written place ≡ Some sent) }
     {
@@ -168,7 +168,7 @@ impl Shard {
         &mut self,
         message: Message,
         steps: &mut Steps<L>,
-    ) -> Result<Arrival, AllocError>
+    ) -> Result<Arrival, OutOfMemory>
         requires { MayArrive message self.old }
         ensures outcome { IfOk result (λ arrival. arrival.outcome ≡ arrival_of message self.old) }
         ensures learned { IfOk result (λ arrival. arrival.learned ≡ learned_by message self.old) }
@@ -186,7 +186,7 @@ impl Shard {
 
     /// Writes an entry: its batches are learned in their workflow, and its message goes last among those written. For want of
     /// memory nothing changes.
-    fn write<L>(&mut self, entry: &Entry, steps: &mut Steps<L>) -> Result<(), AllocError>
+    fn write<L>(&mut self, entry: &Entry, steps: &mut Steps<L>) -> Result<(), OutOfMemory>
         requires may { MayBeWritten (carrying entry.now.batch entry.now.second) (workflow_of entry.now.batch.domain entry.now.batch.workflow self.old) }
         requires lone { entry.now.batch.carrier ≡ None }
         ensures ok { OnOk result (self.new ≡ with_written entry.now self.old) }
@@ -208,7 +208,7 @@ impl Shard {
         first: &Entry,
         second: &Entry,
         steps: &mut Steps<L>,
-    ) -> Result<(), AllocError>
+    ) -> Result<(), OutOfMemory>
         requires may { AreWritable (first.now ∷ second.now ∷ []) self.old }
         requires lone { AreLone (first.now ∷ second.now ∷ []) }
         requires two { GoAsTwo first.now second.now }
@@ -227,7 +227,7 @@ impl Shard {
     }
 
     /// Writes one entry, or two together. For want of memory nothing changes.
-    fn write_all<L>(&mut self, entries: &[Entry], steps: &mut Steps<L>) -> Result<(), AllocError>
+    fn write_all<L>(&mut self, entries: &[Entry], steps: &mut Steps<L>) -> Result<(), OutOfMemory>
         requires may { AreWritable entries.now self.old }
         requires lone { AreLone entries.now }
         requires some { AreOneOrTwo entries.now }
@@ -337,7 +337,7 @@ impl Shard {
     }
 
     /// Whether reapplication is due in a workflow.
-    fn is_due(&mut self, domain: &Name, workflow: &Name) -> Result<bool, AllocError>
+    fn is_due(&mut self, domain: &Name, workflow: &Name) -> Result<bool, OutOfMemory>
         ensures due { IfOk result (λ due. due ≡ is_due (learned_of domain.now workflow.now self.old)) }
         ensures same { self.new ≡ self.old }
     {
@@ -350,7 +350,7 @@ impl Shard {
         domain: &Name,
         workflow: &Name,
         version: u64,
-    ) -> Result<Option<Entry>, AllocError>
+    ) -> Result<Option<Entry>, OutOfMemory>
         requires { HasRoom (learned_of domain.now workflow.now self.now) }
         ensures fit { IsFit domain.now workflow.now self.now }
         ensures entry { IfOk result (λ entry. option_to_list entry ≡ reapplication_below domain.now workflow.now version (workflow_tip (learned_of domain.now workflow.now self.now)) (learned_of domain.now workflow.now self.now) (strays (learned_of domain.now workflow.now self.now))) }
@@ -375,7 +375,7 @@ impl Shard {
         desk: &Desk,
         domain: &Name,
         workflow: &Name,
-    ) -> Result<Option<Entry>, AllocError>
+    ) -> Result<Option<Entry>, OutOfMemory>
         requires { HasRoom (learned_of domain.now workflow.now self.old) }
         ensures entry { IfOk result (λ entry. option_to_list entry ≡ reapplication_of desk.now domain.now workflow.now self.old) }
         ensures same { self.new ≡ self.old }
@@ -399,7 +399,7 @@ impl Shard {
         workflow: &Name,
         batches: &mut Vec<Batch>,
         steps: &mut Steps<L>,
-    ) -> Result<(), AllocError>
+    ) -> Result<(), OutOfMemory>
         requires room { HasRoom (learned_of domain.now workflow.now self.old) }
         requires may { MayWriteAll domain.now workflow.now (reapplication_of desk.now domain.now workflow.now self.old) self.old }
         ensures cell { OnOk result (self.new ≡ reapplied_at desk.now (domain.now, workflow.now) self.old) }
@@ -419,7 +419,7 @@ impl Shard {
         desk: &Desk,
         list: Vec<(Name, Name)>,
         steps: &mut Steps<L>,
-    ) -> Result<Batches, AllocError>
+    ) -> Result<Batches, OutOfMemory>
         requires { MayReapplyAmong desk.now list.items self.old }
         ensures cell { OnOk result (self.new ≡ reapplied_among desk.now list.items self.old) }
         ensures batches { IfOk result (λ batches. batches ≡ written_among desk.now list.items self.old) }
@@ -443,7 +443,7 @@ impl Shard {
 
     /// The workflows, in order, in which reapplication may be due, without those of domains to which the cluster's record does
     /// not let it write: such a domain costs one look, however many workflows it has.
-    fn due_again(&self, desk: &Desk) -> Result<Vec<(Name, Name)>, AllocError>
+    fn due_again(&self, desk: &Desk) -> Result<Vec<(Name, Name)>, OutOfMemory>
         ensures { IfOk result (λ list. AreReapplied desk.now list.items self.now) }
     {
         let domains = self.workflows.due_domains(self.alloc)?;
@@ -458,7 +458,7 @@ impl Shard {
         &mut self,
         desk: &Desk,
         steps: &mut Steps<L>,
-    ) -> Result<Batches, AllocError>
+    ) -> Result<Batches, OutOfMemory>
         requires { MayReapply desk.now (workflows_of self.old.arrived) self.old }
         ensures cell { OnOk result (self.new ≡ reapplied_in desk.now (workflows_of self.old.arrived) self.old) }
         ensures batches { IfOk result (λ batches. batches ≡ reapplied_now desk.now (workflows_of self.old.arrived) self.old) }
@@ -478,7 +478,7 @@ fn due_of(
     alloc: Global,
     desk: &Desk,
     domains: Vec<Name>,
-) -> Result<Vec<(Name, Name)>, AllocError>
+) -> Result<Vec<(Name, Name)>, OutOfMemory>
     requires { IsStrictlySortedBy names_cmp domains.items }
     ensures { IfOk result (λ list. AreReappliedOf desk.now domains.items list.items workflows.now) }
 {

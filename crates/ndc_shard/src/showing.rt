@@ -1,12 +1,11 @@
 use crate::shard::Shard;
-use ndc_event::{BatchKey, Name};
+use ndc_event::{BatchKey, Name, OutOfMemory};
 use ndc_model_cells::Message;
 use ndc_model_sets::View;
 use ndc_resend::GapOf;
 use ndc_shard_gaps::{gaps, serve};
 use ndc_shard_workflows::{message_there, messages_of};
 use ndc_state::Steps;
-use std::alloc::AllocError;
 
 impl Shard {
     ghost use Rattle.std.specs.Prelude.{◌≡◌, [], ◌∷◌, IfOk, Some};
@@ -35,7 +34,7 @@ impl Shard {
         domain: &Name,
         workflow: &Name,
         key: BatchKey,
-    ) -> Result<Option<Message>, AllocError>
+    ) -> Result<Option<Message>, OutOfMemory>
         ensures { IfOk result (λ message. message ≡ message_at self.now (record { domain = domain.now; workflow = workflow.now; key = key })) }
     {
         message_there(self.alloc(), self.held(), domain, workflow, key)
@@ -43,7 +42,7 @@ impl Shard {
 
     /// The messages of all learned batches of a domain, by workflow and key. A batch that another one carries comes with
     /// the message of its carrier alone.
-    pub fn all_of(&self, domain: &Name) -> Result<Vec<Message>, AllocError>
+    pub fn all_of(&self, domain: &Name) -> Result<Vec<Message>, OutOfMemory>
         ensures { IfOk result (λ list. list.items ≡ learned_of_domains (domain.now ∷ []) self.now) }
     {
         let mut domains = Vec::with_capacity(self.alloc(), 1)?;
@@ -52,7 +51,7 @@ impl Shard {
     }
 
     /// The workflows with a learned batch, each as its domain and its name, in order of these.
-    pub fn workflows(&self) -> Result<Vec<(Name, Name)>, AllocError>
+    pub fn workflows(&self) -> Result<Vec<(Name, Name)>, OutOfMemory>
         ensures { IfOk result (λ list. list.items ≡ learned_workflows self.now) }
     {
         self.held().learned(self.alloc())
@@ -65,7 +64,7 @@ impl Shard {
         domain: &Name,
         workflow: &Name,
         steps: &mut Steps<L>,
-    ) -> Result<Option<View>, AllocError>
+    ) -> Result<Option<View>, OutOfMemory>
         ensures { IfOk result (λ view. view ≡ view_at (learned_of domain.now workflow.now self.now)) }
     {
         match self.runs(domain, workflow) {
@@ -76,7 +75,7 @@ impl Shard {
 
     /// What is put off, in order of domain, workflow and key, each batch with the gap before it, as [`gaps`] finds it by
     /// version histories, and with its nearest ancestor that has not arrived. It looks into no other cell.
-    pub fn gaps(&self) -> Result<Vec<GapOf>, AllocError>
+    pub fn gaps(&self) -> Result<Vec<GapOf>, OutOfMemory>
         ensures { IfOk result (λ list. list.items ≡ gaps_of self.now) }
     {
         gaps(self.alloc(), self.held())
@@ -85,7 +84,7 @@ impl Shard {
     /// What the cell serves for a gap of another one, as [`serve`] says: the messages of the batches in the gap on the path
     /// to the batch that was asked for, in path order, behind those of the carriers above the first of them. Nothing,
     /// where the batch that was asked for is not learned.
-    pub fn serve(&self, asked: &GapOf) -> Result<Vec<Message>, AllocError>
+    pub fn serve(&self, asked: &GapOf) -> Result<Vec<Message>, OutOfMemory>
         ensures { IfOk result (λ list. list.items ≡ served_for asked.now self.now) }
     {
         serve(self.alloc(), self.held(), asked)

@@ -5,8 +5,8 @@ ghost use Rattle.ndc_command.specs.Plan.{beginning};
 
 use crate::events::events_from;
 use crate::tip::Tip;
-use ndc_event::{Batch, BatchKey, EventKind, Events, Name, RunId};
-use std::alloc::{AllocError, Global};
+use ndc_event::{Batch, BatchKey, EventKind, Events, Name, OutOfMemory, RunId};
+use std::alloc::Global;
 
 /// The key behind another.
 pub(crate) fn key_behind(key: BatchKey) -> BatchKey
@@ -27,7 +27,7 @@ pub(crate) fn first_batch(
     key: BatchKey,
     carrier: Option<BatchKey>,
     kinds: Vec<EventKind>,
-) -> Result<Batch, AllocError>
+) -> Result<Batch, OutOfMemory>
     ensures { IfOk result (λ batch. batch ≡ first_batch domain.now workflow.now key carrier kinds.items) }
 {
     let events = events_from(alloc, 1, key.version, kinds)?;
@@ -50,7 +50,7 @@ pub(crate) fn batch_below(
     key: BatchKey,
     tip: &Tip<'_>,
     kinds: Vec<EventKind>,
-) -> Result<Batch, AllocError>
+) -> Result<Batch, OutOfMemory>
     requires { tip.now.state.now.next + length kinds.items ≤ 2 ^ 64 }
     ensures { IfOk result (λ batch. batch ≡ batch_below domain.now workflow.now key tip.now.batch.now tip.now.state.now kinds.items) }
 {
@@ -73,7 +73,7 @@ pub(crate) fn carried_by(
     workflow: &Name,
     key: BatchKey,
     kinds: &[EventKind],
-) -> Result<Option<Batch>, AllocError>
+) -> Result<Option<Batch>, OutOfMemory>
     requires { key.task ≤ 2 ^ 60 }
     ensures { IfOk result (λ second. second ≡ carried_by domain.now workflow.now key (goes_on_as kinds.now)) }
 {
@@ -88,7 +88,7 @@ pub(crate) fn carried_by(
 }
 
 /// What a run begins with.
-fn beginning(alloc: Global, workflow_type: &Name) -> Result<Vec<EventKind>, AllocError>
+fn beginning(alloc: Global, workflow_type: &Name) -> Result<Vec<EventKind>, OutOfMemory>
     ensures { IfOk result (λ kinds. kinds.items ≡ beginning workflow_type.now) }
 {
     let mut kinds = Vec::with_capacity(alloc, 2)?;

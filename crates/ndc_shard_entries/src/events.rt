@@ -1,8 +1,8 @@
 ghost use Rattle.std.specs.Prelude.{◌≡◌, ◌≤◌, ◌+◌, ◌^◌, IfOk, length};
 ghost use Rattle.ndc_state.specs.Written.{events_from};
 
-use ndc_event::{Event, EventKind};
-use std::alloc::{AllocError, Global};
+use ndc_event::{Event, EventKind, OutOfMemory};
+use std::alloc::Global;
 
 /// The kinds as events of this version, with ids from the first on.
 pub(crate) fn events_from(
@@ -10,7 +10,7 @@ pub(crate) fn events_from(
     first: u64,
     version: u64,
     kinds: Vec<EventKind>,
-) -> Result<Vec<Event>, AllocError>
+) -> Result<Vec<Event>, OutOfMemory>
     requires { first + length kinds.items ≤ 2 ^ 64 }
     ensures { IfOk result (λ events. events.items ≡ events_from first version kinds.items) }
 {

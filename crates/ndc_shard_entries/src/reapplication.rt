@@ -7,10 +7,10 @@ use crate::batch::batch_below;
 use crate::entry::Entry;
 use crate::tip::tip_of;
 use crate::writing::next_key;
-use ndc_event::Name;
+use ndc_event::{Name, OutOfMemory};
 use ndc_reapply::{Stray, reapply_events};
 use ndc_shard_runs::Runs;
-use std::alloc::{AllocError, Global};
+use std::alloc::Global;
 
 /// What reapplication writes with this version to a workflow, of which this is learned, with these strays: below the
 /// tip of the current branch of the current run a batch with a copy of each stray. Nothing where there is no stray, and
@@ -22,7 +22,7 @@ pub fn reapplication_entry(
     version: u64,
     list: &[Stray],
     runs: &Runs,
-) -> Result<Option<Entry>, AllocError>
+) -> Result<Option<Entry>, OutOfMemory>
     requires strays { list.now ≡ strays runs.now }
     requires tasks { greatest_task runs.now ≤ 10 ^ 12 }
     requires ids { IfSome (state_under (workflow_tip runs.now) runs.now) (λ s. s.next ≤ 10 ^ 12) }

@@ -13,7 +13,7 @@ use crate::entry::Entry;
 use crate::tip::{Tip, tip_of};
 use crate::writing::next_key;
 use ndc_command::{CommandError, Refusal};
-use ndc_event::{Batch, BatchKey, Event, EventKind, Name, NameError, RunId};
+use ndc_event::{Batch, BatchKey, Event, EventKind, Name, NameError, OutOfMemory, RunId};
 use ndc_reset::{ResetError, plan_reset_of};
 use ndc_shard_runs::Runs;
 use ndc_state::State;
@@ -92,7 +92,7 @@ fn closing_entry(
 }
 
 /// The kinds that close an open run before a reset.
-fn closing_kinds(alloc: Global, state: &State, version: u64) -> Result<Vec<EventKind>, AllocError>
+fn closing_kinds(alloc: Global, state: &State, version: u64) -> Result<Vec<EventKind>, OutOfMemory>
     ensures { IfOk result (λ kinds. kinds.items ≡ reset_close state.now version) }
 {
     let mut kinds = Vec::new(alloc);
@@ -104,7 +104,7 @@ fn closing_kinds(alloc: Global, state: &State, version: u64) -> Result<Vec<Event
 }
 
 /// Why a run is closed before a reset.
-fn reset_reason(alloc: Global) -> Result<Name, AllocError>
+fn reset_reason(alloc: Global) -> Result<Name, OutOfMemory>
     ensures { IfOk result (λ name. name ≡ codes "reset") }
 {
     match Name::new(alloc, b"reset".as_slice()) {
@@ -137,7 +137,7 @@ fn reset_key(key: BatchKey, state: &State) -> BatchKey
 }
 
 /// The entry that there may be, and the other one behind it.
-fn both(alloc: Global, first: Option<Entry>, second: Entry) -> Result<Vec<Entry>, AllocError>
+fn both(alloc: Global, first: Option<Entry>, second: Entry) -> Result<Vec<Entry>, OutOfMemory>
     ensures { IfOk result (λ entries. entries.items ≡ option_to_list first ++ option_to_list (Some second)) }
 {
     let mut entries = Vec::with_capacity(alloc, 2)?;
@@ -149,7 +149,7 @@ fn both(alloc: Global, first: Option<Entry>, second: Entry) -> Result<Vec<Entry>
 }
 
 /// The events of the path to the batch of this key.
-fn history_to(alloc: Global, runs: &Runs, key: BatchKey) -> Result<Vec<&Event>, AllocError>
+fn history_to(alloc: Global, runs: &Runs, key: BatchKey) -> Result<Vec<&Event>, OutOfMemory>
     ensures { IfOk result (λ events. map (λ e. e.now) events.items ≡ events_to key runs.now) }
 {
     match runs.path(alloc, key)? {
@@ -159,7 +159,7 @@ fn history_to(alloc: Global, runs: &Runs, key: BatchKey) -> Result<Vec<&Event>, 
 }
 
 /// The events of the batches, in order.
-fn events_of<'b>(alloc: Global, batches: &[&'b Batch]) -> Result<Vec<&'b Event>, AllocError>
+fn events_of<'b>(alloc: Global, batches: &[&'b Batch]) -> Result<Vec<&'b Event>, OutOfMemory>
     ensures { IfOk result (λ events. map (λ e. e.now) events.items ≡ history_of (map (λ b. b.now) batches.now)) }
 {
     let mut events = Vec::new(alloc);
@@ -172,7 +172,7 @@ fn events_of<'b>(alloc: Global, batches: &[&'b Batch]) -> Result<Vec<&'b Event>,
 }
 
 /// Appends the events.
-fn push_events<'b>(events: &mut Vec<&'b Event>, more: &'b [Event]) -> Result<(), AllocError>
+fn push_events<'b>(events: &mut Vec<&'b Event>, more: &'b [Event]) -> Result<(), OutOfMemory>
     ensures { OnOk result (map (λ e. e.now) events.new.items
         ≡ map (λ e. e.now) events.old.items ++ more.now) }
 {

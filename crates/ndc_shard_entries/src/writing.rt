@@ -13,9 +13,9 @@ use crate::entry::Entry;
 use crate::tip::tip_of;
 use ndc_command::{Command, CommandError, Refusal, plan};
 use ndc_domain::{ClusterNo, Clusters, DomainRecord};
-use ndc_event::{BatchKey, EventKind, Name, RunId};
+use ndc_event::{BatchKey, EventKind, Name, OutOfMemory, RunId};
 use ndc_shard_runs::Runs;
-use std::alloc::{AllocError, Global};
+use std::alloc::Global;
 
 /// The version with which a cluster writes to a domain: that of its record. Takes no memory. Refused with
 /// [`Refusal::UnknownDomain`] where it has no record, then with [`Refusal::NotActive`] and the version where another cluster
@@ -131,7 +131,7 @@ fn entry_below(
     key: BatchKey,
     runs: &Runs,
     kinds: Vec<EventKind>,
-) -> Result<Entry, AllocError>
+) -> Result<Entry, OutOfMemory>
     requires task { key.task ≤ 2 ^ 60 }
     requires ids { IfSome (state_under (workflow_tip runs.now) runs.now) (λ s. s.next + length kinds.items ≤ 2 ^ 64) }
     ensures { IfOk result (λ entry. entry ≡ entry_below domain.now workflow.now key (workflow_tip runs.now) runs.now kinds.items) }

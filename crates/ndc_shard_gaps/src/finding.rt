@@ -8,19 +8,19 @@ ghost use Rattle.ndc_shard_gaps.specs.Histories.{histories_at};
 ghost use Rattle.ndc_shard_workflows.specs.Workflow.{IsWorkflow};
 
 use crate::histories::Histories;
-use ndc_event::{Batch, BatchKey, Name};
+use ndc_event::{Batch, BatchKey, Name, OutOfMemory};
 use ndc_history::VersionHistory;
 use ndc_model_cells::{Message, Place};
 use ndc_resend::{Gap, GapOf, first_item};
 use ndc_shard_waiting::{PutOff, Waiting};
 use ndc_shard_workflows::{Workflow, Workflows};
-use std::alloc::{AllocError, Global};
+use std::alloc::Global;
 
 /// What is put off in a cell, in order of domain, workflow and key, each batch with the gap before it: behind the best item
 /// that the histories of the learned branches of its run have in common with the history that its message came with.
 /// Looks into no other cell. In time of what is put off times the branches of the run, and of what is learned of the
 /// workflows of which something is put off.
-pub fn gaps(alloc: Global, workflows: &Workflows) -> Result<Vec<GapOf>, AllocError>
+pub fn gaps(alloc: Global, workflows: &Workflows) -> Result<Vec<GapOf>, OutOfMemory>
     ensures { IfOk result (λ list. list.items ≡ gaps_of workflows.now) }
 {
     let places = workflows.behind(alloc)?;
@@ -38,7 +38,7 @@ pub fn gaps_at(
     workflows: &Workflows,
     domain: &Name,
     workflow: &Name,
-) -> Result<Vec<GapOf>, AllocError>
+) -> Result<Vec<GapOf>, OutOfMemory>
     ensures { IfOk result (λ list. list.items ≡ gaps_in (workflow_of domain.now workflow.now workflows.now)) }
 {
     match workflows.find(domain, workflow) {
@@ -48,7 +48,7 @@ pub fn gaps_at(
 }
 
 /// Those of a workflow.
-fn gaps_in(alloc: Global, workflow: &Workflow) -> Result<Vec<GapOf>, AllocError>
+fn gaps_in(alloc: Global, workflow: &Workflow) -> Result<Vec<GapOf>, OutOfMemory>
     requires { IsWorkflow workflow.now }
     ensures { IfOk result (λ list. list.items ≡ gaps_in workflow.now) }
 {
@@ -67,7 +67,7 @@ fn push_gap(
     histories: &Histories,
     waiting: &Waiting,
     one: &PutOff,
-) -> Result<(), AllocError>
+) -> Result<(), OutOfMemory>
     ensures { OnOk result (list.new.items ≡ list.old.items ++ option_to_list (gap_there histories.now waiting.now one.now)) }
 {
     let Some(batch) = waiting.get(one.key) else {
@@ -83,7 +83,7 @@ fn gap_of(
     waiting: &Waiting,
     batch: &Batch,
     missing: BatchKey,
-) -> Result<GapOf, AllocError>
+) -> Result<GapOf, OutOfMemory>
     ensures { IfOk result (λ gap. gap ≡ gap_with (histories_at batch.now.run histories.now) waiting.now missing batch.now) }
 {
     Ok(GapOf {

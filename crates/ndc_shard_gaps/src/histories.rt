@@ -4,11 +4,11 @@ ghost use Rattle.ndc_model_sets.specs.Branches.{has_child};
 ghost use Rattle.ndc_model_sets.specs.Keys.{is_key_among};
 ghost use Rattle.ndc_model_sets.specs.Paths.{is_wanted};
 
-use ndc_event::{Batch, BatchKey, RunId};
+use ndc_event::{Batch, BatchKey, OutOfMemory, RunId};
 use ndc_history::{Item, VersionHistory};
 use ndc_resend::{Gap, gap};
 use ndc_shard_runs::Runs;
-use std::alloc::{AllocError, Global};
+use std::alloc::Global;
 use std::collections::{BTreeMap, BTreeSet};
 use std::marker::Model;
 
@@ -45,7 +45,7 @@ impl Histories {
     ghost use Rattle.ndc_shard_gaps.specs.Histories.{branch_ending, histories_at};
 
     /// Those of what is learned of a workflow. In time of what is learned of it.
-    pub(crate) fn of(alloc: Global, runs: &Runs) -> Result<Histories, AllocError>
+    pub(crate) fn of(alloc: Global, runs: &Runs) -> Result<Histories, OutOfMemory>
         ensures { IfOk result (λ all. (run : RunKey) → histories_at run all ≡ histories run runs.now) }
     {
         let batches = runs.batches(alloc)?;
@@ -84,7 +84,7 @@ impl Histories {
         runs: &Runs,
         parents: &BTreeSet<BatchKey>,
         batch: &Batch,
-    ) -> Result<(), AllocError>
+    ) -> Result<(), OutOfMemory>
         ensures { OnOk result ((run : RunKey) → histories_at run self.new ≡ histories_at run self.old ++ branch_ending run parents.now.keys runs.now batch.now) }
     {
         if parents.contains(&batch.key) {
@@ -97,7 +97,7 @@ impl Histories {
     }
 
     /// Adds a history to those of a run.
-    fn add(&mut self, run: RunId, history: VersionHistory) -> Result<(), AllocError>
+    fn add(&mut self, run: RunId, history: VersionHistory) -> Result<(), OutOfMemory>
         ensures { OnOk result ((one : RunKey) → histories_at one self.new ≡ (if same_run run one then histories_at one self.old ++ history ∷ [] else histories_at one self.old)) }
     {
         let mut list = self.take(run);
@@ -119,7 +119,7 @@ impl Histories {
 }
 
 /// The keys of the batches that are parents of some of these.
-fn parents_of(alloc: Global, batches: &[&Batch]) -> Result<BTreeSet<BatchKey>, AllocError>
+fn parents_of(alloc: Global, batches: &[&Batch]) -> Result<BTreeSet<BatchKey>, OutOfMemory>
     ensures { IfOk result (λ parents. (b : One) → is_key_among b.key parents.keys ≡ has_child b (map (λ x. x.now) batches.now)) }
 {
     let mut parents = BTreeSet::new(alloc);
@@ -130,7 +130,7 @@ fn parents_of(alloc: Global, batches: &[&Batch]) -> Result<BTreeSet<BatchKey>, A
 }
 
 /// Adds the key of the batch's parent, where it has one.
-fn add_parent(parents: &mut BTreeSet<BatchKey>, batch: &Batch) -> Result<(), AllocError>
+fn add_parent(parents: &mut BTreeSet<BatchKey>, batch: &Batch) -> Result<(), OutOfMemory>
     ensures { OnOk result ((b : One) → is_key_among b.key parents.new.keys ≡ (is_key_among b.key parents.old.keys || is_wanted batch.now.parent b)) }
 {
     if let Some(parent) = batch.parent {

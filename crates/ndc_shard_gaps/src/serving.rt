@@ -10,13 +10,13 @@ ghost use Rattle.ndc_resend.specs.Gaps.{end_behind, served};
 ghost use Rattle.ndc_shard_gaps.specs.Ends.{behind};
 ghost use Rattle.ndc_resend.specs.Serving.{answered, chain_to, first_carrier, served_for};
 
-use ndc_event::{Batch, BatchKey};
+use ndc_event::{Batch, BatchKey, OutOfMemory};
 use ndc_model_cells::Message;
 use ndc_model_sets::{earlier_key, first_id};
 use ndc_resend::{Gap, GapOf, is_between};
 use ndc_shard_runs::Runs;
 use ndc_shard_workflows::{Workflows, message_there};
-use std::alloc::{AllocError, Global};
+use std::alloc::Global;
 
 /// What a cell serves for a gap: the messages of the batches in it on the path to the batch that was asked for, in path
 /// order. A batch that another one carries comes with the message of its carrier, behind the messages of the carrier's
@@ -26,7 +26,7 @@ pub fn serve(
     alloc: Global,
     workflows: &Workflows,
     asked: &GapOf,
-) -> Result<Vec<Message>, AllocError>
+) -> Result<Vec<Message>, OutOfMemory>
     ensures { IfOk result (λ list. list.items ≡ served_for asked.now workflows.now) }
 {
     match workflows.find(&asked.domain, &asked.workflow) {
@@ -43,7 +43,7 @@ fn messages(
     alloc: Global,
     workflows: &Workflows,
     batches: &[&Batch],
-) -> Result<Vec<Message>, AllocError>
+) -> Result<Vec<Message>, OutOfMemory>
     ensures { IfOk result (λ list. list.items ≡ filter_map (λ b. message_at workflows.now (place_of b)) (map (λ b. b.now) batches.now)) }
 {
     let mut list = Vec::new(alloc);
@@ -62,7 +62,7 @@ fn answered<'r>(
     runs: &'r Runs,
     gap: &Gap,
     key: BatchKey,
-) -> Result<Vec<&'r Batch>, AllocError>
+) -> Result<Vec<&'r Batch>, OutOfMemory>
     requires { IsSet runs.now }
     ensures { IfOk result (λ list. map (λ b. b.now) list.items ≡ answered runs.now gap.now key) }
 {
@@ -78,7 +78,7 @@ fn lie_between<'r>(
     runs: &'r Runs,
     gap: &Gap,
     key: BatchKey,
-) -> Result<Vec<&'r Batch>, AllocError>
+) -> Result<Vec<&'r Batch>, OutOfMemory>
     requires { IsSet runs.now }
     ensures { IfOk result (λ list. map (λ b. b.now) list.items ≡ served gap.now (end_behind gap.now.after.id (path_to key runs.now))) }
 {
@@ -92,7 +92,7 @@ fn path_behind(
     runs: &Runs,
     id: u64,
     key: BatchKey,
-) -> Result<Vec<&Batch>, AllocError>
+) -> Result<Vec<&Batch>, OutOfMemory>
     requires { IsSet runs.now }
     ensures { IfOk result (λ list. map (λ b. b.now) list.items ≡ end_behind id (path_to key runs.now)) }
 {
@@ -121,7 +121,7 @@ fn kept_between<'r>(
     alloc: Global,
     path: &[&'r Batch],
     gap: &Gap,
-) -> Result<Vec<&'r Batch>, AllocError>
+) -> Result<Vec<&'r Batch>, OutOfMemory>
     ensures { IfOk result (λ list. map (λ b. b.now) list.items ≡ served gap.now (map (λ b. b.now) path.now)) }
 {
     let mut list = Vec::new(alloc);
@@ -144,7 +144,7 @@ fn first_carrier(batches: &[&Batch]) -> Option<BatchKey>
 }
 
 /// The batches that lead to the one of this key, through parents and carriers, and that one.
-fn chain(alloc: Global, runs: &Runs, wanted: Option<BatchKey>) -> Result<Vec<&Batch>, AllocError>
+fn chain(alloc: Global, runs: &Runs, wanted: Option<BatchKey>) -> Result<Vec<&Batch>, OutOfMemory>
     requires { IsSet runs.now }
     ensures { IfOk result (λ list. map (λ b. b.now) list.items ≡ chain_to wanted runs.now) }
 {

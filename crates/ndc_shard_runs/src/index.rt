@@ -16,11 +16,11 @@ ghost use Rattle.ndc_tree.specs.Tree.{IsTree};
 
 use crate::places::Places;
 use crate::run_map::RunMap;
-use ndc_event::{Batch, BatchKey, RunId};
+use ndc_event::{Batch, BatchKey, OutOfMemory, RunId};
 use ndc_run::Run;
 use ndc_state::Steps;
 use ndc_tree::Tree;
-use std::alloc::{AllocError, Global};
+use std::alloc::Global;
 use std::marker::Model;
 
 /// The runs by their ids, in which batches are found by key. One run alone is asked itself; the places of keys are kept
@@ -125,7 +125,7 @@ impl RunIndex {
     }
 
     /// The batches, in key order.
-    pub(crate) fn batches(&self, alloc: Global) -> Result<Vec<&Batch>, AllocError>
+    pub(crate) fn batches(&self, alloc: Global) -> Result<Vec<&Batch>, OutOfMemory>
         requires sound { IsSound (all_of self.now) }
         requires parts { AreParts self.now }
         ensures { IfOk result (λ list. map (λ b. b.now) list.items ≡ all_of self.now) }
@@ -142,7 +142,7 @@ impl RunIndex {
         alloc: Global,
         batch: &Batch,
         steps: &mut Steps<L>,
-    ) -> Result<(), AllocError>
+    ) -> Result<(), OutOfMemory>
         requires fresh { batch_at batch.now.key (all_of self.old) ≡ None }
         requires fits { IsOk (learned batch.now.run (batches_of (run_at batch.now.run self.old)) batch.now) }
         requires faultless { fault_of batch.now ≡ None }
@@ -162,7 +162,7 @@ impl RunIndex {
         batch: &Batch,
         second: &Batch,
         steps: &mut Steps<L>,
-    ) -> Result<(), AllocError>
+    ) -> Result<(), OutOfMemory>
         requires fresh { batch_at batch.now.key (all_of self.old) ≡ None }
         requires fits { IsOk (learned batch.now.run (batches_of (run_at batch.now.run self.old)) batch.now) }
         requires second_fresh { batch_at second.now.key (all_of self.old) ≡ None }
@@ -211,7 +211,7 @@ fn only_with(runs: &RunMap, key: BatchKey) -> Option<&Run>
 }
 
 /// The batches of the only run, in key order.
-fn only_batches(alloc: Global, runs: &RunMap) -> Result<Vec<&Batch>, AllocError>
+fn only_batches(alloc: Global, runs: &RunMap) -> Result<Vec<&Batch>, OutOfMemory>
     requires { AreOne runs.now }
     ensures { IfOk result (λ list. map (λ b. b.now) list.items ≡ all_of runs.now) }
 {
@@ -237,7 +237,7 @@ fn batches_at<'r>(
     alloc: Global,
     runs: &'r RunMap,
     places: &Places,
-) -> Result<Vec<&'r Batch>, AllocError>
+) -> Result<Vec<&'r Batch>, OutOfMemory>
     requires sound { IsSound (all_of runs.now) }
     requires parts { AreParts runs.now }
     requires places { places.now ≡ places_of (all_of runs.now) }
@@ -260,7 +260,7 @@ fn take_in<L>(
     alloc: Global,
     batch: &Batch,
     steps: &mut Steps<L>,
-) -> Result<(), AllocError>
+) -> Result<(), OutOfMemory>
     requires indexed { AreIndexed runs.old places.old }
     requires fresh { batch_at batch.now.key (all_of runs.old) ≡ None }
     requires fits { IsOk (learned batch.now.run (batches_of (run_at batch.now.run runs.old)) batch.now) }
@@ -290,7 +290,7 @@ fn take_both<L>(
     batch: &Batch,
     second: &Batch,
     steps: &mut Steps<L>,
-) -> Result<(), AllocError>
+) -> Result<(), OutOfMemory>
     requires indexed { AreIndexed runs.old places.old }
     requires fresh { batch_at batch.now.key (all_of runs.old) ≡ None }
     requires fits { IsOk (learned batch.now.run (batches_of (run_at batch.now.run runs.old)) batch.now) }
@@ -331,7 +331,7 @@ fn enter(
     alloc: Global,
     runs: &RunMap,
     batch: &Batch,
-) -> Result<(), AllocError>
+) -> Result<(), OutOfMemory>
     requires indexed { AreIndexed runs.now places.old }
     requires fresh { batch_at batch.now.key (all_of runs.now) ≡ None }
     ensures ok { OnOk result (AreIndexed (with_batch batch.now runs.now) places.new) }
@@ -347,7 +347,7 @@ fn enter(
 }
 
 /// The places of the only run's batches and of one that is learned next, where that one begins a second run.
-fn places_with(alloc: Global, runs: &RunMap, batch: &Batch) -> Result<Option<Places>, AllocError>
+fn places_with(alloc: Global, runs: &RunMap, batch: &Batch) -> Result<Option<Places>, OutOfMemory>
     requires one { AreOne runs.now }
     requires fresh { batch_at batch.now.key (all_of runs.now) ≡ None }
     ensures { IfOk result (λ places. AreIndexed (with_batch batch.now runs.now) places) }

@@ -1,6 +1,6 @@
-use ndc_event::{BatchKey, RunId};
+use ndc_event::{BatchKey, OutOfMemory, RunId};
 use ndc_tree::Tree;
-use std::alloc::{AllocError, Global};
+use std::alloc::Global;
 use std::collections::BTreeMap;
 use std::marker::Model;
 
@@ -36,7 +36,7 @@ impl Places {
     }
 
     /// The keys of the batches of a run.
-    pub(crate) fn of(alloc: Global, tree: &Tree) -> Result<Places, AllocError>
+    pub(crate) fn of(alloc: Global, tree: &Tree) -> Result<Places, OutOfMemory>
         requires { Rise tree.now.batches }
         ensures { IfOk result (λ places. places ≡ places_of tree.now.batches) }
     {
@@ -56,7 +56,7 @@ impl Places {
     }
 
     /// The keys, ascending.
-    pub(crate) fn keys(&self, alloc: Global) -> Result<Vec<BatchKey>, AllocError>
+    pub(crate) fn keys(&self, alloc: Global) -> Result<Vec<BatchKey>, OutOfMemory>
         ensures { IfOk result (λ keys. keys.items ≡ map (λ place. place.0) self.now) }
     {
         self.map.keys().copied().collect(alloc)
@@ -71,7 +71,7 @@ impl Places {
     }
 
     /// Puts the key to its place, with its run.
-    pub(crate) fn put(&mut self, key: BatchKey, run: RunId) -> Result<(), AllocError>
+    pub(crate) fn put(&mut self, key: BatchKey, run: RunId) -> Result<(), OutOfMemory>
         ensures ok { OnOk result (self.new ≡ with_place key run self.old) }
         ensures err { OnErr result (self.new ≡ self.old) }
     {

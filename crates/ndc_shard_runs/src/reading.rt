@@ -1,7 +1,7 @@
 use crate::runs::Runs;
-use ndc_event::{Batch, BatchKey};
+use ndc_event::{Batch, BatchKey, OutOfMemory};
 use ndc_history::VersionHistory;
-use std::alloc::{AllocError, Global};
+use std::alloc::Global;
 
 impl Runs {
     ghost use Rattle.std.specs.Prelude.{◌≡◌, map, IfOk};
@@ -14,7 +14,7 @@ impl Runs {
         &self,
         alloc: Global,
         key: BatchKey,
-    ) -> Result<Option<VersionHistory>, AllocError>
+    ) -> Result<Option<VersionHistory>, OutOfMemory>
         ensures { IfOk result (λ history. history ≡ history_at key self.now) }
     {
         match self.run_of(key) {
@@ -25,7 +25,7 @@ impl Runs {
 
     /// The batches of the path to the one of this key, from its run's first on; none exactly where it is not learned. A
     /// look-up for each batch of the path.
-    pub fn path(&self, alloc: Global, key: BatchKey) -> Result<Option<Vec<&Batch>>, AllocError>
+    pub fn path(&self, alloc: Global, key: BatchKey) -> Result<Option<Vec<&Batch>>, OutOfMemory>
         ensures { IfOk result (λ path. option_map (λ list. map (λ b. b.now) list.items) path ≡ path_at key self.now) }
     {
         match self.run_of(key) {

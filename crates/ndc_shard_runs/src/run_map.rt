@@ -8,7 +8,7 @@ ghost use Rattle.ndc_state.specs.Counted.{counted};
 ghost use Rattle.ndc_state.specs.Replay.{CountsWithin};
 ghost use Rattle.ndc_model_sets.specs.Reading.{current_key};
 
-use ndc_event::{Batch, RunId};
+use ndc_event::{Batch, OutOfMemory, RunId};
 use ndc_run::{Run, RunError};
 use ndc_state::Steps;
 use ndc_tree::sorted::put;
@@ -89,7 +89,7 @@ impl RunMap {
         alloc: Global,
         batch: &Batch,
         steps: &mut Steps<L>,
-    ) -> Result<(), AllocError>
+    ) -> Result<(), OutOfMemory>
         requires fresh { batch_at batch.now.key (batches_of (run_at batch.now.run self.old)) ≡ None }
         requires fits { IsOk (learned batch.now.run (batches_of (run_at batch.now.run self.old)) batch.now) }
         requires faultless { fault_of batch.now ≡ None }
@@ -134,7 +134,7 @@ fn grow<L>(
     alloc: Global,
     batch: &Batch,
     steps: &mut Steps<L>,
-) -> Result<(), AllocError>
+) -> Result<(), OutOfMemory>
     requires fresh { batch_at batch.now.key run.old.batches ≡ None }
     requires fits { IsOk (learned run.old.run run.old.batches batch.now) }
     requires faultless { fault_of batch.now ≡ None }

@@ -7,12 +7,12 @@ ghost use Rattle.ndc_shard_runs.specs.RunMap.{run_at};
 
 use crate::index::RunIndex;
 use crate::kept::{Kept, has_no_signal};
-use ndc_event::{Batch, BatchKey, RunId};
+use ndc_event::{Batch, BatchKey, OutOfMemory, RunId};
 use ndc_model_sets::is_key;
 use ndc_reapply::Stray;
 use ndc_run::Run;
 use ndc_state::{State, Steps};
-use std::alloc::{AllocError, Global};
+use std::alloc::Global;
 use std::marker::Model;
 
 /// All that is learned of one workflow: its runs, with their states. Seen as the list of the learned batches in key
@@ -80,7 +80,7 @@ impl Runs {
         alloc: Global,
         batch: &Batch,
         steps: &mut Steps<L>,
-    ) -> Result<(), AllocError>
+    ) -> Result<(), OutOfMemory>
         requires sound { IsSound (arrived batch.now self.old) }
         requires fresh { batch_at batch.now.key self.old ≡ None }
         requires ids { All (λ event. event.id ≤ 10 ^ 12) batch.now.events }
@@ -110,7 +110,7 @@ impl Runs {
         batch: &Batch,
         second: &Batch,
         steps: &mut Steps<L>,
-    ) -> Result<(), AllocError>
+    ) -> Result<(), OutOfMemory>
         requires sound { IsSound (arrived batch.now self.old) }
         requires sound_both { IsSound (arrived second.now (arrived batch.now self.old)) }
         requires fresh { batch_at batch.now.key self.old ≡ None }
@@ -154,7 +154,7 @@ impl Runs {
     }
 
     /// The learned batches, in key order. In time of their number; with several runs, a look-up for each of them.
-    pub fn batches(&self, alloc: Global) -> Result<Vec<&Batch>, AllocError>
+    pub fn batches(&self, alloc: Global) -> Result<Vec<&Batch>, OutOfMemory>
         ensures sound { IsSound self.now }
         ensures list { IfOk result (λ list. map (λ b. b.now) list.items ≡ self.now) }
     {
@@ -227,7 +227,7 @@ impl Runs {
 
     /// Whether reapplication is due: there are strays, and the current run is open. Where it is open, the strays are known
     /// then. In time of all learned events where they were not known. For want of memory they stay unknown.
-    pub fn is_due(&mut self, alloc: Global) -> Result<bool, AllocError>
+    pub fn is_due(&mut self, alloc: Global) -> Result<bool, OutOfMemory>
         ensures due { IfOk result (λ due. due ≡ is_due self.old) }
         ensures same { self.new ≡ self.old }
     {
@@ -238,7 +238,7 @@ impl Runs {
     }
 
     /// Whether there are strays. Then they are known.
-    fn has_strays(&mut self, alloc: Global) -> Result<bool, AllocError>
+    fn has_strays(&mut self, alloc: Global) -> Result<bool, OutOfMemory>
         ensures has { IfOk result (λ has. has ≡ not (is_empty (strays self.old))) }
         ensures same { self.new ≡ self.old }
     {

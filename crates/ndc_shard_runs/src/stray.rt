@@ -8,11 +8,11 @@ ghost use Rattle.ndc_shard_runs.specs.Settled.{origins_seen, seen_by, settled_wi
 ghost use Rattle.ndc_state.specs.Origins.{is_among};
 
 use crate::runs::Runs;
-use ndc_event::{Batch, Event, EventKind, Origin, RunId};
+use ndc_event::{Batch, Event, EventKind, Origin, OutOfMemory, RunId};
 use ndc_reapply::Stray;
 use ndc_run::Run;
 use ndc_state::{State, origin_of};
-use std::alloc::{AllocError, Global};
+use std::alloc::Global;
 
 impl Runs {
     ghost use Rattle.std.specs.Prelude.{◌≡◌, ◌++◌, map, IfOk, OnOk};
@@ -26,7 +26,7 @@ impl Runs {
 
     /// The signals whose origins are not settled, each once, ordered by version, event and run. In time of all learned
     /// events; no other signal is copied.
-    pub fn strays(&self, alloc: Global) -> Result<Vec<Stray>, AllocError>
+    pub fn strays(&self, alloc: Global) -> Result<Vec<Stray>, OutOfMemory>
         ensures { IfOk result (λ list. list.items ≡ strays self.now) }
     {
         let batches = self.batches(alloc)?;
@@ -36,7 +36,7 @@ impl Runs {
     }
 
     /// The states by which the runs of these batches settle origins, which are all that is learned.
-    fn settling(&self, alloc: Global, batches: &[&Batch]) -> Result<Vec<&State>, AllocError>
+    fn settling(&self, alloc: Global, batches: &[&Batch]) -> Result<Vec<&State>, OutOfMemory>
         requires all { map (λ b. b.now) batches.now ≡ self.now }
         requires sound { IsSound self.now }
         ensures { IfOk result (λ list. origins_seen (map (λ s. s.now) list.items) ≡ flat_map (settled_from self.now) (map (λ b. b.now) batches.now)) }
@@ -84,7 +84,7 @@ fn settling_state(run: &Run, is_current: bool) -> Option<&State>
 }
 
 /// Adds the state, where there is one.
-fn push_state<'s>(list: &mut Vec<&'s State>, state: Option<&'s State>) -> Result<(), AllocError>
+fn push_state<'s>(list: &mut Vec<&'s State>, state: Option<&'s State>) -> Result<(), OutOfMemory>
     ensures { OnOk result (origins_seen (map (λ s. s.now) list.new.items) ≡ origins_seen (map (λ s. s.now) list.old.items) ++ seen_by (option_copied state.entry)) }
 {
     match state {
@@ -97,7 +97,11 @@ fn push_state<'s>(list: &mut Vec<&'s State>, state: Option<&'s State>) -> Result
 }
 
 /// The signals of the batches whose origins none of the states has seen.
-fn unsettled(alloc: Global, batches: &[&Batch], states: &[&State]) -> Result<Vec<Stray>, AllocError>
+fn unsettled(
+    alloc: Global,
+    batches: &[&Batch],
+    states: &[&State],
+) -> Result<Vec<Stray>, OutOfMemory>
     ensures { IfOk result (λ list. list.items ≡ unsettled (origins_seen (map (λ s. s.now) states.now)) (map (λ b. b.now) batches.now)) }
 {
     let mut list = Vec::new(alloc);
@@ -116,7 +120,7 @@ fn push_unsettled(
     events: &[Event],
     states: &[&State],
     hint: usize,
-) -> Result<usize, AllocError>
+) -> Result<usize, OutOfMemory>
     ensures { OnOk result (list.new.items ≡ list.old.items ++ unsettled_in (origins_seen (map (λ s. s.now) states.now)) run events.now) }
 {
     let mut place = hint;
@@ -133,7 +137,7 @@ fn push_event(
     event: &Event,
     states: &[&State],
     hint: usize,
-) -> Result<usize, AllocError>
+) -> Result<usize, OutOfMemory>
     ensures { OnOk result (list.new.items ≡ list.old.items ++ filter (is_unlisted (origins_seen (map (λ s. s.now) states.now))) (cons_option (signal_of run event.now.id event.now.version event.now.kind) [])) }
 {
     match &event.kind {

@@ -5,11 +5,11 @@ ghost use Rattle.ndc_tree.specs.Tips.{tip_keys};
 
 use crate::runs::Runs;
 use ndc_current::status;
-use ndc_event::{Batch, BatchKey};
+use ndc_event::{Batch, BatchKey, OutOfMemory};
 use ndc_model_sets::{Batches, BranchView, BranchViews, RunView, RunViews, View, is_key};
 use ndc_run::Run;
 use ndc_state::Steps;
-use std::alloc::{AllocError, Global};
+use std::alloc::Global;
 
 impl Runs {
     ghost use Rattle.std.specs.Prelude.{◌≡◌, IfOk};
@@ -18,7 +18,7 @@ impl Runs {
 
     /// What is shown of the workflow; none exactly where nothing is learned. In time of all learned events; branches that
     /// are not current are restored from what is kept of their runs, which takes steps.
-    pub fn view<L>(&self, alloc: Global, steps: &mut Steps<L>) -> Result<Option<View>, AllocError>
+    pub fn view<L>(&self, alloc: Global, steps: &mut Steps<L>) -> Result<Option<View>, OutOfMemory>
         ensures { IfOk result (λ view. view ≡ view_at self.now) }
     {
         if self.is_empty() {
@@ -39,7 +39,7 @@ impl Runs {
         &self,
         alloc: Global,
         steps: &mut Steps<L>,
-    ) -> Result<Vec<RunView>, AllocError>
+    ) -> Result<Vec<RunView>, OutOfMemory>
         ensures { IfOk result (λ list. list.items ≡ (view_of self.now).runs) }
     {
         let mut list = Vec::new(alloc);
@@ -57,7 +57,7 @@ fn run_view<L>(
     run: &Run,
     is_current: bool,
     steps: &mut Steps<L>,
-) -> Result<RunView, AllocError>
+) -> Result<RunView, OutOfMemory>
     ensures { IfOk result (λ view. view ≡ run_with run.now is_current) }
 {
     let branches = branch_views(alloc, run, steps)?;
@@ -76,7 +76,7 @@ fn branch_views<L>(
     alloc: Global,
     run: &Run,
     steps: &mut Steps<L>,
-) -> Result<Vec<BranchView>, AllocError>
+) -> Result<Vec<BranchView>, OutOfMemory>
     ensures { IfOk result (λ list. list.items ≡ map (branch_with run.now) (tip_keys run.now.run run.now.batches)) }
 {
     let keys = run.tree().branches(alloc)?;
@@ -94,7 +94,7 @@ fn push_branch<L>(
     run: &Run,
     key: BatchKey,
     steps: &mut Steps<L>,
-) -> Result<(), AllocError>
+) -> Result<(), OutOfMemory>
     requires { is_key_among key (tip_keys run.now.run run.now.batches) ≡ true }
     ensures { OnOk result (list.new.items ≡ list.old.items ++ branch_with run.now key ∷ []) }
 {
@@ -114,7 +114,7 @@ fn push_branch<L>(
 }
 
 /// Copies of the batches.
-fn copies(alloc: Global, batches: &[&Batch]) -> Result<Vec<Batch>, AllocError>
+fn copies(alloc: Global, batches: &[&Batch]) -> Result<Vec<Batch>, OutOfMemory>
     ensures { IfOk result (λ list. list.items ≡ map (λ b. b.now) batches.now) }
 {
     let mut list = Vec::with_capacity(alloc, batches.len())?;

@@ -1,6 +1,6 @@
-use ndc_event::BatchKey;
+use ndc_event::{BatchKey, OutOfMemory};
 use ndc_model_sets::KeySet;
-use std::alloc::{AllocError, Global};
+use std::alloc::Global;
 use std::collections::BTreeSet;
 use std::marker::Model;
 
@@ -43,7 +43,7 @@ impl Links {
     }
 
     /// The batch of the key `own` waits for that of the key `earlier`.
-    pub(crate) fn add(&mut self, earlier: BatchKey, own: BatchKey) -> Result<(), AllocError>
+    pub(crate) fn add(&mut self, earlier: BatchKey, own: BatchKey) -> Result<(), OutOfMemory>
         ensures ok { OnOk result ((before one : Key) → is_linked before one self.new ≡ (is_link before one earlier own || is_linked before one self.old)) }
         ensures err { OnErr result (self.new ≡ self.old) }
     {
@@ -63,7 +63,7 @@ impl Links {
         &mut self,
         earlier: Option<BatchKey>,
         own: BatchKey,
-    ) -> Result<(), AllocError>
+    ) -> Result<(), OutOfMemory>
         ensures ok { OnOk result ((before one : Key) → is_linked before one self.new ≡ (is_link_for before one earlier own || is_linked before one self.old)) }
         ensures err { OnErr result (self.new ≡ self.old) }
     {
@@ -84,7 +84,7 @@ impl Links {
 
     /// Puts the keys of all batches that wait for this one to the others. In time of the logarithm of the links for
     /// each of them.
-    pub(crate) fn wake(&self, earlier: BatchKey, todo: &mut KeySet) -> Result<(), AllocError>
+    pub(crate) fn wake(&self, earlier: BatchKey, todo: &mut KeySet) -> Result<(), OutOfMemory>
         ensures { OnOk result ((one : Key) → is_key_among one todo.new ≡ (is_key_among one todo.old || is_linked earlier one self.now)) }
     {
         let own = BatchKey {

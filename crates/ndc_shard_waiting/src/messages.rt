@@ -1,6 +1,6 @@
-use ndc_event::BatchKey;
+use ndc_event::{BatchKey, OutOfMemory};
 use ndc_model_cells::Message;
-use std::alloc::{AllocError, Global};
+use std::alloc::Global;
 use std::collections::BTreeMap;
 use std::marker::Model;
 
@@ -53,7 +53,7 @@ impl Messages {
     }
 
     /// Puts the message, whose batch's key is new, to its place.
-    pub(crate) fn insert(&mut self, message: Message) -> Result<(), AllocError>
+    pub(crate) fn insert(&mut self, message: Message) -> Result<(), OutOfMemory>
         requires { message_at message.batch.key self.old ≡ None }
         ensures ok { OnOk result (self.new ≡ put_off message self.old) }
         ensures err { OnErr result (self.new ≡ self.old) }
@@ -71,7 +71,7 @@ impl Messages {
     }
 
     /// The messages, in key order.
-    pub(crate) fn list(&self, alloc: Global) -> Result<Vec<&Message>, AllocError>
+    pub(crate) fn list(&self, alloc: Global) -> Result<Vec<&Message>, OutOfMemory>
         ensures { IfOk result (λ list. map (λ m. m.now) list.items ≡ self.now) }
     {
         self.map.values().collect(alloc)

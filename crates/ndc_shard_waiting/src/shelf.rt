@@ -7,10 +7,10 @@ ghost use Rattle.ndc_shard_waiting.specs.Waiting.{put_off};
 
 use crate::links::Links;
 use crate::messages::Messages;
-use ndc_event::{Batch, BatchKey};
+use ndc_event::{Batch, BatchKey, OutOfMemory};
 use ndc_model_cells::Message;
 use ndc_model_sets::{KeySet, earlier_key};
-use std::alloc::{AllocError, Global};
+use std::alloc::Global;
 use std::marker::Model;
 
 /// Messages that wait, by the key of their batch and by the earlier key for which they wait. Seen as their list in
@@ -57,7 +57,7 @@ fn key_before(key: BatchKey) -> Option<BatchKey>
 
 /// Puts the message, whose batch's key is new, to its place, and links it from its earlier key; for want of memory
 /// both are as they were.
-fn put_in(messages: &mut Messages, links: &mut Links, message: Message) -> Result<(), AllocError>
+fn put_in(messages: &mut Messages, links: &mut Links, message: Message) -> Result<(), OutOfMemory>
     requires new { message_at message.batch.key messages.old ≡ None }
     requires loose { (before one : Key) → (is_link_for before one (earlier message.batch) message.batch.key && is_linked before one links.old) ≡ false }
     ensures messages { OnOk result (messages.new ≡ put_off message messages.old) }
@@ -149,7 +149,7 @@ impl Shelf {
     }
 
     /// Puts a message that waits, and whose keys are new, to its place; for want of memory the shelf is as it was.
-    pub(crate) fn put(&mut self, message: Message) -> Result<(), AllocError>
+    pub(crate) fn put(&mut self, message: Message) -> Result<(), OutOfMemory>
         requires waits { CanWait message }
         requires new { IsNewTo (batches_of self.old) message }
         ensures ok { OnOk result (self.new ≡ put_off message self.old) }
@@ -159,7 +159,7 @@ impl Shelf {
     }
 
     /// The batches of the messages, in key order.
-    pub(crate) fn batches(&self, alloc: Global) -> Result<Vec<&Batch>, AllocError>
+    pub(crate) fn batches(&self, alloc: Global) -> Result<Vec<&Batch>, OutOfMemory>
         ensures { IfOk result (λ list. map (λ b. b.now) list.items ≡ batches_of self.now) }
     {
         let mut batches = Vec::new(alloc);
@@ -186,7 +186,7 @@ impl Shelf {
     }
 
     /// Puts the keys of all messages that wait for this one to the others.
-    fn wake(&self, sent: &Message, todo: &mut KeySet) -> Result<(), AllocError>
+    fn wake(&self, sent: &Message, todo: &mut KeySet) -> Result<(), OutOfMemory>
         ensures woken { OnOk result ((one : Key) → is_key_among one todo.new ≡ (is_key_among one todo.old || is_woken (both sent.now) one self.now)) }
         ensures waiting { AreWaiting self.now }
     {
@@ -203,7 +203,7 @@ impl Shelf {
         &mut self,
         alloc: Global,
         message: Message,
-    ) -> Result<Vec<Message>, AllocError>
+    ) -> Result<Vec<Message>, OutOfMemory>
         ensures ok { IfOk result (λ list. list.items ≡ freed message self.old) }
         ensures rest { OnOk result (self.new ≡ still_put_off message self.old) }
         ensures waiting { AreWaiting self.new }

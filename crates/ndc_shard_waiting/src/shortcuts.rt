@@ -1,5 +1,5 @@
-use ndc_event::BatchKey;
-use std::alloc::{AllocError, Global};
+use ndc_event::{BatchKey, OutOfMemory};
+use std::alloc::Global;
 use std::collections::BTreeMap;
 use std::marker::Model;
 
@@ -41,7 +41,7 @@ impl Shortcuts {
     }
 
     /// Gives the key a shortcut in place of the one that it has.
-    pub(crate) fn set(&mut self, key: BatchKey, to: BatchKey) -> Result<(), AllocError>
+    pub(crate) fn set(&mut self, key: BatchKey, to: BatchKey) -> Result<(), OutOfMemory>
         ensures ok { OnOk result ((one : Key) → shortcut_at one self.new ≡ (if key_eq key one then Some to else shortcut_at one self.old)) }
         ensures err { OnErr result (self.new ≡ self.old) }
     {

@@ -8,10 +8,10 @@ ghost use Rattle.ndc_model_cells.specs.Messages.{batches_of};
 
 use crate::shelf::Shelf;
 use crate::shortcuts::Shortcuts;
-use ndc_event::{Batch, BatchKey};
+use ndc_event::{Batch, BatchKey, OutOfMemory};
 use ndc_model_cells::Message;
 use ndc_model_sets::earlier_key;
-use std::alloc::{AllocError, Global};
+use std::alloc::Global;
 use std::marker::Model;
 
 /// The messages of one workflow that are put off. Seen as their list in the order of their batches' keys.
@@ -84,7 +84,7 @@ fn missed(ends: &Shortcuts, batch: &Batch) -> BatchKey
 }
 
 /// Notes what a batch misses, for those behind it too.
-fn note(ends: &mut Shortcuts, found: &mut Vec<PutOff>, batch: &Batch) -> Result<(), AllocError>
+fn note(ends: &mut Shortcuts, found: &mut Vec<PutOff>, batch: &Batch) -> Result<(), OutOfMemory>
     ensures ends { OnOk result ((one : Key) → shortcut_at one ends.new ≡ (if key_eq batch.now.key one then Some (missed_by ends.old batch.now) else shortcut_at one ends.old)) }
     ensures found { OnOk result (found.new.items ≡ found.old.items ++ record { key = batch.now.key; missing = missed_by ends.old batch.now } ∷ []) }
 {
@@ -156,7 +156,7 @@ impl Waiting {
     }
 
     /// The batches of the messages, those that are carried too, in key order.
-    pub fn batches(&self, alloc: Global) -> Result<Vec<&Batch>, AllocError>
+    pub fn batches(&self, alloc: Global) -> Result<Vec<&Batch>, OutOfMemory>
         ensures { IfOk result (λ list. map (λ b. b.now) list.items ≡ batches_of self.now) }
     {
         self.shelf.batches(alloc)
@@ -165,7 +165,7 @@ impl Waiting {
     /// Puts a message off: it goes to its place. Its batch has an earlier key, which comes before its own, and what it
     /// carries has the next one; neither key is there. In time of the logarithm of the messages. For want of memory
     /// nothing changes.
-    pub fn put(&mut self, message: Message) -> Result<(), AllocError>
+    pub fn put(&mut self, message: Message) -> Result<(), OutOfMemory>
         requires waits { CanWait message }
         requires new { IsNewTo (batches_of self.old) message }
         ensures ok { OnOk result (self.new ≡ put_off message self.old) }
@@ -177,7 +177,7 @@ impl Waiting {
     /// Takes out what waits for the message, which becomes learned, directly or not: the message, and behind it what
     /// it frees, in key order; all others stay. In time of the logarithm of the messages for each that is freed. For
     /// want of memory some that would be freed may be lost, and with them the message.
-    pub fn free(&mut self, alloc: Global, message: Message) -> Result<Vec<Message>, AllocError>
+    pub fn free(&mut self, alloc: Global, message: Message) -> Result<Vec<Message>, OutOfMemory>
         requires { IsNewTo (batches_of self.old) message }
         ensures freed { IfOk result (λ list. list.items ≡ freed message self.old) }
         ensures rest { OnOk result (self.new ≡ still_put_off message self.old) }
@@ -208,7 +208,7 @@ impl Waiting {
 
     /// Of each batch that is put off, those that are carried too, in key order, what it misses. In time of the
     /// batches times the logarithm of them.
-    pub fn all_missing(&self, alloc: Global) -> Result<Vec<PutOff>, AllocError>
+    pub fn all_missing(&self, alloc: Global) -> Result<Vec<PutOff>, OutOfMemory>
         ensures { IfOk result (λ list. map (λ one. (one.key, Some one.missing)) list.items ≡ all_missing (batches_of self.now)) }
     {
         let mut ends = Shortcuts::new(alloc);

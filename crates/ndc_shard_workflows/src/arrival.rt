@@ -2,10 +2,10 @@ ghost use Rattle.std.specs.Prelude.{◌≡◌, [], map, IfOk};
 ghost use Rattle.ndc_model_cells.specs.declared.job.Arrived.TheVariants.{Known, Learned, PutOff};
 ghost use Rattle.ndc_model_cells.specs.Messages.{batches_of};
 
-use ndc_event::{Batch, BatchKey};
+use ndc_event::{Batch, BatchKey, OutOfMemory};
 use ndc_model_cells::{Arrived, Keys, Message};
 use ndc_model_sets::Batches;
-use std::alloc::{AllocError, Global};
+use std::alloc::Global;
 
 /// What comes of the arrival of a message.
 #[derive(Drop)]
@@ -27,7 +27,7 @@ pub(crate) struct Received {
 }
 
 /// The batches of messages, each followed by the one that it carries.
-fn batches_in(alloc: Global, messages: Vec<Message>) -> Result<Vec<Batch>, AllocError>
+fn batches_in(alloc: Global, messages: Vec<Message>) -> Result<Vec<Batch>, OutOfMemory>
     ensures { IfOk result (λ batches. batches.items ≡ batches_of messages.items) }
 {
     let mut batches = Vec::with_capacity(alloc, messages.len())?;
@@ -42,7 +42,7 @@ fn batches_in(alloc: Global, messages: Vec<Message>) -> Result<Vec<Batch>, Alloc
 }
 
 /// The keys of batches, in order.
-fn keys_of(alloc: Global, batches: &[Batch]) -> Result<Keys, AllocError>
+fn keys_of(alloc: Global, batches: &[Batch]) -> Result<Keys, OutOfMemory>
     ensures { IfOk result (λ keys. keys ≡ map (λ b. b.key) batches.now) }
 {
     let mut keys = Vec::with_capacity(alloc, batches.len())?;
@@ -80,7 +80,7 @@ impl Arrival {
     }
 
     /// The batches of these messages are learned.
-    pub(crate) fn learned(alloc: Global, messages: Vec<Message>) -> Result<Arrival, AllocError>
+    pub(crate) fn learned(alloc: Global, messages: Vec<Message>) -> Result<Arrival, OutOfMemory>
         ensures outcome { IfOk result (λ arrival. arrival.outcome ≡ Learned (map (λ b. b.key) (batches_of messages.items))) }
         ensures learned { IfOk result (λ arrival. arrival.learned ≡ batches_of messages.items) }
     {

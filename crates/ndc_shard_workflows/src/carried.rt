@@ -4,8 +4,8 @@ ghost use Rattle.ndc_model_cells.specs.Places.{is_of};
 ghost use Rattle.ndc_shard_workflows.specs.Messages.{carrier_in, least_of, lesser};
 
 use crate::workflow::Workflow;
-use ndc_event::{Batch, BatchKey};
-use std::alloc::{AllocError, Global};
+use ndc_event::{Batch, BatchKey, OutOfMemory};
+use std::alloc::Global;
 use std::collections::BTreeMap;
 use std::marker::Model;
 
@@ -50,7 +50,7 @@ impl Carried {
         &mut self,
         workflow: &Workflow,
         batches: &[&Batch],
-    ) -> Result<(), AllocError>
+    ) -> Result<(), OutOfMemory>
         ensures { OnOk result ((one : Key) → noted_at one self.new ≡ least_of (is_under workflow.now.arrived one) (map (λ b. b.now) batches.now) (noted_at one self.old)) }
     {
         for batch in batches {
@@ -60,7 +60,7 @@ impl Carried {
     }
 
     /// Goes over one more batch.
-    fn note(&mut self, workflow: &Workflow, batch: &Batch) -> Result<(), AllocError>
+    fn note(&mut self, workflow: &Workflow, batch: &Batch) -> Result<(), OutOfMemory>
         ensures { OnOk result ((one : Key) → noted_at one self.new ≡ least_with (is_under workflow.now.arrived one) batch.now (noted_at one self.old)) }
     {
         let Some(carrier) = carrier_of(workflow, batch) else {

@@ -4,9 +4,9 @@ ghost use Rattle.ndc_model_cells.specs.Domains.{learned_of_domains};
 
 use crate::reading::{message_in, messages};
 use crate::workflows::Workflows;
-use ndc_event::{BatchKey, Name};
+use ndc_event::{BatchKey, Name, OutOfMemory};
 use ndc_model_cells::Message;
-use std::alloc::{AllocError, Global};
+use std::alloc::Global;
 
 /// The message of what is learned at a place of the cell; none where nothing is, or where the batch is carried by another
 /// one. In one pass over what is put off of the place's workflow, with two look-ups for each version on the path to the batch.
@@ -16,7 +16,7 @@ pub fn message_there(
     domain: &Name,
     workflow: &Name,
     key: BatchKey,
-) -> Result<Option<Message>, AllocError>
+) -> Result<Option<Message>, OutOfMemory>
     ensures { IfOk result (λ message. message ≡ message_at_place workflows.now (record { domain = domain.now; workflow = workflow.now; key = key })) }
 {
     match workflows.find(domain, workflow) {
@@ -31,7 +31,7 @@ pub fn messages_of(
     alloc: Global,
     workflows: &Workflows,
     domains: &[Name],
-) -> Result<Vec<Message>, AllocError>
+) -> Result<Vec<Message>, OutOfMemory>
     ensures { IfOk result (λ list. list.items ≡ learned_of_domains domains.now workflows.now) }
 {
     let found = workflows.of_domains(alloc, domains)?;

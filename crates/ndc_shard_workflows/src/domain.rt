@@ -16,10 +16,10 @@ ghost use Rattle.ndc_shard_workflows.specs.Writing.{MayBeWrittenTogether};
 use crate::arrival::Received;
 use crate::due::DueListing;
 use crate::workflow::Workflow;
-use ndc_event::{Batch, Name};
+use ndc_event::{Batch, Name, OutOfMemory};
 use ndc_model_cells::Message;
 use ndc_state::Steps;
-use std::alloc::{AllocError, Global};
+use std::alloc::Global;
 use std::collections::BTreeMap;
 use std::marker::Model;
 
@@ -50,7 +50,7 @@ fn add_where_learned(
     name: &Name,
     workflow: &Workflow,
     list: &mut Vec<(Name, Name)>,
-) -> Result<(), AllocError>
+) -> Result<(), OutOfMemory>
     ensures { OnOk result (list.new.items ≡ list.old.items ++ named_where_learned domain.now name.now workflow.now) }
 {
     if workflow.runs().is_empty() {
@@ -65,7 +65,7 @@ fn add_learned(
     domain: &Name,
     workflows: &BTreeMap<Name, Workflow>,
     list: &mut Vec<(Name, Name)>,
-) -> Result<(), AllocError>
+) -> Result<(), OutOfMemory>
     ensures { OnOk result (list.new.items ≡ list.old.items ++ learned_in_domain domain.now workflows.now.entries) }
 {
     for (name, workflow) in workflows.iter() {
@@ -80,7 +80,7 @@ fn receive<L>(
     alloc: Global,
     message: Message,
     steps: &mut Steps<L>,
-) -> Result<Received, AllocError>
+) -> Result<Received, OutOfMemory>
     requires message { IsMessage message }
     requires new { has_arrived message.batch.key workflow.old ≡ false → IsNewTo workflow.old.arrived message }
     requires sound { IsSound (learned (after_arrival message workflow.old).arrived) }
@@ -109,7 +109,7 @@ fn write_to<L>(
     second: Option<&Batch>,
     due: &mut DueListing,
     steps: &mut Steps<L>,
-) -> Result<(), AllocError>
+) -> Result<(), OutOfMemory>
     requires { MayBeWrittenTogether (carrying batch.now (option_copied second)) workflow.old }
     ensures ok { OnOk result (workflow.new ≡ with_written (carrying batch.now (option_copied second.entry)) workflow.old) }
     ensures err { OnErr result (workflow.new ≡ workflow.old) }
@@ -126,7 +126,7 @@ fn list_before(
     due: &mut DueListing,
     batch: &Batch,
     second: Option<&Batch>,
-) -> Result<(), AllocError>
+) -> Result<(), OutOfMemory>
     ensures ok { OnOk result (IsListedBefore batch.now (option_copied second.entry) (learned workflow.now.arrived) due.old due.new) }
     ensures err { OnErr result (due.new ≡ due.old) }
 {
@@ -185,7 +185,7 @@ impl Domain {
     }
 
     /// The workflows, in order of name.
-    pub(crate) fn list(&self, alloc: Global) -> Result<Vec<&Workflow>, AllocError>
+    pub(crate) fn list(&self, alloc: Global) -> Result<Vec<&Workflow>, OutOfMemory>
         ensures { IfOk result (λ list. map (λ w. w.now) list.items ≡ values_of self.now) }
     {
         self.workflows.values().collect(alloc)
@@ -196,14 +196,14 @@ impl Domain {
         &self,
         domain: &Name,
         list: &mut Vec<(Name, Name)>,
-    ) -> Result<(), AllocError>
+    ) -> Result<(), OutOfMemory>
         ensures { OnOk result (list.new.items ≡ list.old.items ++ learned_in_domain domain.now self.now) }
     {
         add_learned(domain, &self.workflows, list)
     }
 
     /// Whether reapplication is due in the workflow of this name, as [`Workflow::is_due`] finds it.
-    pub(crate) fn is_due(&mut self, alloc: Global, workflow: &Name) -> Result<bool, AllocError>
+    pub(crate) fn is_due(&mut self, alloc: Global, workflow: &Name) -> Result<bool, OutOfMemory>
         ensures due { IfOk result (λ due. due ≡ is_due (learned (workflow_or_empty (under workflow.now self.old)).arrived)) }
         ensures same { self.new ≡ self.old }
     {
@@ -219,7 +219,7 @@ impl Domain {
         alloc: Global,
         message: Message,
         steps: &mut Steps<L>,
-    ) -> Result<Received, AllocError>
+    ) -> Result<Received, OutOfMemory>
         requires own { AreOwn message.batch.domain self.old }
         requires message { IsMessage message }
         requires second { IfSome message.second (λ b. is_of message.batch.domain message.batch.workflow b ≡ true) }
@@ -253,7 +253,7 @@ impl Domain {
         second: Option<&Batch>,
         due: &mut DueListing,
         steps: &mut Steps<L>,
-    ) -> Result<(), AllocError>
+    ) -> Result<(), OutOfMemory>
         requires own { AreOwn batch.now.domain self.old }
         requires may { MayBeWrittenTogether (carrying batch.now (option_copied second)) (workflow_or_empty (under batch.now.workflow self.old)) }
         ensures ok { OnOk result (IsPut batch.now.workflow (with_written (carrying batch.now (option_copied second.entry)) (workflow_or_empty (under batch.now.workflow self.old))) self.old self.new) }

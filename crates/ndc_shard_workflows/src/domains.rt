@@ -7,10 +7,10 @@ use crate::arrival::Received;
 use crate::domain::Domain;
 use crate::due::DueListing;
 use crate::workflow::Workflow;
-use ndc_event::{Batch, Name};
+use ndc_event::{Batch, Name, OutOfMemory};
 use ndc_model_cells::Message;
 use ndc_state::Steps;
-use std::alloc::{AllocError, Global};
+use std::alloc::Global;
 use std::collections::BTreeMap;
 use std::marker::Model;
 
@@ -41,7 +41,7 @@ fn named_in<'d>(
     alloc: Global,
     domains: &'d BTreeMap<Name, Domain>,
     names: &[Name],
-) -> Result<Vec<&'d Workflow>, AllocError>
+) -> Result<Vec<&'d Workflow>, OutOfMemory>
     ensures { IfOk result (λ list. map (λ w. w.now) list.items ≡ workflows_named names.now domains.now.entries) }
 {
     let mut list = Vec::new(alloc);
@@ -58,7 +58,7 @@ fn named_in<'d>(
 fn learned_in(
     alloc: Global,
     domains: &BTreeMap<Name, Domain>,
-) -> Result<Vec<(Name, Name)>, AllocError>
+) -> Result<Vec<(Name, Name)>, OutOfMemory>
     ensures { IfOk result (λ list. list.items ≡ learned_in_all domains.now.entries) }
 {
     let mut list = Vec::new(alloc);
@@ -120,7 +120,7 @@ impl Domains {
         alloc: Global,
         domain: &Name,
         workflow: &Name,
-    ) -> Result<bool, AllocError>
+    ) -> Result<bool, OutOfMemory>
         ensures due { IfOk result (λ due. due ≡ is_due (learned_of domain.now workflow.now self.old)) }
         ensures same { self.new ≡ self.old }
     {
@@ -136,7 +136,7 @@ impl Domains {
         &self,
         alloc: Global,
         names: &[Name],
-    ) -> Result<Vec<&Workflow>, AllocError>
+    ) -> Result<Vec<&Workflow>, OutOfMemory>
         ensures { IfOk result (λ list. HoldLearned names.now (map (λ w. w.now) list.items) self.now) }
     {
         named_in(alloc, &self.domains, names)
@@ -144,7 +144,7 @@ impl Domains {
 
     /// The workflows of which something is learned, each as its domain and its name, in order. In time of the workflows of
     /// the cell.
-    pub(crate) fn learned(&self, alloc: Global) -> Result<Vec<(Name, Name)>, AllocError>
+    pub(crate) fn learned(&self, alloc: Global) -> Result<Vec<(Name, Name)>, OutOfMemory>
         ensures { IfOk result (λ list. list.items ≡ learned_workflows self.now) }
     {
         learned_in(alloc, &self.domains)
@@ -164,7 +164,7 @@ impl Domains {
         alloc: Global,
         message: Message,
         steps: &mut Steps<L>,
-    ) -> Result<Received, AllocError>
+    ) -> Result<Received, OutOfMemory>
         requires { MayArrive message self.old }
         ensures outcome { IfOk result (λ received. received.arrival.outcome ≡ arrival_of message self.old) }
         ensures learned { IfOk result (λ received. received.arrival.learned ≡ learned_by message self.old) }
@@ -191,7 +191,7 @@ impl Domains {
         second: Option<&Batch>,
         due: &mut DueListing,
         steps: &mut Steps<L>,
-    ) -> Result<(), AllocError>
+    ) -> Result<(), OutOfMemory>
         requires { MayBeWrittenTogether (carrying batch.now (option_copied second)) (workflow_of batch.now.domain batch.now.workflow self.old) }
         ensures ok { OnOk result (self.new ≡ with_batches (record { batch = batch.now; second = option_copied second.entry }) self.old) }
         ensures err { OnErr result (self.new ≡ self.old) }

@@ -2,8 +2,8 @@ ghost use Rattle.std.specs.Prelude.{◌≡◌, map, IfOk};
 ghost use Rattle.std.specs.Map.{keys_of};
 
 use crate::listing::Listing;
-use ndc_event::Name;
-use std::alloc::{AllocError, Global};
+use ndc_event::{Name, OutOfMemory};
+use std::alloc::Global;
 use std::collections::BTreeMap;
 use std::marker::Model;
 
@@ -36,7 +36,7 @@ impl Drop for DueListing {
 }
 
 /// The names of these domains, in order.
-fn names_of(alloc: Global, domains: &BTreeMap<Name, Listing>) -> Result<Vec<Name>, AllocError>
+fn names_of(alloc: Global, domains: &BTreeMap<Name, Listing>) -> Result<Vec<Name>, OutOfMemory>
     ensures { IfOk result (λ names. names.items ≡ keys_of domains.now.entries) }
 {
     let mut names = Vec::with_capacity(alloc, domains.len())?;
@@ -74,7 +74,7 @@ impl DueListing {
     }
 
     /// Puts a workflow to its place, where it is not there.
-    pub(crate) fn put(&mut self, domain: &Name, workflow: &Name) -> Result<(), AllocError>
+    pub(crate) fn put(&mut self, domain: &Name, workflow: &Name) -> Result<(), OutOfMemory>
         ensures ok { OnOk result ((d w : Text) → is_listed d w self.new ≡ (is_named d w (domain.now, workflow.now) || is_listed d w self.old)) }
         ensures err { OnErr result (self.new ≡ self.old) }
     {
@@ -89,7 +89,7 @@ impl DueListing {
     }
 
     /// Takes a workflow out, where it is there. A domain of which none is left goes with it.
-    pub(crate) fn take(&mut self, domain: &Name, workflow: &Name) -> Result<(), AllocError>
+    pub(crate) fn take(&mut self, domain: &Name, workflow: &Name) -> Result<(), OutOfMemory>
         ensures ok { OnOk result ((d w : Text) → is_listed d w self.new ≡ (not (is_named d w (domain.now, workflow.now)) && is_listed d w self.old)) }
         ensures err { OnErr result (self.new ≡ self.old) }
     {
@@ -105,7 +105,7 @@ impl DueListing {
     }
 
     /// The domains of the workflows, in order. In time of these domains, however many workflows they have.
-    pub(crate) fn domains(&self, alloc: Global) -> Result<Vec<Name>, AllocError>
+    pub(crate) fn domains(&self, alloc: Global) -> Result<Vec<Name>, OutOfMemory>
         ensures ordered { IfOk result (λ names. IsStrictlySortedBy names_cmp names.items) }
         ensures each { IfOk result (λ names. (d w : Text) → list_any (bytes_eq d) names.items ≡ false → is_listed d w self.now ≡ false) }
     {
@@ -117,7 +117,7 @@ impl DueListing {
         &self,
         alloc: Global,
         domain: &Name,
-    ) -> Result<Vec<(Name, Name)>, AllocError>
+    ) -> Result<Vec<(Name, Name)>, OutOfMemory>
         ensures { IfOk result (λ list. AreThoseOf domain.now list.items self.now) }
     {
         match self.domains.get(domain) {

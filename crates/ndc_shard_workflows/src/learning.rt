@@ -19,12 +19,12 @@ ghost use Rattle.ndc_shard_workflows.specs.Learnable.{CanBeLearned, CanBothBeLea
 ghost use Rattle.ndc_shard_workflows.specs.Workflow.{beside, workflow_with, learned_with, counted_for};
 
 use crate::arrival::Arrival;
-use ndc_event::Batch;
+use ndc_event::{Batch, OutOfMemory};
 use ndc_model_cells::Message;
 use ndc_shard_runs::Runs;
 use ndc_shard_waiting::Waiting;
 use ndc_state::Steps;
-use std::alloc::{AllocError, Global};
+use std::alloc::Global;
 
 /// A task is a number of 64 bits.
 fn is_small(task: u64)
@@ -49,7 +49,7 @@ pub(crate) fn learn<L>(
     batch: &Batch,
     second: Option<&Batch>,
     steps: &mut Steps<L>,
-) -> Result<(), AllocError>
+) -> Result<(), OutOfMemory>
     requires { CanBothBeLearned runs.old batch.now (option_copied second) }
     ensures ok { OnOk result (runs.new ≡ arrived_second (option_copied second.entry) (arrived batch.now runs.old)) }
     ensures err { OnErr result (runs.new ≡ runs.old) }
@@ -70,7 +70,7 @@ fn learn_all<L>(
     alloc: Global,
     messages: &[Message],
     steps: &mut Steps<L>,
-) -> Result<(), AllocError>
+) -> Result<(), OutOfMemory>
     requires { CanBeLearned runs.old messages.now }
     ensures { OnOk result (runs.new ≡ with_messages messages.now runs.old) }
 {
@@ -87,7 +87,7 @@ fn learn_freed<L>(
     alloc: Global,
     message: Message,
     steps: &mut Steps<L>,
-) -> Result<Arrival, AllocError>
+) -> Result<Arrival, OutOfMemory>
     requires new { IsNewTo (batches_of waiting.old) message }
     requires learnable { CanBeLearned runs.old (freed message waiting.old) }
     ensures runs { OnOk result (runs.new ≡ with_messages (freed message waiting.old) runs.old) }
@@ -101,7 +101,7 @@ fn learn_freed<L>(
 }
 
 /// Puts a message off.
-fn put_off(waiting: &mut Waiting, alloc: Global, message: Message) -> Result<Arrival, AllocError>
+fn put_off(waiting: &mut Waiting, alloc: Global, message: Message) -> Result<Arrival, OutOfMemory>
     requires waits { CanWait message }
     requires new { IsNewTo (batches_of waiting.old) message }
     ensures waiting { OnOk result (waiting.new ≡ put_off message waiting.old) }
@@ -131,7 +131,7 @@ pub(crate) fn take_in<L>(
     alloc: Global,
     message: Message,
     steps: &mut Steps<L>,
-) -> Result<Arrival, AllocError>
+) -> Result<Arrival, OutOfMemory>
     requires apart { ArePutOff runs.old waiting.old }
     requires small { AllByRecursion HasSmallIds (batches_of waiting.old) }
     requires message { IsMessage message }

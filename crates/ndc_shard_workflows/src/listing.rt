@@ -1,7 +1,7 @@
 ghost use Rattle.std.specs.Prelude.{◌≡◌, IfOk};
 
-use ndc_event::Name;
-use std::alloc::{AllocError, Global};
+use ndc_event::{Name, OutOfMemory};
+use std::alloc::Global;
 use std::collections::BTreeSet;
 use std::marker::Model;
 
@@ -21,7 +21,7 @@ impl Model for Listing {
 }
 
 /// The same names.
-fn copy_of(names: &(Name, Name)) -> Result<(Name, Name), AllocError>
+fn copy_of(names: &(Name, Name)) -> Result<(Name, Name), OutOfMemory>
     ensures { IfOk result (λ copy. copy ≡ names.now) }
 {
     Ok((names.0.try_copy()?, names.1.try_copy()?))
@@ -50,7 +50,7 @@ impl Listing {
     }
 
     /// Puts a workflow to its place, where it is not there.
-    pub(crate) fn put(&mut self, domain: &Name, workflow: &Name) -> Result<(), AllocError>
+    pub(crate) fn put(&mut self, domain: &Name, workflow: &Name) -> Result<(), OutOfMemory>
         ensures ok { OnOk result ((d w : Text) → is_listed d w self.new ≡ (is_named d w (domain.now, workflow.now) || is_listed d w self.old)) }
         ensures err { OnErr result (self.new ≡ self.old) }
     {
@@ -59,7 +59,7 @@ impl Listing {
     }
 
     /// Takes a workflow out, where it is there.
-    pub(crate) fn take(&mut self, domain: &Name, workflow: &Name) -> Result<(), AllocError>
+    pub(crate) fn take(&mut self, domain: &Name, workflow: &Name) -> Result<(), OutOfMemory>
         ensures ok { OnOk result ((d w : Text) → is_listed d w self.new ≡ (not (is_named d w (domain.now, workflow.now)) && is_listed d w self.old)) }
         ensures err { OnErr result (self.new ≡ self.old) }
     {
@@ -69,7 +69,7 @@ impl Listing {
     }
 
     /// The workflows, in order.
-    pub(crate) fn list(&self, alloc: Global) -> Result<Vec<(Name, Name)>, AllocError>
+    pub(crate) fn list(&self, alloc: Global) -> Result<Vec<(Name, Name)>, OutOfMemory>
         ensures list { IfOk result (λ list. list.items ≡ self.now) }
         ensures ordered { IsStrictlySortedBy names_order self.now }
     {

@@ -13,16 +13,16 @@ ghost use Rattle.ndc_shard_workflows.specs.Workflow.{IsWorkflow};
 use crate::carried::{Carried, least_carried};
 use crate::next::next_carried;
 use crate::workflow::Workflow;
-use ndc_event::{Batch, BatchKey, Rare};
+use ndc_event::{Batch, BatchKey, OutOfMemory, Rare};
 use ndc_history::VersionHistory;
 use ndc_model_cells::Message;
 use ndc_shard_runs::Runs;
-use std::alloc::{AllocError, Global};
+use std::alloc::Global;
 
 /// The messages of what is learned of the workflow, in key order, each with the version history of its batch's path and
 /// with the batch that it carries; a batch that another one carries has no message of its own. In one pass over what has
 /// arrived, with two look-ups for each version on the path to a batch.
-pub fn messages(alloc: Global, workflow: &Workflow) -> Result<Vec<Message>, AllocError>
+pub fn messages(alloc: Global, workflow: &Workflow) -> Result<Vec<Message>, OutOfMemory>
     ensures { IfOk result (λ list. list.items ≡ filter_map (own_message (learned workflow.now.arrived) workflow.now.arrived) (learned workflow.now.arrived)) }
 {
     let learned = workflow.runs().batches(alloc)?;
@@ -40,7 +40,7 @@ pub fn message_at(
     alloc: Global,
     workflow: &Workflow,
     key: BatchKey,
-) -> Result<Option<Message>, AllocError>
+) -> Result<Option<Message>, OutOfMemory>
     ensures { IfOk result (λ message. message ≡ own_message_of workflow.now.arrived (batch_at key (learned workflow.now.arrived))) }
 {
     let Some(batch) = workflow.runs().get(key) else {
@@ -60,7 +60,7 @@ pub(crate) fn message_in(
     alloc: Global,
     workflow: &Workflow,
     key: BatchKey,
-) -> Result<Option<Message>, AllocError>
+) -> Result<Option<Message>, OutOfMemory>
     requires { IsSound (learned workflow.now.arrived) }
     ensures { IfOk result (λ message. message ≡ own_message_of workflow.now.arrived (batch_at key (learned workflow.now.arrived))) }
 {
@@ -77,7 +77,7 @@ pub(crate) fn message_in(
 }
 
 /// What the batches that have arrived carry, by their keys.
-fn carried_in(alloc: Global, workflow: &Workflow, known: &[&Batch]) -> Result<Carried, AllocError>
+fn carried_in(alloc: Global, workflow: &Workflow, known: &[&Batch]) -> Result<Carried, OutOfMemory>
     requires workflow { IsWorkflow workflow.now }
     requires learned { map (λ b. b.now) known.now ≡ learned workflow.now.arrived }
     ensures { IfOk result (λ carried. (one : Key) → noted_at one carried ≡ first_key (is_under workflow.now.arrived one) workflow.now.arrived) }
@@ -96,7 +96,7 @@ fn push_message(
     carried: &Carried,
     list: &mut Vec<Message>,
     batch: &Batch,
-) -> Result<(), AllocError>
+) -> Result<(), OutOfMemory>
     requires workflow { IsWorkflow workflow.now }
     requires carried { (one : Key) → noted_at one carried.now ≡ first_key (is_under workflow.now.arrived one) workflow.now.arrived }
     requires learned { batch_at batch.now.key (learned workflow.now.arrived) ≡ Some batch.now }
@@ -111,7 +111,7 @@ fn push_message(
 }
 
 /// The least key of the learned batches that are carried by this one.
-fn first_carried(alloc: Global, runs: &Runs, batch: &Batch) -> Result<Option<BatchKey>, AllocError>
+fn first_carried(alloc: Global, runs: &Runs, batch: &Batch) -> Result<Option<BatchKey>, OutOfMemory>
     ensures { IfOk result (λ key. key ≡ first_key (carries batch.now) runs.now) }
 {
     let known = runs.batches(alloc)?;
@@ -124,7 +124,7 @@ fn second_key(
     workflow: &Workflow,
     batch: &Batch,
     found: Option<BatchKey>,
-) -> Result<Option<BatchKey>, AllocError>
+) -> Result<Option<BatchKey>, OutOfMemory>
     requires workflow { IsWorkflow workflow.now }
     requires found { found ≡ first_key (carries batch.now) (learned workflow.now.arrived) }
     ensures { IfOk result (λ key. named key workflow.now.arrived ≡ find (carries batch.now) workflow.now.arrived) }
@@ -139,7 +139,7 @@ fn message_with(
     workflow: &Workflow,
     batch: &Batch,
     second: Option<BatchKey>,
-) -> Result<Message, AllocError>
+) -> Result<Message, OutOfMemory>
     requires learned { batch_at batch.now.key (learned workflow.now.arrived) ≡ Some batch.now }
     requires second { named second workflow.now.arrived ≡ find (carries batch.now) workflow.now.arrived }
     ensures { IfOk result (λ message. message ≡ message_of (learned workflow.now.arrived) workflow.now.arrived batch.now) }
@@ -154,7 +154,7 @@ fn message_with(
 }
 
 /// A copy of the batch of this key, where there is one.
-fn copy_of(workflow: &Workflow, key: Option<BatchKey>) -> Result<Option<Batch>, AllocError>
+fn copy_of(workflow: &Workflow, key: Option<BatchKey>) -> Result<Option<Batch>, OutOfMemory>
     ensures { IfOk result (λ copy. copy ≡ named key workflow.now.arrived) }
 {
     let Some(key) = key else {
@@ -171,7 +171,7 @@ fn history_to(
     alloc: Global,
     workflow: &Workflow,
     batch: &Batch,
-) -> Result<VersionHistory, AllocError>
+) -> Result<VersionHistory, OutOfMemory>
     requires { batch_at batch.now.key (learned workflow.now.arrived) ≡ Some batch.now }
     ensures { IfOk result (λ history. history ≡ versions_of (events_to batch.now.key (learned workflow.now.arrived))) }
 {

@@ -1,11 +1,11 @@
 use crate::arrival::Arrival;
 use crate::learning::{learn, take_in};
-use ndc_event::{Batch, BatchKey};
+use ndc_event::{Batch, BatchKey, OutOfMemory};
 use ndc_model_cells::Message;
 use ndc_shard_runs::Runs;
 use ndc_shard_waiting::{PutOff, Waiting};
 use ndc_state::Steps;
-use std::alloc::{AllocError, Global};
+use std::alloc::Global;
 use std::marker::Model;
 
 /// One workflow in one cell: what is learned of it, with its states, and what is put off until an ancestor arrives.
@@ -97,7 +97,7 @@ impl Workflow {
 
     /// Whether reapplication is due: there are strays, and the current run is open. Where it is open, the strays are known
     /// then. In time of all learned events where they were not known. For want of memory they stay unknown.
-    pub fn is_due(&mut self, alloc: Global) -> Result<bool, AllocError>
+    pub fn is_due(&mut self, alloc: Global) -> Result<bool, OutOfMemory>
         ensures due { IfOk result (λ due. due ≡ is_due (learned self.old.arrived)) }
         ensures same { self.new ≡ self.old }
     {
@@ -106,7 +106,7 @@ impl Workflow {
 
     /// Of each batch that is put off, those that are carried too, in key order, its key and the nearest ancestor that has
     /// not arrived. In time of the put-off batches times the logarithm of them.
-    pub fn all_missing(&self, alloc: Global) -> Result<Vec<PutOff>, AllocError>
+    pub fn all_missing(&self, alloc: Global) -> Result<Vec<PutOff>, OutOfMemory>
         ensures { IfOk result (λ list. map (λ one. (one.key, Some one.missing)) list.items ≡ all_missing self.now) }
     {
         self.waiting.all_missing(alloc)
@@ -125,7 +125,7 @@ impl Workflow {
         alloc: Global,
         message: Message,
         steps: &mut Steps<L>,
-    ) -> Result<Arrival, AllocError>
+    ) -> Result<Arrival, OutOfMemory>
         requires message { IsMessage message }
         requires new { has_arrived message.batch.key self.old ≡ false → IsNewTo self.old.arrived message }
         requires sound { IsSound (learned (after_arrival message self.old).arrived) }
@@ -160,7 +160,7 @@ impl Workflow {
         batch: &Batch,
         second: Option<&Batch>,
         steps: &mut Steps<L>,
-    ) -> Result<(), AllocError>
+    ) -> Result<(), OutOfMemory>
         requires together { GoTogether (carrying batch.now (option_copied second)) }
         requires new { IsNewTo self.old.arrived (carrying batch.now (option_copied second)) }
         requires reached { has_key (earlier batch.now) (learned self.old.arrived) ≡ true }

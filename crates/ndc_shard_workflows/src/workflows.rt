@@ -17,10 +17,10 @@ use crate::domains::Domains;
 use crate::due::DueListing;
 use crate::listing::Listing;
 use crate::workflow::Workflow;
-use ndc_event::{Batch, Name};
+use ndc_event::{Batch, Name, OutOfMemory};
 use ndc_model_cells::{Message, Place};
 use ndc_state::Steps;
-use std::alloc::{AllocError, Global};
+use std::alloc::Global;
 use std::marker::Model;
 
 /// All workflows of a cell, found by domain and then by workflow, which of them reapplication may be due in, and which of
@@ -110,7 +110,7 @@ impl Workflows {
         alloc: Global,
         message: Message,
         steps: &mut Steps<L>,
-    ) -> Result<Arrival, AllocError>
+    ) -> Result<Arrival, OutOfMemory>
         requires { MayArrive message self.old }
         ensures outcome { IfOk result (λ arrival. arrival.outcome ≡ arrival_of message self.old) }
         ensures learned { IfOk result (λ arrival. arrival.learned ≡ learned_by message self.old) }
@@ -143,7 +143,7 @@ impl Workflows {
         batch: &Batch,
         second: Option<&Batch>,
         steps: &mut Steps<L>,
-    ) -> Result<(), AllocError>
+    ) -> Result<(), OutOfMemory>
         requires { MayBeWrittenTogether (carrying batch.now (option_copied second)) (workflow_of batch.now.domain batch.now.workflow self.old) }
         ensures ok { OnOk result (self.new ≡ with_batches (record { batch = batch.now; second = option_copied second.entry }) self.old) }
         ensures err { OnErr result (self.new ≡ self.old) }
@@ -156,7 +156,7 @@ impl Workflows {
     /// The workflows of these domains, in order of domain and then of name. They hold, in order, all that is learned of
     /// these domains, and each has of its workflow all that has arrived. In time of the domains of the cell and the workflows
     /// of these.
-    pub fn of_domains(&self, alloc: Global, domains: &[Name]) -> Result<Vec<&Workflow>, AllocError>
+    pub fn of_domains(&self, alloc: Global, domains: &[Name]) -> Result<Vec<&Workflow>, OutOfMemory>
         ensures { IfOk result (λ list. HoldLearned domains.now (map (λ w. w.now) list.items) self.now) }
     {
         self.domains.of_domains(alloc, domains)
@@ -164,7 +164,7 @@ impl Workflows {
 
     /// The workflows of which something is learned, each as its domain and its name, in order. In time of the workflows of
     /// the cell.
-    pub fn learned(&self, alloc: Global) -> Result<Vec<(Name, Name)>, AllocError>
+    pub fn learned(&self, alloc: Global) -> Result<Vec<(Name, Name)>, OutOfMemory>
         ensures { IfOk result (λ list. list.items ≡ learned_workflows self.now) }
     {
         self.domains.learned(alloc)
@@ -172,7 +172,7 @@ impl Workflows {
 
     /// Of each workflow of which something is put off the place of the first batch that is, in order of place. In time of
     /// what is put off, however many other workflows there are.
-    pub fn behind(&self, alloc: Global) -> Result<Vec<Place>, AllocError>
+    pub fn behind(&self, alloc: Global) -> Result<Vec<Place>, OutOfMemory>
         ensures cell { IsCell self.now }
         ensures list { IfOk result (λ list. list.items ≡ map place_of (workflows_of (put_off_in self.now))) }
     {
@@ -184,7 +184,7 @@ impl Workflows {
 
     /// The domains that have workflows in which reapplication may be due, in order. In time of these domains, however many
     /// workflows they have.
-    pub fn due_domains(&self, alloc: Global) -> Result<Vec<Name>, AllocError>
+    pub fn due_domains(&self, alloc: Global) -> Result<Vec<Name>, OutOfMemory>
         ensures { IfOk result (λ domains. AreDueDomains domains.items self.now) }
     {
         self.due.domains(alloc)
@@ -193,7 +193,7 @@ impl Workflows {
     /// The workflows of a domain in which reapplication may be due, each as its domain and its name, in order. A workflow is
     /// among them from when something is learned of it that may leave strays until [`Workflows::is_due`] finds that nothing
     /// is due.
-    pub fn due_in(&self, alloc: Global, domain: &Name) -> Result<Vec<(Name, Name)>, AllocError>
+    pub fn due_in(&self, alloc: Global, domain: &Name) -> Result<Vec<(Name, Name)>, OutOfMemory>
         ensures { IfOk result (λ list. AreDueIn domain.now list.items self.now) }
     {
         self.due.of_domain(alloc, domain)
@@ -216,7 +216,7 @@ impl Workflows {
         alloc: Global,
         domain: &Name,
         workflow: &Name,
-    ) -> Result<bool, AllocError>
+    ) -> Result<bool, OutOfMemory>
         ensures due { IfOk result (λ due. due ≡ is_due (learned_of domain.now workflow.now self.old)) }
         ensures same { self.new ≡ self.old }
     {
@@ -237,7 +237,7 @@ fn arrive_in<L>(
     alloc: Global,
     message: Message,
     steps: &mut Steps<L>,
-) -> Result<Arrival, AllocError>
+) -> Result<Arrival, OutOfMemory>
     requires may { MayArrive message domains.old }
     requires hold { HoldDue due.old domains.old }
     requires behind { HoldBehind behind.old domains.old }
@@ -262,7 +262,7 @@ fn list_where_due(
     due: &mut DueListing,
     domain: &Name,
     workflow: &Name,
-) -> Result<(), AllocError>
+) -> Result<(), OutOfMemory>
     ensures { OnOk result (IsListedWhereDue domain.now workflow.now may_be_due due.old due.new) }
 {
     if !may_be_due {
@@ -277,7 +277,7 @@ fn list_where_behind(
     behind: &mut Listing,
     domain: &Name,
     workflow: &Name,
-) -> Result<(), AllocError>
+) -> Result<(), OutOfMemory>
     ensures { OnOk result (IsListedWhereBehind domain.now workflow.now is_behind behind.old behind.new) }
 {
     if is_behind {
@@ -294,7 +294,7 @@ fn first_places(
     domains: &Domains,
     alloc: Global,
     list: Vec<(Name, Name)>,
-) -> Result<Vec<Place>, AllocError>
+) -> Result<Vec<Place>, OutOfMemory>
     ensures { IfOk result (λ places. places.items ≡ filter_map (first_behind domains.now) list.items) }
 {
     let mut places = Vec::new(alloc);
@@ -312,7 +312,7 @@ fn first_place(
     alloc: Global,
     domain: &Name,
     workflow: &Name,
-) -> Result<Option<Place>, AllocError>
+) -> Result<Option<Place>, OutOfMemory>
     ensures { IfOk result (λ place. place ≡ first_behind domains.now (domain.now, workflow.now)) }
 {
     match domains.find(domain, workflow) {
@@ -322,7 +322,7 @@ fn first_place(
 }
 
 /// The same of one workflow.
-fn first_put_off(alloc: Global, workflow: &Workflow) -> Result<Option<Place>, AllocError>
+fn first_put_off(alloc: Global, workflow: &Workflow) -> Result<Option<Place>, OutOfMemory>
     requires { IsWorkflow workflow.now }
     ensures { IfOk result (λ place. place ≡ option_map place_of (first_batch (off_in workflow.now))) }
 {
@@ -331,7 +331,7 @@ fn first_put_off(alloc: Global, workflow: &Workflow) -> Result<Option<Place>, Al
 }
 
 /// The place of the first of these batches, where there is one.
-fn place_in(batches: &[&Batch]) -> Result<Option<Place>, AllocError>
+fn place_in(batches: &[&Batch]) -> Result<Option<Place>, OutOfMemory>
     ensures { IfOk result (λ place. place ≡ option_map place_of (first_batch (map (λ b. b.now) batches.now))) }
 {
     match batches {

@@ -7,8 +7,8 @@ use crate::removed::{
     copy_remaining, forget, is_gone, keep_remaining, remaining_at, remaining_len,
 };
 use indexmap::{IndexMap, IndexSet};
-use ndc_event::Name;
-use std::alloc::{AllocError, Global};
+use ndc_event::{Name, OutOfMemory};
+use std::alloc::Global;
 use std::marker::Model;
 
 /// What is pending by name, in the order of scheduling, with what takes it back to how it was at the last
@@ -67,7 +67,7 @@ fn keep(
     entries: &IndexMap<Name, Pending>,
     count: usize,
     started: &[usize],
-) -> Result<(), AllocError>
+) -> Result<(), OutOfMemory>
     ensures ok { OnOk result (IsKeptAs kept.new (marked_of kept.old count started.now entries.now.entries)) }
     ensures err { OnErr result (kept.new ≡ kept.old) }
 {
@@ -90,7 +90,7 @@ fn make_way(
     count: usize,
     started: &[usize],
     name: &Name,
-) -> Result<(), AllocError>
+) -> Result<(), OutOfMemory>
     requires { IsCountWithin kept.old count entries.old.entries }
     ensures current { remaining removed.new.keys entries.new.entries ≡ remaining removed.old.keys entries.old.entries }
     ensures marked { marked_of kept.new count started.now entries.new.entries ≡ marked_of kept.old count started.now entries.old.entries }
@@ -137,7 +137,7 @@ impl Held {
     }
 
     /// Puts the name last, scheduled by this event.
-    pub(crate) fn schedule(&mut self, name: Name, id: u64) -> Result<(), AllocError>
+    pub(crate) fn schedule(&mut self, name: Name, id: u64) -> Result<(), OutOfMemory>
         requires { pending_of name self.old.current ≡ None }
         ensures current { OnOk result (self.new.current ≡ with_scheduled name id self.old.current) }
         ensures marked { self.new.marked ≡ self.old.marked }
@@ -162,7 +162,7 @@ impl Held {
     }
 
     /// Notes that the event starts the name.
-    pub(crate) fn start(&mut self, name: &Name, id: u64) -> Result<(), AllocError>
+    pub(crate) fn start(&mut self, name: &Name, id: u64) -> Result<(), OutOfMemory>
         requires { IsTrue (is_waiting (pending_of name.now self.old.current)) }
         ensures current { OnOk result (self.new.current ≡ with_started name.now id self.old.current) }
         ensures marked { self.new.marked ≡ self.old.marked }
@@ -178,7 +178,7 @@ impl Held {
 
     /// Takes the name out. Its entry stays until the next mark.
     #[tactic(auto, using(crate::proofs::RemovedLemmas::remaining_taken))]
-    pub(crate) fn remove(&mut self, name: &Name) -> Result<(), AllocError>
+    pub(crate) fn remove(&mut self, name: &Name) -> Result<(), OutOfMemory>
         ensures current { OnOk result (self.new.current ≡ without name.now self.old.current) }
         ensures marked { self.new.marked ≡ self.old.marked }
         ensures err { OnErr result (self.new ≡ self.old) }
@@ -231,7 +231,7 @@ impl Held {
 
     /// The same names, pending as they are now.
     #[tactic(auto, using(crate::proofs::RemovedLemmas::remaining_nothing))]
-    pub(crate) fn try_copy(&self) -> Result<Held, AllocError>
+    pub(crate) fn try_copy(&self) -> Result<Held, OutOfMemory>
         ensures { IfOk result (λ copy. copy.current ≡ self.now.current) }
     {
         let entries = copy_remaining(&self.entries, &self.removed)?;

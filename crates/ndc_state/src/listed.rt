@@ -4,8 +4,8 @@ ghost use Rattle.ndc_state.specs.OriginList.{origin_before, origins_now, AreFoun
 ghost use Rattle.ndc_state.specs.Origins.{is_among, with_origin};
 
 use indexmap::IndexSet;
-use ndc_event::Origin;
-use std::alloc::{AllocError, Global};
+use ndc_event::{Origin, OutOfMemory};
+use std::alloc::Global;
 use std::marker::Model;
 
 /// The origins of a run's signals, in order and each once, with what takes them back to how they were at
@@ -68,7 +68,7 @@ pub fn rises_with(origins: &[Origin], origin: Origin) -> bool
 }
 
 /// Puts the origin last into an index, unless it is there.
-fn put(index: &mut IndexSet<Origin>, origin: Origin) -> Result<(), AllocError>
+fn put(index: &mut IndexSet<Origin>, origin: Origin) -> Result<(), OutOfMemory>
     ensures ok { OnOk result (index.new.keys ≡ with_origin origin index.old.keys) }
     ensures err { OnErr result (index.new.keys ≡ index.old.keys) }
 {
@@ -77,7 +77,7 @@ fn put(index: &mut IndexSet<Origin>, origin: Origin) -> Result<(), AllocError>
 }
 
 /// An index of origins that rise.
-fn index_of(alloc: Global, origins: &[Origin]) -> Result<IndexSet<Origin>, AllocError>
+fn index_of(alloc: Global, origins: &[Origin]) -> Result<IndexSet<Origin>, OutOfMemory>
     requires { InOrder origin_before origins.now }
     ensures { IfOk result (λ index. index.keys ≡ origins.now) }
 {
@@ -94,7 +94,7 @@ fn insert(
     rising: &mut Vec<Origin>,
     indexed: &mut Option<IndexSet<Origin>>,
     origin: Origin,
-) -> Result<(), AllocError>
+) -> Result<(), OutOfMemory>
     requires { AreFound rising.old.items indexed.old }
     ensures found { AreFound rising.new.items indexed.new }
     ensures ok { OnOk result (origins_now rising.new.items indexed.new
@@ -164,7 +164,7 @@ impl Listed {
     }
 
     /// Puts the origin last, unless it is listed.
-    pub(crate) fn insert(&mut self, origin: Origin) -> Result<(), AllocError>
+    pub(crate) fn insert(&mut self, origin: Origin) -> Result<(), OutOfMemory>
         ensures current { OnOk result (self.new.current ≡ with_origin origin self.old.current) }
         ensures marked { self.new.marked ≡ self.old.marked }
         ensures err { OnErr result (self.new ≡ self.old) }
@@ -192,7 +192,7 @@ impl Listed {
     }
 
     /// The same origins as they are now.
-    pub(crate) fn try_copy(&self) -> Result<Listed, AllocError>
+    pub(crate) fn try_copy(&self) -> Result<Listed, OutOfMemory>
         ensures { IfOk result (λ copy. copy.current ≡ self.now.current) }
     {
         let rising = self.rising.clone()?;

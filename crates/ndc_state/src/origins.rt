@@ -2,8 +2,8 @@ ghost use Rattle.std.specs.Prelude.{◌≡◌};
 ghost use Rattle.ndc_state.specs.Origins.{origin_of};
 
 use crate::listed::Listed;
-use ndc_event::{Event, EventKind, Origin, Rare, RunId};
-use std::alloc::{AllocError, Global};
+use ndc_event::{Event, EventKind, Origin, OutOfMemory, Rare, RunId};
+use std::alloc::Global;
 use std::marker::Model;
 
 /// The origins of a run's signals, in order and each once, with what takes them back to how they were at
@@ -84,7 +84,7 @@ impl Origins {
     }
 
     /// Puts the origin last, unless it is listed.
-    pub(crate) fn insert(&mut self, origin: Origin) -> Result<(), AllocError>
+    pub(crate) fn insert(&mut self, origin: Origin) -> Result<(), OutOfMemory>
         ensures current { OnOk result (self.new.current ≡ with_origin origin self.old.current) }
         ensures marked { self.new.marked ≡ self.old.marked }
         ensures err { OnErr result (self.new ≡ self.old) }
@@ -119,7 +119,7 @@ impl Origins {
     }
 
     /// The same origins as they are now.
-    pub(crate) fn try_copy(&self) -> Result<Origins, AllocError>
+    pub(crate) fn try_copy(&self) -> Result<Origins, OutOfMemory>
         ensures { IfOk result (λ copy. copy.current ≡ self.now.current) }
     {
         let mut copy = Origins::new(self.alloc);
@@ -130,7 +130,7 @@ impl Origins {
     }
 
     /// Lists the origin of the event, where it is a signal.
-    fn collect_one(&mut self, run: RunId, event: &Event) -> Result<(), AllocError>
+    fn collect_one(&mut self, run: RunId, event: &Event) -> Result<(), OutOfMemory>
         ensures current { OnOk result (self.new.current ≡ collected_by run event.now.id event.now.version event.now.kind self.old.current) }
         ensures marked { self.new.marked ≡ self.old.marked }
     {
@@ -144,7 +144,7 @@ impl Origins {
     }
 
     /// Lists the origins of the signals among the events, or goes back to where it was.
-    pub(crate) fn collect(&mut self, run: RunId, events: &[Event]) -> Result<(), AllocError>
+    pub(crate) fn collect(&mut self, run: RunId, events: &[Event]) -> Result<(), OutOfMemory>
         ensures ok { OnOk result (self.new.current ≡ collected run self.old.current events.now) }
         ensures err { OnErr result (self.new.current ≡ self.old.current) }
     {

@@ -1,6 +1,6 @@
 use crate::held::Held;
-use ndc_event::Name;
-use std::alloc::{AllocError, Global};
+use ndc_event::{Name, OutOfMemory};
+use std::alloc::Global;
 use std::fmt;
 use std::marker::Model;
 
@@ -74,7 +74,7 @@ impl Pendings {
     }
 
     /// Puts the name last, scheduled by this event.
-    pub(crate) fn schedule(&mut self, name: Name, id: u64) -> Result<(), AllocError>
+    pub(crate) fn schedule(&mut self, name: Name, id: u64) -> Result<(), OutOfMemory>
         requires { pending_of name self.old.current ≡ None }
         ensures current { OnOk result (self.new.current ≡ with_scheduled name id self.old.current) }
         ensures marked { self.new.marked ≡ self.old.marked }
@@ -90,7 +90,7 @@ impl Pendings {
     }
 
     /// Notes that the event starts the name.
-    pub(crate) fn start(&mut self, name: &Name, id: u64) -> Result<(), AllocError>
+    pub(crate) fn start(&mut self, name: &Name, id: u64) -> Result<(), OutOfMemory>
         requires { IsTrue (is_waiting (pending_of name.now self.old.current)) }
         ensures current { OnOk result (self.new.current ≡ with_started name.now id self.old.current) }
         ensures marked { self.new.marked ≡ self.old.marked }
@@ -103,7 +103,7 @@ impl Pendings {
     }
 
     /// Takes the name out.
-    pub(crate) fn remove(&mut self, name: &Name) -> Result<(), AllocError>
+    pub(crate) fn remove(&mut self, name: &Name) -> Result<(), OutOfMemory>
         ensures current { OnOk result (self.new.current ≡ without name.now self.old.current) }
         ensures marked { self.new.marked ≡ self.old.marked }
         ensures err { OnErr result (self.new ≡ self.old) }
@@ -159,7 +159,7 @@ impl Pendings {
     }
 
     /// The same names, pending as they are now.
-    pub(crate) fn try_copy(&self) -> Result<Pendings, AllocError>
+    pub(crate) fn try_copy(&self) -> Result<Pendings, OutOfMemory>
         ensures { IfOk result (λ copy. copy.current ≡ self.now.current) }
     {
         let mut copy = Pendings::new(self.alloc);

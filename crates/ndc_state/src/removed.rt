@@ -6,8 +6,7 @@ ghost use Rattle.ndc_state.specs.Pendings.{is_gone, remaining, values_from};
 
 use crate::pendings::Pending;
 use indexmap::{IndexMap, IndexSet};
-use ndc_event::Name;
-use std::alloc::AllocError;
+use ndc_event::{Name, OutOfMemory};
 
 /// Whether the name is one of these.
 pub(crate) fn is_gone(removed: &IndexSet<Name>, name: &Name) -> bool
@@ -49,7 +48,7 @@ pub(crate) fn keep_remaining(entries: &mut IndexMap<Name, Pending>, removed: &In
 pub(crate) fn copy_remaining(
     entries: &IndexMap<Name, Pending>,
     removed: &IndexSet<Name>,
-) -> Result<IndexMap<Name, Pending>, AllocError>
+) -> Result<IndexMap<Name, Pending>, OutOfMemory>
     ensures { IfOk result (λ copy. copy.entries ≡ remaining removed.now.keys entries.now.entries) }
 {
     let mut copy = entries.clone()?;

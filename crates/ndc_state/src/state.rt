@@ -3,8 +3,8 @@ use crate::rule::{CloseKind, StateError};
 use crate::steps::Steps;
 use crate::text::state_text;
 use crate::tracked::Tracked;
-use ndc_event::{Event, Name, Origin, RunId};
-use std::alloc::{AllocError, Global};
+use ndc_event::{Event, Name, Origin, OutOfMemory, RunId};
+use std::alloc::Global;
 use std::marker::Model;
 
 /// The mutable state of a run: what the events applied to it amount to. It is seen as a record of numbers
@@ -198,7 +198,7 @@ impl State {
     }
 
     /// The same state.
-    pub fn try_copy(&self) -> Result<State, AllocError>
+    pub fn try_copy(&self) -> Result<State, OutOfMemory>
         ensures { IfOk result (λ copy. copy ≡ self.now) }
     {
         Ok(State {
@@ -208,7 +208,7 @@ impl State {
 
     /// The same state but for its origins: it has none. What is pending is all that such a copy's size grows
     /// with.
-    pub fn try_copy_without_origins(&self) -> Result<State, AllocError>
+    pub fn try_copy_without_origins(&self) -> Result<State, OutOfMemory>
         ensures { IfOk result (λ copy. copy ≡ record self.now { origins = [] }) }
     {
         self.tracked.try_copy_without_origins()
@@ -216,7 +216,7 @@ impl State {
 
     /// Lists the origins of the signals among the events behind those that are listed; one that is listed
     /// already stays where it is. Nothing else of the state changes. For want of memory it is unchanged.
-    pub fn collect_origins(&mut self, events: &[Event]) -> Result<(), AllocError>
+    pub fn collect_origins(&mut self, events: &[Event]) -> Result<(), OutOfMemory>
         ensures ok { OnOk result (self.new ≡ record self.old { origins = collected self.old.run self.old.origins events.now }) }
         ensures err { OnErr result (self.new ≡ self.old) }
     {
@@ -225,7 +225,7 @@ impl State {
 
     /// The state in one line: the next id, the decision, what is pending in the order of scheduling, the number
     /// of signals, and whether its cancel was requested.
-    pub fn text(&self) -> Result<Vec<u8>, AllocError>
+    pub fn text(&self) -> Result<Vec<u8>, OutOfMemory>
         ensures { IfOk result (λ text. text.items ≡ state_text self.now) }
     {
         state_text(self.tracked.allocator(), &self.tracked)
@@ -243,7 +243,7 @@ impl Tracked {
     }
 
     /// The state as it is now but for its origins, as [`State::try_copy_without_origins`] gives it.
-    pub fn try_copy_without_origins(&self) -> Result<State, AllocError>
+    pub fn try_copy_without_origins(&self) -> Result<State, OutOfMemory>
         ensures { IfOk result (λ copy. copy ≡ record self.now.current { origins = [] }) }
     {
         Ok(State {

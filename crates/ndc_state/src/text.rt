@@ -5,10 +5,11 @@ ghost use Rattle.ndc_state.specs.Text.{decision_text, list_text, state_text, yes
 
 use crate::pendings::{Pending, Pendings};
 use crate::tracked::Tracked;
-use std::alloc::{AllocError, Global};
+use ndc_event::OutOfMemory;
+use std::alloc::Global;
 
 /// A state in one line.
-pub(crate) fn state_text(alloc: Global, state: &Tracked) -> Result<Vec<u8>, AllocError>
+pub(crate) fn state_text(alloc: Global, state: &Tracked) -> Result<Vec<u8>, OutOfMemory>
     ensures { IfOk result (λ text. text.items ≡ state_text state.now.current) }
 {
     let outline = state.outline;
@@ -26,7 +27,7 @@ pub(crate) fn state_text(alloc: Global, state: &Tracked) -> Result<Vec<u8>, Allo
 }
 
 /// The pending decision, or a dash.
-fn decision_text(alloc: Global, decision: Option<Pending>) -> Result<String, AllocError>
+fn decision_text(alloc: Global, decision: Option<Pending>) -> Result<String, OutOfMemory>
     ensures { IfOk result (λ text. string_bytes text ≡ decision_text decision) }
 {
     match decision {
@@ -36,7 +37,7 @@ fn decision_text(alloc: Global, decision: Option<Pending>) -> Result<String, All
 }
 
 /// What is pending in the order of scheduling, with commas, or a dash.
-fn list_text(alloc: Global, pendings: &Pendings) -> Result<String, AllocError>
+fn list_text(alloc: Global, pendings: &Pendings) -> Result<String, OutOfMemory>
     ensures { IfOk result (λ text. string_bytes text ≡ list_text (values_of pendings.now.current)) }
 {
     let Some(first) = pendings.at(0) else {

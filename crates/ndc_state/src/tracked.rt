@@ -6,8 +6,8 @@ use crate::origins::{Origins, origin_of};
 use crate::pendings::{Pending, Pendings};
 use crate::rule::{CloseKind, Rule, StateError};
 use crate::steps::Steps;
-use ndc_event::{Event, EventKind, RunId};
-use std::alloc::{AllocError, Global};
+use ndc_event::{Event, EventKind, OutOfMemory, RunId};
+use std::alloc::Global;
 use std::marker::Model;
 
 /// What of a state is copied at once.
@@ -259,7 +259,7 @@ impl Tracked {
 
     /// The effect of an event that no rule forbids, but for the next id and the version.
     #[tactic(auto, unfolding(crate::specs::Table::row))]
-    fn change(&mut self, event: &Event) -> Result<(), AllocError>
+    fn change(&mut self, event: &Event) -> Result<(), OutOfMemory>
         requires { (row_at self.old.current event.now).own ≡ None }
         ensures current { OnOk result (self.new.current ≡ (row_at self.old.current event.now).effect) }
         ensures marked { self.new.marked ≡ self.old.marked }
@@ -437,7 +437,7 @@ impl Tracked {
     }
 
     /// Lists the origins of the signals among the events behind those listed, or goes back to where it was.
-    pub(crate) fn collect(&mut self, events: &[Event]) -> Result<(), AllocError>
+    pub(crate) fn collect(&mut self, events: &[Event]) -> Result<(), OutOfMemory>
         ensures ok { OnOk result (self.new.current ≡ record self.old.current { origins = collected self.old.current.run self.old.current.origins events.now }) }
         ensures err { OnErr result (self.new.current ≡ self.old.current) }
     {
@@ -445,7 +445,7 @@ impl Tracked {
     }
 
     /// The same state, with these origins.
-    fn with_origins(&self, origins: Origins) -> Result<Tracked, AllocError>
+    fn with_origins(&self, origins: Origins) -> Result<Tracked, OutOfMemory>
         ensures { IfOk result (λ copy. copy.current ≡ record self.now.current { origins = origins.current }) }
     {
         Ok(Tracked {
@@ -459,14 +459,14 @@ impl Tracked {
     }
 
     /// The same state as it is now.
-    pub(crate) fn try_copy(&self) -> Result<Tracked, AllocError>
+    pub(crate) fn try_copy(&self) -> Result<Tracked, OutOfMemory>
         ensures { IfOk result (λ copy. copy.current ≡ self.now.current) }
     {
         self.with_origins(self.origins.try_copy()?)
     }
 
     /// The same state without its origins.
-    pub(crate) fn without_origins(&self) -> Result<Tracked, AllocError>
+    pub(crate) fn without_origins(&self) -> Result<Tracked, OutOfMemory>
         ensures { IfOk result (λ copy. copy.current ≡ record self.now.current { origins = [] }) }
     {
         self.with_origins(Origins::new(self.allocator()))

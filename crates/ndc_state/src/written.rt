@@ -2,7 +2,7 @@ ghost use Rattle.std.specs.Prelude.{◌≡◌, IfOk, codes};
 
 use crate::state::State;
 use crate::tracked::is_started;
-use ndc_event::{EventKind, Name, NameError};
+use ndc_event::{EventKind, Name, NameError, OutOfMemory};
 use std::alloc::{AllocError, Global};
 
 impl State {
@@ -25,7 +25,7 @@ impl State {
         alloc: Global,
         version: u64,
         kinds: &mut Vec<EventKind>,
-    ) -> Result<(), AllocError>
+    ) -> Result<(), OutOfMemory>
         ensures ok { OnOk result (kinds.new.items ≡ kinds.old.items ++ failover_close self.now version) }
     {
         if self.is_failover_close_due(version) {
@@ -38,7 +38,7 @@ impl State {
     }
 
     /// Appends the scheduling of a decision, where none is pending. For want of memory nothing is appended.
-    pub fn push_wake(&self, kinds: &mut Vec<EventKind>) -> Result<(), AllocError>
+    pub fn push_wake(&self, kinds: &mut Vec<EventKind>) -> Result<(), OutOfMemory>
         ensures ok { OnOk result (kinds.new.items ≡ kinds.old.items ++ wake self.now) }
     {
         if self.decision().is_none() {
@@ -49,7 +49,7 @@ impl State {
 }
 
 /// The cause of the decision that a failover fails.
-fn failover_close_cause(alloc: Global) -> Result<Name, AllocError>
+fn failover_close_cause(alloc: Global) -> Result<Name, OutOfMemory>
     ensures { IfOk result (λ name. name ≡ codes "failoverClose") }
 {
     match Name::new(alloc, b"failoverClose".as_slice()) {

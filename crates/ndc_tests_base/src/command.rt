@@ -1,10 +1,11 @@
 use crate::given::name;
 use ndc_command::Action;
-use std::alloc::{AllocError, Global};
+use ndc_event::OutOfMemory;
+use std::alloc::Global;
 use std::test::Fail;
 
 // Id and type of the copy of a child that is to be initiated.
-fn copied_child(alloc: Global) -> Result<String, AllocError> {
+fn copied_child(alloc: Global) -> Result<String, OutOfMemory> {
     let action = Action::Child {
         id: name(alloc, "c1")?,
         workflow_type: name(alloc, "billing")?,

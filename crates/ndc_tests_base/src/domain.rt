@@ -3,6 +3,7 @@ ghost use Rattle.ndc_domain.specs.Clusters.{count_of};
 
 use crate::given::name;
 use ndc_domain::{ClusterNo, Clusters, DomainTable, Members};
+use ndc_event::OutOfMemory;
 use std::alloc::{AllocError, Global};
 use std::test::Fail;
 
@@ -10,7 +11,7 @@ use std::test::Fail;
 const FIRST: ClusterNo = ClusterNo { number: 0 };
 
 // One cluster of this initial version, with increment 10.
-fn clusters(alloc: Global, initial: u64) -> Result<Clusters, AllocError> {
+fn clusters(alloc: Global, initial: u64) -> Result<Clusters, OutOfMemory> {
     let mut members = Vec::new(alloc);
     members.push((name(alloc, "A")?, initial))?;
     Clusters::build(10, members).map_err(|_| AllocError)
@@ -25,7 +26,7 @@ fn alone(clusters: &Clusters) -> Members
 }
 
 // The names of a table in which these domains were registered, in this order.
-fn names_behind(alloc: Global, domains: &[&str]) -> Result<String, AllocError> {
+fn names_behind(alloc: Global, domains: &[&str]) -> Result<String, OutOfMemory> {
     let clusters = clusters(alloc, 1)?;
     let mut table = DomainTable::new(alloc);
     for domain in domains {

@@ -1,7 +1,7 @@
 ghost use Rattle.std.specs.Prelude.{◌≡◌, ◌≤◌, ◌^◌, All, IfOk, None};
 ghost use Rattle.ndc_event.specs.Batch.{fault_of};
 
-use ndc_event::{Batch, BatchKey, Name};
+use ndc_event::{Batch, BatchKey, Name, OutOfMemory};
 use ndc_history::Item;
 use ndc_text::read_batch;
 use std::alloc::{AllocError, Global};
@@ -22,7 +22,7 @@ const OTHER: &str =
     "{\"domain\":\"alpha\",\"events\":[{\"eventId\":3,\"eventType\":\"WorkflowExecutionSignaled\",\"input\":\"y\",\"signalName\":\"pong\",\"version\":2}],\"parent\":{\"task\":1,\"version\":1},\"run\":\"00000000-0000-0001-0000-000000000001\",\"task\":2,\"version\":2,\"workflow\":\"w1\"}";
 
 /// The batch of a text, where its ids are small.
-pub(crate) fn batch(alloc: Global, text: &str) -> Result<Batch, AllocError>
+pub(crate) fn batch(alloc: Global, text: &str) -> Result<Batch, OutOfMemory>
     ensures faultless { IfOk result (λ batch. fault_of batch ≡ None) }
     ensures ids { IfOk result (λ batch. All (λ event. event.id ≤ 10 ^ 12) batch.events) }
 {
@@ -53,7 +53,7 @@ impl Drop for ForkedRun {
 }
 
 /// The batches of a run that forks, without a fault and with small ids.
-pub(crate) fn forked(alloc: Global) -> Result<ForkedRun, AllocError>
+pub(crate) fn forked(alloc: Global) -> Result<ForkedRun, OutOfMemory>
     ensures faultless { IfOk result (λ forked. (fault_of forked.first ≡ None) × (fault_of forked.second ≡ None) × (fault_of forked.other ≡ None)) }
     ensures ids { IfOk result (λ forked. All (λ event. event.id ≤ 10 ^ 12) forked.first.events × All (λ event. event.id ≤ 10 ^ 12) forked.second.events × All (λ event. event.id ≤ 10 ^ 12) forked.other.events) }
 {
@@ -65,7 +65,7 @@ pub(crate) fn forked(alloc: Global) -> Result<ForkedRun, AllocError>
 }
 
 /// A name.
-pub(crate) fn name(alloc: Global, text: &str) -> Result<Name, AllocError> {
+pub(crate) fn name(alloc: Global, text: &str) -> Result<Name, OutOfMemory> {
     Name::new(alloc, text.as_bytes()).map_err(|_| AllocError)
 }
 

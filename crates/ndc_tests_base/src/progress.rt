@@ -3,13 +3,13 @@ ghost use Rattle.std.specs.Bool.{OnTrue};
 ghost use Rattle.ndc_progress.specs.Reports.{held};
 
 use crate::given::name;
-use ndc_event::{Name, RunId};
+use ndc_event::{Name, OutOfMemory, RunId};
 use ndc_progress::{ActivityRef, Progress};
-use std::alloc::{AllocError, Global};
+use std::alloc::Global;
 use std::test::Fail;
 
 /// The activity that the fifth event of a run has scheduled.
-fn activity(alloc: Global) -> Result<ActivityRef, AllocError> {
+fn activity(alloc: Global) -> Result<ActivityRef, OutOfMemory> {
     Ok(ActivityRef {
         domain: name(alloc, "shop")?,
         workflow: name(alloc, "o1")?,
@@ -33,7 +33,7 @@ fn may_tell(progress: &Progress, activity: &ActivityRef, version: u64) -> bool
 }
 
 /// The beat of what is told, where it may be told.
-fn tell(alloc: Global, progress: &mut Progress, details: &str) -> Result<Option<u64>, AllocError> {
+fn tell(alloc: Global, progress: &mut Progress, details: &str) -> Result<Option<u64>, OutOfMemory> {
     let activity = activity(alloc)?;
     if !may_tell(progress, &activity, 1) {
         return Ok(None);
@@ -42,7 +42,7 @@ fn tell(alloc: Global, progress: &mut Progress, details: &str) -> Result<Option<
 }
 
 /// Version and beat of the held report, where there is one.
-fn held(alloc: Global, progress: &Progress) -> Result<Option<(u64, u64)>, AllocError> {
+fn held(alloc: Global, progress: &Progress) -> Result<Option<(u64, u64)>, OutOfMemory> {
     let activity = activity(alloc)?;
     match progress.find(&activity) {
         Some(report) => Ok(Some((report.version, report.beat))),

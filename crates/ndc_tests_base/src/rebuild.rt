@@ -1,10 +1,10 @@
 ghost use Rattle.std.specs.Prelude.{◌≡◌, ◌≤◌, ◌^◌, All, IfOk};
 
 use crate::given::{Test, name};
-use ndc_event::{Batch, BatchKey, Event, EventKind, Events, Name, Rare, RunId};
+use ndc_event::{Batch, BatchKey, Event, EventKind, Events, Name, OutOfMemory, Rare, RunId};
 use ndc_rebuild::{Checkpoints, rebuild};
 use ndc_state::{State, StateError, Steps};
-use std::alloc::{AllocError, Global};
+use std::alloc::Global;
 use std::test::Fail;
 
 const RUN: RunId = RunId {
@@ -12,7 +12,7 @@ const RUN: RunId = RunId {
 };
 
 // An event of version 1: the start with id 1, a signal with any other.
-fn event(alloc: Global, id: u16) -> Result<Event, AllocError>
+fn event(alloc: Global, id: u16) -> Result<Event, OutOfMemory>
     ensures { IfOk result (λ event. event.id ≡ id) }
 {
     let kind = if id == 1 {
@@ -34,7 +34,7 @@ fn event(alloc: Global, id: u16) -> Result<Event, AllocError>
 }
 
 // A batch of so many events.
-fn batch(alloc: Global, count: u16) -> Result<Batch, AllocError>
+fn batch(alloc: Global, count: u16) -> Result<Batch, OutOfMemory>
     ensures { IfOk result (λ batch. All (λ event. event.id ≤ 10 ^ 12) batch.events) }
 {
     let mut events = Vec::new(alloc);
@@ -56,7 +56,7 @@ fn batch(alloc: Global, count: u16) -> Result<Batch, AllocError>
 }
 
 // The next id, the signals and the steps of a batch of so many events restored where its state was handed to `keep`.
-fn restored_from_kept(alloc: Global, count: u16) -> Result<Option<(u64, u64, u64)>, AllocError> {
+fn restored_from_kept(alloc: Global, count: u16) -> Result<Option<(u64, u64, u64)>, OutOfMemory> {
     let batch = batch(alloc, count)?;
     let key = batch.key;
     let mut path = Vec::new(alloc);

@@ -1,9 +1,9 @@
 ghost use Rattle.std.specs.Prelude.{◌≤◌, ◌^◌, All};
 
 use crate::given::{Test, batch};
-use ndc_event::{Batch, Event};
+use ndc_event::{Batch, Event, OutOfMemory};
 use ndc_state::{State, StateError, Steps};
-use std::alloc::{AllocError, Global};
+use std::alloc::Global;
 use std::test::Fail;
 
 // A run with a signal, three activities, a timer and a child.
@@ -30,7 +30,7 @@ fn state_behind(alloc: Global, batch: &Batch) -> Result<State, StateError>
 }
 
 // Appends what a state shows.
-fn push_line(lines: &mut Vec<u8>, state: &State) -> Result<(), AllocError> {
+fn push_line(lines: &mut Vec<u8>, state: &State) -> Result<(), OutOfMemory> {
     lines.extend_from_slice(state.text()?.as_slice())?;
     lines.extend_from_slice(b"\n".as_slice())
 }
@@ -49,7 +49,7 @@ fn push_marked(lines: &mut Vec<u8>, state: &mut State, batch: &Batch) -> Result<
 }
 
 // Appends what a copy of a state shows whose origins were left out and collected again from a batch.
-fn push_refilled(lines: &mut Vec<u8>, state: &State, batch: &Batch) -> Result<(), AllocError> {
+fn push_refilled(lines: &mut Vec<u8>, state: &State, batch: &Batch) -> Result<(), OutOfMemory> {
     let mut copy = state.try_copy()?.try_copy_without_origins()?;
     copy.collect_origins(batch.events.as_slice())?;
     push_line(lines, &copy)

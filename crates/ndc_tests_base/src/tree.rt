@@ -1,8 +1,8 @@
 use crate::given::{self, item, key};
-use ndc_event::{BatchKey, RunId};
+use ndc_event::{BatchKey, OutOfMemory, RunId};
 use ndc_history::Item;
 use ndc_tree::{Inserted, Tree, TreeError};
-use std::alloc::{AllocError, Global};
+use std::alloc::Global;
 use std::test::Fail;
 
 // A run of three batches, of which the third forks off behind the first, and what became of that one.
@@ -16,7 +16,7 @@ fn forked(alloc: Global) -> Result<(Tree, Inserted), TreeError> {
 }
 
 // The items of the version history of a path, none where it is not there.
-fn items(tree: &Tree, alloc: Global, tip: BatchKey) -> Result<Vec<Item>, AllocError> {
+fn items(tree: &Tree, alloc: Global, tip: BatchKey) -> Result<Vec<Item>, OutOfMemory> {
     match tree.history_of(alloc, tip)? {
         None => Ok(Vec::new(alloc)),
         Some(history) => Vec::from_slice(alloc, history.items()),
@@ -24,7 +24,7 @@ fn items(tree: &Tree, alloc: Global, tip: BatchKey) -> Result<Vec<Item>, AllocEr
 }
 
 // The keys of a path, none where it is not there.
-fn path(tree: &Tree, alloc: Global, tip: BatchKey) -> Result<Vec<BatchKey>, AllocError> {
+fn path(tree: &Tree, alloc: Global, tip: BatchKey) -> Result<Vec<BatchKey>, OutOfMemory> {
     match tree.path(alloc, tip)? {
         None => Ok(Vec::new(alloc)),
         Some(path) => Ok(path),

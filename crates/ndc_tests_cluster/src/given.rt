@@ -1,12 +1,12 @@
 use ndc_cluster_rounds::{Cell, Desk, Home};
 use ndc_domain::Clusters;
-use ndc_event::{BatchKey, Name};
+use ndc_event::{BatchKey, Name, OutOfMemory};
 use ndc_model_cells::{Job, JobReply, Message};
 use std::alloc::{AllocError, Global};
 use std::test::Fail;
 
 /// A name.
-pub(crate) fn name(alloc: Global, text: &str) -> Result<Name, AllocError> {
+pub(crate) fn name(alloc: Global, text: &str) -> Result<Name, OutOfMemory> {
     Name::new(alloc, text.as_bytes()).map_err(|_| AllocError)
 }
 
@@ -25,13 +25,13 @@ impl Cell for ListCell {
 
     ghost may = { λ _ _ _ _. tt };
 
-    fn new(alloc: Global, _home: &Home) -> Result<ListCell, AllocError> {
+    fn new(alloc: Global, _home: &Home) -> Result<ListCell, OutOfMemory> {
         Ok(ListCell {
             written: Vec::new(alloc),
         })
     }
 
-    fn do_job(&mut self, _desk: &Desk, _job: &Job) -> Result<JobReply, AllocError> {
+    fn do_job(&mut self, _desk: &Desk, _job: &Job) -> Result<JobReply, OutOfMemory> {
         Err(AllocError)
     }
 
@@ -47,12 +47,12 @@ impl Cell for ListCell {
         self.written.len() as u64
     }
 
-    fn written_at(&self, place: u64) -> Result<Message, AllocError> {
+    fn written_at(&self, place: u64) -> Result<Message, OutOfMemory> {
         let message = &self.written[place as usize];
         message.try_copy()
     }
 
-    fn learned_of(&self, alloc: Global, _domains: &[Name]) -> Result<Vec<Message>, AllocError> {
+    fn learned_of(&self, alloc: Global, _domains: &[Name]) -> Result<Vec<Message>, OutOfMemory> {
         Ok(Vec::new(alloc))
     }
 }

@@ -8,14 +8,14 @@ use crate::given::ListCell;
 use ndc_cluster_reads::Reads;
 use ndc_cluster_rounds::Cell;
 use ndc_domain::{ClusterNo, Clusters};
-use ndc_event::{BatchKey, Name};
+use ndc_event::{BatchKey, Name, OutOfMemory};
 use ndc_model_cells::{Message, Place};
 use ndc_port::OpenGate;
 use ndc_resend::GapOf;
 use ndc_script_types::Header;
 use ndc_shard_runs::Runs;
 use ndc_world_replication::Replication;
-use std::alloc::{AllocError, Global};
+use std::alloc::Global;
 use std::test::Fail;
 
 impl Reads for ListCell {
@@ -27,11 +27,11 @@ impl Reads for ListCell {
         false
     }
 
-    fn behind(&self, alloc: Global) -> Result<Vec<Place>, AllocError> {
+    fn behind(&self, alloc: Global) -> Result<Vec<Place>, OutOfMemory> {
         Ok(Vec::new(alloc))
     }
 
-    fn gaps(&self, alloc: Global) -> Result<Vec<GapOf>, AllocError> {
+    fn gaps(&self, alloc: Global) -> Result<Vec<GapOf>, OutOfMemory> {
         Ok(Vec::new(alloc))
     }
 
@@ -40,11 +40,11 @@ impl Reads for ListCell {
         alloc: Global,
         _domain: &Name,
         _workflow: &Name,
-    ) -> Result<Vec<GapOf>, AllocError> {
+    ) -> Result<Vec<GapOf>, OutOfMemory> {
         Ok(Vec::new(alloc))
     }
 
-    fn serve(&self, alloc: Global, _asked: &GapOf) -> Result<Vec<Message>, AllocError> {
+    fn serve(&self, alloc: Global, _asked: &GapOf) -> Result<Vec<Message>, OutOfMemory> {
         Ok(Vec::new(alloc))
     }
 
@@ -54,7 +54,7 @@ impl Reads for ListCell {
         _domain: &Name,
         _workflow: &Name,
         _key: BatchKey,
-    ) -> Result<Option<Message>, AllocError> {
+    ) -> Result<Option<Message>, OutOfMemory> {
         Ok(None)
     }
 }

@@ -4,9 +4,10 @@ ghost use Rattle.std.specs.Prelude.{◌≡◌, ◌<◌, ◌≤◌, length, IfOk}
 use crate::given::{ListCell, two_clusters};
 use ndc_cluster_rounds::{Cell, Desk, round};
 use ndc_domain::{ClusterNo, DomainTable};
+use ndc_event::OutOfMemory;
 use ndc_model_cells::{Job, ShardJob};
 use ndc_port::{Gate, OpenGate, PairGate};
-use std::alloc::{AllocError, Global};
+use std::alloc::Global;
 use std::sync::atomic::{AtomicBool, Ordering};
 use std::test::Fail;
 use std::thread::Threads;
@@ -75,7 +76,7 @@ impl Gate for FalseGate {
 }
 
 /// Two cells without memory.
-fn two_cells(alloc: Global) -> Result<Vec<ListCell>, AllocError>
+fn two_cells(alloc: Global) -> Result<Vec<ListCell>, OutOfMemory>
     ensures { IfOk result (λ cells. length cells.items ≡ 2) }
 {
     let mut cells = Vec::new(alloc);
@@ -104,7 +105,7 @@ fn rounded<R: Threads + Sync, G: Gate>(
 }
 
 /// So many jobs for each of two shards.
-fn jobs_for_two(alloc: Global, count: u32) -> Result<Vec<ShardJob>, AllocError>
+fn jobs_for_two(alloc: Global, count: u32) -> Result<Vec<ShardJob>, OutOfMemory>
     requires { count ≤ 1000 }
     ensures { IfOk result (λ jobs. AllByRecursion (λ asked. asked.shard < 2) jobs.items) }
 {

@@ -6,9 +6,9 @@ ghost use Rattle.ndc_text.specs.Views.{branch_state_lines, run_state_lines, dump
 
 use crate::line::{push_branch_line, push_run_line, push_state_line};
 use crate::print::print_batch;
-use ndc_event::{Batch, Name};
+use ndc_event::{Batch, Name, OutOfMemory};
 use ndc_model_sets::{BranchView, RunView, View};
-use std::alloc::{AllocError, Global};
+use std::alloc::Global;
 
 /// Appends a first line: its word, the domain and the workflow.
 pub fn push_heading(
@@ -16,7 +16,7 @@ pub fn push_heading(
     word: &[u8],
     domain: &Name,
     workflow: &Name,
-) -> Result<(), AllocError>
+) -> Result<(), OutOfMemory>
     ensures { OnOk result (text.new.items
         ≡ text.old.items ++ (word.now ++ domain.now ++ codes " " ++ workflow.now ++ codes "\n")) }
 {
@@ -28,7 +28,7 @@ pub fn push_heading(
 }
 
 /// Appends the text of a batch as a line.
-fn push_batch(alloc: Global, text: &mut Vec<u8>, batch: &Batch) -> Result<(), AllocError>
+fn push_batch(alloc: Global, text: &mut Vec<u8>, batch: &Batch) -> Result<(), OutOfMemory>
     ensures { OnOk result (text.new.items ≡ text.old.items ++ (batch_text batch.now ++ codes "\n")) }
 {
     text.extend_from_slice(print_batch(alloc, batch)?.as_slice())?;
@@ -36,7 +36,7 @@ fn push_batch(alloc: Global, text: &mut Vec<u8>, batch: &Batch) -> Result<(), Al
 }
 
 /// Appends the texts of batches, one a line.
-fn push_batches(alloc: Global, text: &mut Vec<u8>, batches: &[Batch]) -> Result<(), AllocError>
+fn push_batches(alloc: Global, text: &mut Vec<u8>, batches: &[Batch]) -> Result<(), OutOfMemory>
     ensures { OnOk result (text.new.items
         ≡ text.old.items ++ flat_map (λ b. batch_text b ++ codes "\n") batches.now) }
 {
@@ -47,7 +47,7 @@ fn push_batches(alloc: Global, text: &mut Vec<u8>, batches: &[Batch]) -> Result<
 }
 
 /// Appends a branch with its state.
-fn push_branch(text: &mut Vec<u8>, branch: &BranchView) -> Result<(), AllocError>
+fn push_branch(text: &mut Vec<u8>, branch: &BranchView) -> Result<(), OutOfMemory>
     ensures { OnOk result (text.new.items ≡ text.old.items ++ branch_state_lines branch.now) }
 {
     push_branch_line(text, branch)?;
@@ -55,7 +55,7 @@ fn push_branch(text: &mut Vec<u8>, branch: &BranchView) -> Result<(), AllocError
 }
 
 /// Appends branches with their states.
-fn push_branches(text: &mut Vec<u8>, branches: &[BranchView]) -> Result<(), AllocError>
+fn push_branches(text: &mut Vec<u8>, branches: &[BranchView]) -> Result<(), OutOfMemory>
     ensures { OnOk result (text.new.items ≡ text.old.items ++ flat_map branch_state_lines branches.now) }
 {
     for branch in branches {
@@ -65,7 +65,7 @@ fn push_branches(text: &mut Vec<u8>, branches: &[BranchView]) -> Result<(), Allo
 }
 
 /// Appends a run with its branches and their states.
-fn push_run(alloc: Global, text: &mut Vec<u8>, run: &RunView) -> Result<(), AllocError>
+fn push_run(alloc: Global, text: &mut Vec<u8>, run: &RunView) -> Result<(), OutOfMemory>
     ensures { OnOk result (text.new.items ≡ text.old.items ++ run_state_lines run.now) }
 {
     push_run_line(alloc, text, run)?;
@@ -73,7 +73,7 @@ fn push_run(alloc: Global, text: &mut Vec<u8>, run: &RunView) -> Result<(), Allo
 }
 
 /// Appends runs with their branches and their states.
-pub fn push_runs(alloc: Global, text: &mut Vec<u8>, runs: &[RunView]) -> Result<(), AllocError>
+pub fn push_runs(alloc: Global, text: &mut Vec<u8>, runs: &[RunView]) -> Result<(), OutOfMemory>
     ensures { OnOk result (text.new.items ≡ text.old.items ++ flat_map run_state_lines runs.now) }
 {
     for run in runs {
@@ -89,7 +89,7 @@ pub fn dump_text(
     domain: &Name,
     workflow: &Name,
     view: &View,
-) -> Result<Vec<u8>, AllocError>
+) -> Result<Vec<u8>, OutOfMemory>
     ensures { IfOk result (λ text. text.items ≡ dump_text domain.now workflow.now view.now) }
 {
     let mut text = Vec::new(alloc);
@@ -108,7 +108,7 @@ pub fn bare_text(
     domain: &Name,
     workflow: &Name,
     batches: &[&Batch],
-) -> Result<Vec<u8>, AllocError>
+) -> Result<Vec<u8>, OutOfMemory>
     ensures { IfOk result (λ text. text.items ≡ bare_text domain.now workflow.now (map (λ b. b.now) batches.now)) }
 {
     let mut text = Vec::new(alloc);

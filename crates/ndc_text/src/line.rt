@@ -2,14 +2,14 @@ ghost use Rattle.std.specs.Prelude.{◌≡◌, ◌++◌, codes, decimal, map, On
 ghost use Rattle.ndc_state.specs.Text.{state_text};
 ghost use Rattle.ndc_text.specs.Views.{further, with_commas, key_text, item_text, close_text, closed_text, status_text, current_mark, run_line, branch_line};
 
-use ndc_event::{BatchKey, RunId};
+use ndc_event::{BatchKey, OutOfMemory, RunId};
 use ndc_history::Item;
 use ndc_model_sets::{BranchView, RunStatus, RunView};
 use ndc_state::{CloseKind, State};
-use std::alloc::{AllocError, Global};
+use std::alloc::Global;
 
 /// Appends a number.
-pub fn push_number(text: &mut Vec<u8>, number: u64) -> Result<(), AllocError>
+pub fn push_number(text: &mut Vec<u8>, number: u64) -> Result<(), OutOfMemory>
     ensures { OnOk result (text.new.items ≡ text.old.items ++ decimal number) }
 {
     let mut buffer = itoa::Buffer::new();
@@ -17,7 +17,7 @@ pub fn push_number(text: &mut Vec<u8>, number: u64) -> Result<(), AllocError>
 }
 
 /// Appends `VERSION.TASK`.
-pub fn push_key(text: &mut Vec<u8>, key: BatchKey) -> Result<(), AllocError>
+pub fn push_key(text: &mut Vec<u8>, key: BatchKey) -> Result<(), OutOfMemory>
     ensures { OnOk result (text.new.items ≡ text.old.items ++ key_text key) }
 {
     push_number(text, key.version)?;
@@ -26,7 +26,7 @@ pub fn push_key(text: &mut Vec<u8>, key: BatchKey) -> Result<(), AllocError>
 }
 
 /// Appends `ID@VERSION`.
-pub fn push_item(text: &mut Vec<u8>, item: Item) -> Result<(), AllocError>
+pub fn push_item(text: &mut Vec<u8>, item: Item) -> Result<(), OutOfMemory>
     ensures { OnOk result (text.new.items ≡ text.old.items ++ item_text item) }
 {
     push_number(text, item.id)?;
@@ -35,7 +35,7 @@ pub fn push_item(text: &mut Vec<u8>, item: Item) -> Result<(), AllocError>
 }
 
 /// Appends items, each behind a comma.
-fn push_further(text: &mut Vec<u8>, items: &[Item]) -> Result<(), AllocError>
+fn push_further(text: &mut Vec<u8>, items: &[Item]) -> Result<(), OutOfMemory>
     ensures { OnOk result (text.new.items ≡ text.old.items ++ further (map item_text items.now)) }
 {
     for item in items {
@@ -46,7 +46,7 @@ fn push_further(text: &mut Vec<u8>, items: &[Item]) -> Result<(), AllocError>
 }
 
 /// Appends items with commas between them.
-fn push_items(text: &mut Vec<u8>, items: &[Item]) -> Result<(), AllocError>
+fn push_items(text: &mut Vec<u8>, items: &[Item]) -> Result<(), OutOfMemory>
     ensures { OnOk result (text.new.items ≡ text.old.items ++ with_commas (map item_text items.now)) }
 {
     match items {
@@ -59,7 +59,7 @@ fn push_items(text: &mut Vec<u8>, items: &[Item]) -> Result<(), AllocError>
 }
 
 /// Appends ` current` where something is.
-pub fn push_mark(text: &mut Vec<u8>, is_current: bool) -> Result<(), AllocError>
+pub fn push_mark(text: &mut Vec<u8>, is_current: bool) -> Result<(), OutOfMemory>
     ensures { OnOk result (text.new.items ≡ text.old.items ++ current_mark is_current) }
 {
     if is_current {
@@ -103,7 +103,7 @@ pub fn status_word(status: RunStatus, close: Option<CloseKind>) -> &'static str
 }
 
 /// Appends the line of a run.
-pub fn push_run_line(alloc: Global, text: &mut Vec<u8>, run: &RunView) -> Result<(), AllocError>
+pub fn push_run_line(alloc: Global, text: &mut Vec<u8>, run: &RunView) -> Result<(), OutOfMemory>
     ensures { OnOk result (text.new.items ≡ text.old.items ++ run_line run.now) }
 {
     text.extend_from_slice(b"run ")?;
@@ -115,7 +115,7 @@ pub fn push_run_line(alloc: Global, text: &mut Vec<u8>, run: &RunView) -> Result
 }
 
 /// Appends the line of a branch.
-pub fn push_branch_line(text: &mut Vec<u8>, branch: &BranchView) -> Result<(), AllocError>
+pub fn push_branch_line(text: &mut Vec<u8>, branch: &BranchView) -> Result<(), OutOfMemory>
     ensures { OnOk result (text.new.items ≡ text.old.items ++ branch_line branch.now) }
 {
     text.extend_from_slice(b"branch ")?;
@@ -127,7 +127,7 @@ pub fn push_branch_line(text: &mut Vec<u8>, branch: &BranchView) -> Result<(), A
 }
 
 /// Appends the line of a state.
-pub fn push_state_line(text: &mut Vec<u8>, state: &State) -> Result<(), AllocError>
+pub fn push_state_line(text: &mut Vec<u8>, state: &State) -> Result<(), OutOfMemory>
     ensures { OnOk result (text.new.items ≡ text.old.items ++ codes "state " ++ state_text state.now ++ codes "\n") }
 {
     text.extend_from_slice(b"state ")?;

@@ -6,14 +6,14 @@ ghost use Rattle.serde_json.specs.Written.{has_float};
 ghost use Rattle.ndc_event.specs.Key.{run_text};
 ghost use Rattle.ndc_text.specs.Text.{num, key_data, origin_data, with_origin, with_attributes, event_data, parent_data, with_carrier, batch_data, batch_text};
 
-use ndc_event::{Batch, BatchKey, Event, EventKind, Name, Origin, Rare, RunId};
+use ndc_event::{Batch, BatchKey, Event, EventKind, Name, Origin, OutOfMemory, Rare, RunId};
 use serde_json::{Map, Value};
-use std::alloc::{AllocError, Global};
+use std::alloc::Global;
 
 type Members = Map<String, Value>;
 
 /// Puts a number under the key.
-fn put_number(members: &mut Members, alloc: Global, key: &str, n: u64) -> Result<(), AllocError>
+fn put_number(members: &mut Members, alloc: Global, key: &str, n: u64) -> Result<(), OutOfMemory>
     ensures { IfOk result (λ _. members_view members.new.entries
         ≡ with_member key.now (num n) (members_view members.old.entries)) }
 {
@@ -21,7 +21,7 @@ fn put_number(members: &mut Members, alloc: Global, key: &str, n: u64) -> Result
 }
 
 /// Puts a text under the key.
-fn put_text(members: &mut Members, alloc: Global, key: &str, text: &str) -> Result<(), AllocError>
+fn put_text(members: &mut Members, alloc: Global, key: &str, text: &str) -> Result<(), OutOfMemory>
     ensures { IfOk result (λ _. members_view members.new.entries
         ≡ with_member key.now (string text.now) (members_view members.old.entries)) }
 {
@@ -30,7 +30,7 @@ fn put_text(members: &mut Members, alloc: Global, key: &str, text: &str) -> Resu
 }
 
 /// Puts the text of a run's id under the key.
-fn put_run(members: &mut Members, alloc: Global, key: &str, run: RunId) -> Result<(), AllocError>
+fn put_run(members: &mut Members, alloc: Global, key: &str, run: RunId) -> Result<(), OutOfMemory>
     ensures { IfOk result (λ _. members_view members.new.entries
         ≡ with_member key.now (string (run_text run)) (members_view members.old.entries)) }
 {
@@ -39,7 +39,7 @@ fn put_run(members: &mut Members, alloc: Global, key: &str, run: RunId) -> Resul
 }
 
 /// A key of a batch as an object.
-fn key_value(alloc: Global, key: BatchKey) -> Result<Value, AllocError>
+fn key_value(alloc: Global, key: BatchKey) -> Result<Value, OutOfMemory>
     ensures { IfOk result (λ v. view v ≡ key_data key) }
 {
     let mut members = Map::new(alloc);
@@ -49,7 +49,7 @@ fn key_value(alloc: Global, key: BatchKey) -> Result<Value, AllocError>
 }
 
 /// An origin as an object.
-fn origin_value(alloc: Global, origin: Origin) -> Result<Value, AllocError>
+fn origin_value(alloc: Global, origin: Origin) -> Result<Value, OutOfMemory>
     ensures { IfOk result (λ v. view v ≡ origin_data origin) }
 {
     let mut members = Map::new(alloc);
@@ -60,7 +60,11 @@ fn origin_value(alloc: Global, origin: Origin) -> Result<Value, AllocError>
 }
 
 /// Puts the origin, where there is one.
-fn put_origin(members: &mut Members, alloc: Global, origin: &Rare<Origin>) -> Result<(), AllocError>
+fn put_origin(
+    members: &mut Members,
+    alloc: Global,
+    origin: &Rare<Origin>,
+) -> Result<(), OutOfMemory>
     ensures { IfOk result (λ _. members_view members.new.entries
         ≡ with_origin origin.now (members_view members.old.entries)) }
 {
@@ -74,7 +78,7 @@ fn put_origin(members: &mut Members, alloc: Global, origin: &Rare<Origin>) -> Re
 }
 
 /// Puts one attribute that is a name.
-fn put_name(members: &mut Members, alloc: Global, key: &str, name: &Name) -> Result<(), AllocError>
+fn put_name(members: &mut Members, alloc: Global, key: &str, name: &Name) -> Result<(), OutOfMemory>
     ensures { IfOk result (λ _. members_view members.new.entries
         ≡ with_member key.now (string name.now) (members_view members.old.entries)) }
 {
@@ -83,7 +87,7 @@ fn put_name(members: &mut Members, alloc: Global, key: &str, name: &Name) -> Res
 
 /// Puts the attributes of a kind.
 #[tactic(auto, unfolding(crate::specs::Text::with_attributes))]
-fn put_attributes(members: &mut Members, alloc: Global, kind: &EventKind) -> Result<(), AllocError>
+fn put_attributes(members: &mut Members, alloc: Global, kind: &EventKind) -> Result<(), OutOfMemory>
     ensures { IfOk result (λ _. members_view members.new.entries
         ≡ with_attributes kind.now (members_view members.old.entries)) }
 {
@@ -184,7 +188,7 @@ fn put_attributes(members: &mut Members, alloc: Global, kind: &EventKind) -> Res
 }
 
 /// An event as an object.
-fn event_value(alloc: Global, event: &Event) -> Result<Value, AllocError>
+fn event_value(alloc: Global, event: &Event) -> Result<Value, OutOfMemory>
     ensures { IfOk result (λ v. view v ≡ event_data event.now) }
 {
     let mut members = Map::new(alloc);
@@ -196,7 +200,7 @@ fn event_value(alloc: Global, event: &Event) -> Result<Value, AllocError>
 }
 
 /// The events as an array.
-fn events_value(alloc: Global, events: &[Event]) -> Result<Value, AllocError>
+fn events_value(alloc: Global, events: &[Event]) -> Result<Value, OutOfMemory>
     ensures { IfOk result (λ v. view v ≡ array (items_of (map event_data events.now))) }
 {
     let mut list = Vec::with_capacity(alloc, events.len())?;
@@ -207,7 +211,7 @@ fn events_value(alloc: Global, events: &[Event]) -> Result<Value, AllocError>
 }
 
 /// The parent's key as an object, or null.
-fn parent_value(alloc: Global, parent: Option<BatchKey>) -> Result<Value, AllocError>
+fn parent_value(alloc: Global, parent: Option<BatchKey>) -> Result<Value, OutOfMemory>
     ensures { IfOk result (λ v. view v ≡ parent_data parent) }
 {
     match parent {
@@ -221,7 +225,7 @@ fn put_carrier(
     members: &mut Members,
     alloc: Global,
     carrier: Option<BatchKey>,
-) -> Result<(), AllocError>
+) -> Result<(), OutOfMemory>
     ensures { IfOk result (λ _. members_view members.new.entries
         ≡ with_carrier carrier (members_view members.old.entries)) }
 {
@@ -235,7 +239,7 @@ fn put_carrier(
 }
 
 /// A batch as an object.
-fn batch_value(alloc: Global, batch: &Batch) -> Result<Value, AllocError>
+fn batch_value(alloc: Global, batch: &Batch) -> Result<Value, OutOfMemory>
     ensures { IfOk result (λ v. view v ≡ batch_data batch.now) }
 {
     let mut members = Map::new(alloc);
@@ -255,7 +259,7 @@ fn batch_value(alloc: Global, batch: &Batch) -> Result<Value, AllocError>
 /// The text of a batch: one JSON object without spaces and without a line end, the keys of each object
 /// ascending. The key `carrier` stands there exactly where the batch has a carrier.
 #[tactic(auto, unfolding(crate::specs::Text::batch_text), using(crate::proofs::Floats::batch_floats))]
-pub fn print_batch(alloc: Global, batch: &Batch) -> Result<Vec<u8>, AllocError>
+pub fn print_batch(alloc: Global, batch: &Batch) -> Result<Vec<u8>, OutOfMemory>
     ensures { IfOk result (λ bytes. bytes.items ≡ batch_text batch.now) }
 {
     batch_value(alloc, batch)?.to_vec(alloc)

@@ -3,16 +3,17 @@ ghost use Rattle.std.specs.Prelude.{◌≡◌, ◌≤◌, ◌++◌, IfOk, OnOk, 
 ghost use Rattle.ndc_script.specs.Generate.{generated_script};
 ghost use Rattle.ndc_tool_top.specs.Demo.{answer_of, demo_text, summary_line};
 
+use ndc_event::OutOfMemory;
 use ndc_port::Gate;
 use ndc_script::generate;
 use ndc_shard::Shard;
 use ndc_world::Summary;
 use ndc_world_report::last_world;
-use std::alloc::{AllocError, Global};
+use std::alloc::Global;
 use std::thread::Threads;
 
 /// Appends a word and a number behind it.
-fn push_count(text: &mut Vec<u8>, word: &[u8], number: u64) -> Result<(), AllocError>
+fn push_count(text: &mut Vec<u8>, word: &[u8], number: u64) -> Result<(), OutOfMemory>
     ensures { OnOk result (text.new.items ≡ text.old.items ++ word.now ++ decimal number) }
 {
     let mut buffer = itoa::Buffer::new();
@@ -28,7 +29,7 @@ fn answer_of(same: bool) -> &'static str
 }
 
 /// The line on what a world comes to.
-fn summary_line(alloc: Global, summary: &Summary) -> Result<Vec<u8>, AllocError>
+fn summary_line(alloc: Global, summary: &Summary) -> Result<Vec<u8>, OutOfMemory>
     ensures { IfOk result (λ text. text.items ≡ summary_line summary.now) }
 {
     let mut text = Vec::new(alloc);
@@ -49,7 +50,7 @@ pub fn demo_text<R: Threads + Sync, G: Gate>(
     alloc: Global,
     gate: &G,
     count: u64,
-) -> Result<Vec<u8>, AllocError>
+) -> Result<Vec<u8>, OutOfMemory>
     requires least { 1 ≤ count }
     requires most { count ≤ 99000 }
     ensures { IfOk result (λ text. text.items ≡ demo_text (generated_script count 0)) }

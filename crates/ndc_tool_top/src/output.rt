@@ -6,8 +6,8 @@ ghost use Rattle.ndc_dump.specs.Telling.{IsAmong, Tells};
 ghost use Rattle.ndc_tool_top.specs.Top.{fault_line, status_line, status_of};
 
 use crate::fault::Fault;
+use ndc_event::OutOfMemory;
 use ndc_port::{Sink, write_all};
-use std::alloc::AllocError;
 
 /// Tells of a fault, and answers the status.
 pub fn end<E: Sink>(fault: Fault, err: &mut E) -> u8
@@ -21,7 +21,7 @@ pub fn end<E: Sink>(fault: Fault, err: &mut E) -> u8
 /// Writes a text in one piece, tells of the fault that comes, and answers the status: 0 where it was written, 5 where
 /// writing failed, 8 where there is none, for want of memory.
 pub fn write_output<K: Sink, E: Sink>(
-    text: Result<Vec<u8>, AllocError>,
+    text: Result<Vec<u8>, OutOfMemory>,
     out: &mut K,
     err: &mut E,
 ) -> u8

@@ -14,8 +14,9 @@ ghost use Rattle.ndc_tool_top.specs.Top.{LeavesAfter, LeavesSource, TellsDumpErr
 use crate::fault::Fault;
 use crate::output::end;
 use ndc_dump::{Dump, MOST_BYTES, PrintError, dump_text, read_input, tree_text};
+use ndc_event::OutOfMemory;
 use ndc_port::{Sink, Source, write_all};
-use std::alloc::{AllocError, Global};
+use std::alloc::Global;
 
 /// How a dump is shown.
 #[derive(Clone, Copy, Debug, PartialEq, Eq)]
@@ -28,7 +29,7 @@ pub enum ShownAs {
 
 /// What is shown of a dump.
 #[tactic(auto, unfolding(crate::specs::Show::shown_text))]
-fn shown_text(alloc: Global, how: ShownAs, dump: &Dump) -> Result<Vec<u8>, AllocError>
+fn shown_text(alloc: Global, how: ShownAs, dump: &Dump) -> Result<Vec<u8>, OutOfMemory>
     requires shown { dump.now.view ≡ view_of dump.now.view.batches }
     requires sound { IsSound dump.now.view.batches }
     ensures { IfOk result (λ text. text.items ≡ shown_text how dump.now) }

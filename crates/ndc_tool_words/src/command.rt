@@ -3,7 +3,8 @@ ghost use Rattle.clap.specs.Words.{app_of, rule_of};
 ghost use Rattle.ndc_tool_words.specs.Command.{demo_app, make_app, option_rule, run_app, value_rule, whole_app};
 
 use clap::{Arg, ArgAction, Command};
-use std::alloc::{AllocError, Global};
+use ndc_event::OutOfMemory;
+use std::alloc::Global;
 
 /// An option that takes one value.
 fn option<'a>(alloc: Global, name: &'a str) -> Arg<'a>
@@ -22,7 +23,7 @@ fn value<'a>(alloc: Global, name: &'a str) -> Arg<'a>
 }
 
 /// `run`, with options in any order.
-fn run<'a>(alloc: Global) -> Result<Command<'a>, AllocError>
+fn run<'a>(alloc: Global) -> Result<Command<'a>, OutOfMemory>
     ensures { IfOk result (λ command. app_of command ≡ run_app) }
 {
     Command::new(alloc, "run")
@@ -32,7 +33,7 @@ fn run<'a>(alloc: Global) -> Result<Command<'a>, AllocError>
 }
 
 /// `make N SEED`.
-fn make<'a>(alloc: Global) -> Result<Command<'a>, AllocError>
+fn make<'a>(alloc: Global) -> Result<Command<'a>, OutOfMemory>
     ensures { IfOk result (λ command. app_of command ≡ make_app) }
 {
     Command::new(alloc, "make")
@@ -41,14 +42,14 @@ fn make<'a>(alloc: Global) -> Result<Command<'a>, AllocError>
 }
 
 /// `demo N`.
-fn demo<'a>(alloc: Global) -> Result<Command<'a>, AllocError>
+fn demo<'a>(alloc: Global) -> Result<Command<'a>, OutOfMemory>
     ensures { IfOk result (λ command. app_of command ≡ demo_app) }
 {
     Command::new(alloc, "demo").arg(value(alloc, "count"))
 }
 
 /// The command that takes the words apart. It has no help, no version, and no word for the program's name.
-pub fn command<'a>(alloc: Global) -> Result<Command<'a>, AllocError>
+pub fn command<'a>(alloc: Global) -> Result<Command<'a>, OutOfMemory>
     ensures { IfOk result (λ command. app_of command ≡ whole_app) }
 {
     Command::new(alloc, "ndc")

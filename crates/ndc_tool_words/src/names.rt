@@ -5,8 +5,8 @@ ghost use Rattle.ndc_tool_words.specs.Names.{begins_with_dash, names_of, names_o
 ghost use Rattle.ndc_tool_words.specs.Reads.{Reads};
 
 use crate::error::WordsError;
-use ndc_event::{Items, Name, NameError};
-use std::alloc::{AllocError, Global};
+use ndc_event::{Items, Name, NameError, OutOfMemory};
+use std::alloc::Global;
 
 /// A list of names, in order.
 pub type Names = Items<Name>;
@@ -47,7 +47,7 @@ fn begins_with_dash(text: &[u8]) -> bool
 }
 
 /// What stands between the commas of a text.
-pub fn parts_of<'a>(alloc: Global, text: &'a [u8]) -> Result<Vec<&'a [u8]>, AllocError>
+pub fn parts_of<'a>(alloc: Global, text: &'a [u8]) -> Result<Vec<&'a [u8]>, OutOfMemory>
     ensures { IfOk result (λ parts. map (λ part. part.now) parts.items ≡ slice_split (λ byte. byte == 44) text.now) }
 {
     text.split(|byte| *byte == b',').collect(alloc)

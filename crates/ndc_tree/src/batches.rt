@@ -5,8 +5,8 @@ ghost use Rattle.ndc_tree.specs.Segments.{AreSegments, against, flat};
 
 use crate::chain::Chain;
 use crate::sorted::put;
-use ndc_event::{Batch, BatchKey};
-use std::alloc::{AllocError, Global};
+use ndc_event::{Batch, BatchKey, OutOfMemory};
+use std::alloc::Global;
 use std::marker::Model;
 
 /// The batches of one version.
@@ -61,7 +61,7 @@ fn first_at(segments: &[Segment], place: usize) -> Option<&Batch>
 }
 
 /// Adds these batches to the list.
-fn add_all<'b>(list: &mut Vec<&'b Batch>, batches: &'b [Batch]) -> Result<(), AllocError>
+fn add_all<'b>(list: &mut Vec<&'b Batch>, batches: &'b [Batch]) -> Result<(), OutOfMemory>
     ensures { OnOk result (map (λ b. b.now) list.new.items ≡ map (λ b. b.now) list.old.items ++ batches.now) }
 {
     for batch in batches {
@@ -116,7 +116,7 @@ impl Batches {
     }
 
     /// The batches, in key order.
-    pub(crate) fn to_vec(&self, alloc: Global) -> Result<Vec<&Batch>, AllocError>
+    pub(crate) fn to_vec(&self, alloc: Global) -> Result<Vec<&Batch>, OutOfMemory>
         ensures { IfOk result (λ list. map (λ b. b.now) list.items ≡ self.now) }
     {
         let mut list = Vec::new(alloc);
@@ -164,7 +164,7 @@ impl Batches {
     }
 
     /// Puts the batch to its place, where none of its key is there.
-    pub(crate) fn insert(&mut self, batch: Batch) -> Result<(), AllocError>
+    pub(crate) fn insert(&mut self, batch: Batch) -> Result<(), OutOfMemory>
         ensures ok { OnOk result (self.new ≡ arrived batch self.old) }
         ensures err { OnErr result (self.new ≡ self.old) }
     {

@@ -3,8 +3,8 @@ ghost use Rattle.ndc_event.specs.Sorted.{InOrder};
 ghost use Rattle.ndc_tree.specs.Places.{comes_before, IsAt, IsGap};
 
 use crate::sorted::put;
-use ndc_event::{Batch, BatchKey};
-use std::alloc::{AllocError, Global};
+use ndc_event::{Batch, BatchKey, OutOfMemory};
+use std::alloc::Global;
 use std::marker::Model;
 
 /// Batches that are found by key. Seen as their list in key order.
@@ -64,7 +64,7 @@ impl Chain {
     ghost use Rattle.ndc_model_sets.specs.Last.{first_from, last_batch};
 
     /// The batch alone.
-    pub(crate) fn of(alloc: Global, batch: Batch) -> Result<Chain, AllocError>
+    pub(crate) fn of(alloc: Global, batch: Batch) -> Result<Chain, OutOfMemory>
         ensures { IfOk result (λ chain. chain ≡ batch ∷ []) }
     {
         let mut batches = Vec::new(alloc);
@@ -119,7 +119,7 @@ impl Chain {
     }
 
     /// Puts the batch to its place, where none of its key is there.
-    pub(crate) fn insert(&mut self, batch: Batch) -> Result<(), AllocError>
+    pub(crate) fn insert(&mut self, batch: Batch) -> Result<(), OutOfMemory>
         ensures ok { OnOk result (self.new ≡ arrived batch self.old) }
         ensures err { OnErr result (self.new ≡ self.old) }
     {

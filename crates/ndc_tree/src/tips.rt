@@ -3,8 +3,8 @@ ghost use Rattle.ndc_event.specs.Sorted.{InOrder};
 ghost use Rattle.ndc_tree.specs.Places.{key_before, IsKeyAt, IsKeyGap};
 
 use crate::sorted::put;
-use ndc_event::BatchKey;
-use std::alloc::{AllocError, Global};
+use ndc_event::{BatchKey, OutOfMemory};
+use std::alloc::Global;
 use std::marker::Model;
 
 /// The keys of tips. Seen as their list, ascending.
@@ -58,7 +58,7 @@ impl Tips {
     }
 
     /// Puts the key to its place, where it is not there.
-    pub(crate) fn put(&mut self, key: BatchKey) -> Result<(), AllocError>
+    pub(crate) fn put(&mut self, key: BatchKey) -> Result<(), OutOfMemory>
         ensures ok { OnOk result (self.new ≡ with_key key self.old) }
         ensures err { OnErr result (self.new ≡ self.old) }
     {
@@ -87,7 +87,7 @@ impl Tips {
     }
 
     /// The keys, ascending.
-    pub(crate) fn to_vec(&self, alloc: Global) -> Result<Vec<BatchKey>, AllocError>
+    pub(crate) fn to_vec(&self, alloc: Global) -> Result<Vec<BatchKey>, OutOfMemory>
         ensures { IfOk result (λ list. list.items ≡ self.now) }
     {
         self.keys.iter().copied().collect(alloc)

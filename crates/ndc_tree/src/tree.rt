@@ -8,10 +8,10 @@ ghost use Rattle.ndc_tree.specs.Inserting.{end_of};
 use crate::answer::{Inserted, TreeError};
 use crate::batches::Batches;
 use crate::tips::Tips;
-use ndc_event::{Batch, BatchKey, RunId};
+use ndc_event::{Batch, BatchKey, OutOfMemory, RunId};
 use ndc_history::{Item, VersionHistory};
 use ndc_model_sets::{first_id, is_key, last_id};
-use std::alloc::{AllocError, Global};
+use std::alloc::Global;
 use std::marker::Model;
 
 /// A version history is noted where the tree has more versions than this.
@@ -105,7 +105,7 @@ impl Tree {
     }
 
     /// The batches, in key order. In time of their number.
-    pub fn batches(&self, alloc: Global) -> Result<Vec<&Batch>, AllocError>
+    pub fn batches(&self, alloc: Global) -> Result<Vec<&Batch>, OutOfMemory>
         ensures { IfOk result (λ list. map (λ b. b.now) list.items ≡ self.now.batches) }
     {
         self.batches.to_vec(alloc)
@@ -158,7 +158,7 @@ impl Tree {
     /// Takes in a batch that joins the tree, as [`Tree::judge`] tells where it neither refuses nor knows it. For want
     /// of memory the tree is as it was. In time of the logarithm of its batches, and of the batch's copy; where it goes on
     /// from the current branch with a further version, also of the versions on its path.
-    pub fn join(&mut self, batch: &Batch) -> Result<(), AllocError>
+    pub fn join(&mut self, batch: &Batch) -> Result<(), OutOfMemory>
         requires { Joins self.old.run self.old.batches batch.now }
         ensures ok { OnOk result (self.new ≡ record self.old { batches = arrived batch.now self.old.batches }) }
         ensures err { OnErr result (self.new ≡ self.old) }
@@ -172,7 +172,7 @@ impl Tree {
     }
 
     /// Takes in a batch that joins the tree.
-    fn take_in(&mut self, batch: &Batch) -> Result<(), AllocError>
+    fn take_in(&mut self, batch: &Batch) -> Result<(), OutOfMemory>
         requires { Joins self.old.run self.old.batches batch.now }
         ensures ok { OnOk result (self.new ≡ record self.old { batches = arrived batch.now self.old.batches }) }
         ensures err { OnErr result (self.new ≡ self.old) }
@@ -223,7 +223,7 @@ impl Tree {
     }
 
     /// The keys of the tips, ascending.
-    pub fn branches(&self, alloc: Global) -> Result<Vec<BatchKey>, AllocError>
+    pub fn branches(&self, alloc: Global) -> Result<Vec<BatchKey>, OutOfMemory>
         ensures { IfOk result (λ list. list.items ≡ tip_keys self.now.run self.now.batches) }
     {
         self.tips.to_vec(alloc)
@@ -245,7 +245,7 @@ impl Tree {
         &self,
         alloc: Global,
         key: BatchKey,
-    ) -> Result<Option<Vec<&Batch>>, AllocError>
+    ) -> Result<Option<Vec<&Batch>>, OutOfMemory>
         ensures { IfOk result (λ path. option_map (λ list. map (λ b. b.now) list.items) path ≡ path_at key self.now.batches) }
     {
         match self.get(key) {
@@ -256,7 +256,7 @@ impl Tree {
 
     /// The keys of the path to the batch of this key, from the run's first on; none exactly where it is not there. A
     /// look-up for each batch of the path.
-    pub fn path(&self, alloc: Global, key: BatchKey) -> Result<Option<Vec<BatchKey>>, AllocError>
+    pub fn path(&self, alloc: Global, key: BatchKey) -> Result<Option<Vec<BatchKey>>, OutOfMemory>
         ensures { IfOk result (λ path. option_map (λ list. list.items) path ≡ path_keys key self.now.batches) }
     {
         match self.path_batches(alloc, key)? {
@@ -272,7 +272,7 @@ impl Tree {
         &self,
         alloc: Global,
         key: BatchKey,
-    ) -> Result<Option<VersionHistory>, AllocError>
+    ) -> Result<Option<VersionHistory>, OutOfMemory>
         ensures { IfOk result (λ history. history ≡ history_at key self.now.batches) }
     {
         match self.get(key) {
@@ -285,7 +285,7 @@ impl Tree {
     }
 
     /// The batches of the path to this one, from the run's first on.
-    fn ancestors(&self, alloc: Global, batch: &Batch) -> Result<Vec<&Batch>, AllocError>
+    fn ancestors(&self, alloc: Global, batch: &Batch) -> Result<Vec<&Batch>, OutOfMemory>
         requires { Has self.now.batches batch.now }
         ensures { IfOk result (λ list. map (λ b. b.now) list.items ≡ path_to batch.now.key self.now.batches) }
     {
@@ -301,7 +301,7 @@ impl Tree {
 
     /// The items of the path's version history to this batch, in order: one alone where there is one version, those noted
     /// and one more where those up to its version are noted, in room for a multiple of so many, and else by a walk.
-    fn items_to(&self, alloc: Global, batch: &Batch, room: usize) -> Result<Vec<Item>, AllocError>
+    fn items_to(&self, alloc: Global, batch: &Batch, room: usize) -> Result<Vec<Item>, OutOfMemory>
         requires has { Has self.now.batches batch.now }
         requires room { 0 < room }
         ensures items { IfOk result (λ list. list.items ≡ items_of (Some batch.now) self.now.batches) }
@@ -333,7 +333,7 @@ impl Tree {
 
     /// The items of the path's version history to this batch, in order: from version to version upwards. The place of
     /// a version's segment is most often that before the last one's.
-    fn items_by_walk(&self, alloc: Global, batch: &Batch) -> Result<Vec<Item>, AllocError>
+    fn items_by_walk(&self, alloc: Global, batch: &Batch) -> Result<Vec<Item>, OutOfMemory>
         requires { Has self.now.batches batch.now }
         ensures items { IfOk result (λ list. list.items ≡ items_of (Some batch.now) self.now.batches) }
         ensures rise { IfOk result (λ list. IsTrue (rises list.items)) }
@@ -522,14 +522,14 @@ fn parent_of(batch: Option<&Batch>) -> Option<BatchKey>
 }
 
 /// The keys of the batches.
-fn keys_of(alloc: Global, batches: &[&Batch]) -> Result<Vec<BatchKey>, AllocError>
+fn keys_of(alloc: Global, batches: &[&Batch]) -> Result<Vec<BatchKey>, OutOfMemory>
     ensures { IfOk result (λ keys. keys.items ≡ map (λ b. b.now.key) batches.now) }
 {
     batches.iter().map(|batch| batch.key).collect(alloc)
 }
 
 /// The items, and one more, in room for a multiple of so many.
-fn with_end(alloc: Global, front: &[Item], end: Item, room: usize) -> Result<Vec<Item>, AllocError>
+fn with_end(alloc: Global, front: &[Item], end: Item, room: usize) -> Result<Vec<Item>, OutOfMemory>
     requires { 0 < room }
     ensures { IfOk result (λ list. list.items ≡ front.now ++ end ∷ []) }
 {

@@ -9,13 +9,14 @@ ghost use Rattle.ndc_world_steps.specs.Told.{leaving};
 ghost use Rattle.ndc_world.specs.Reading.{is_read};
 
 use ndc_cluster_reads::Reads;
+use ndc_event::OutOfMemory;
 use ndc_port::Gate;
 use ndc_script_types::{Act, Header};
 use ndc_world_answers::AnswerText;
 use ndc_world_queries::{gaps, reading};
 use ndc_world_replication::Replication;
 use ndc_world_steps::{Told, answered, domains, handovers, lanes, letters, moving, writing};
-use std::alloc::{AllocError, Global};
+use std::alloc::Global;
 use std::thread::Threads;
 
 /// What a line asks for is done: a line that is no burst.
@@ -29,7 +30,7 @@ pub(crate) fn act<R: Threads + Sync, G: Gate, C: Reads + Drop + Send>(
     header: &Header,
     lines: u64,
     act: &Act,
-) -> Result<Told, AllocError>
+) -> Result<Told, OutOfMemory>
     requires workers { 0 < workers }
     requires header { IsWellFormedHeader header.now }
     requires act { IsWellFormedAct header.now act.now }
@@ -172,7 +173,7 @@ fn read<C: Reads + Drop>(
     header: &Header,
     lines: u64,
     act: &Act,
-) -> Result<AnswerText, AllocError>
+) -> Result<AnswerText, OutOfMemory>
     requires header { IsWellFormedHeader header.now }
     requires act { IsWellFormedAct header.now act.now }
     requires read { is_read act.now ≡ true }

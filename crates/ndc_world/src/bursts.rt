@@ -15,16 +15,17 @@ ghost use Rattle.ndc_world.specs.Counts.{refusals};
 use crate::answer::Answer;
 use ndc_cluster_reads::Reads;
 use ndc_domain::ClusterNo;
+use ndc_event::OutOfMemory;
 use ndc_model_cells::{Job, JobReply, Outcome, ShardJob, shard_of};
 use ndc_port::Gate;
 use ndc_script_types::{BurstJob, Header};
 use ndc_world_answers::{add_seen, outcome};
 use ndc_world_replication::Replication;
-use std::alloc::{AllocError, Global};
+use std::alloc::Global;
 use std::thread::Threads;
 
 /// The command of a line in a burst as a job.
-fn job_of(header: &Header, one: &BurstJob) -> Result<ShardJob, AllocError>
+fn job_of(header: &Header, one: &BurstJob) -> Result<ShardJob, OutOfMemory>
     requires { 0 < header.now.shards }
     ensures { IfOk result (λ asked. asked ≡ job_for header.now one.now.domain one.now.workflow (job.Command one.now.domain one.now.workflow one.now.command)) }
 {
@@ -39,7 +40,7 @@ fn job_of(header: &Header, one: &BurstJob) -> Result<ShardJob, AllocError>
 }
 
 /// The commands of a burst as jobs, in order.
-fn jobs_of(alloc: Global, header: &Header, burst: &[BurstJob]) -> Result<Vec<ShardJob>, AllocError>
+fn jobs_of(alloc: Global, header: &Header, burst: &[BurstJob]) -> Result<Vec<ShardJob>, OutOfMemory>
     requires { 0 < header.now.shards }
     ensures { IfOk result (λ jobs. jobs.items ≡ burst_jobs header.now burst.now) }
 {
@@ -55,7 +56,7 @@ fn answers_of(
     alloc: Global,
     burst: &[BurstJob],
     replies: &[JobReply],
-) -> Result<Vec<u8>, AllocError>
+) -> Result<Vec<u8>, OutOfMemory>
     ensures { IfOk result (λ text. text.items ≡ burst_text burst.now replies.now) }
 {
     let mut text = Vec::new(alloc);
@@ -104,7 +105,7 @@ pub(crate) fn burst<R: Threads + Sync, G: Gate, C: Reads + Drop + Send>(
     header: &Header,
     cluster: ClusterNo,
     burst: &[BurstJob],
-) -> Result<(Answer, u64), AllocError>
+) -> Result<(Answer, u64), OutOfMemory>
     requires workers { 0 < workers }
     requires cluster { IsCluster header.now cluster }
     requires shards { 0 < header.now.shards }

@@ -13,11 +13,12 @@ ghost use Rattle.ndc_model.specs.World.{World, all_clusters};
 ghost use Rattle.ndc_model_sets.specs.Sound.{IsSound};
 
 use ndc_cluster_reads::Reads;
+use ndc_event::OutOfMemory;
 use ndc_progress::Reports;
 use ndc_script_types::{Act, Header};
 use ndc_world_replication::Replication;
 use ndc_world_steps::{Told, answered, reports};
-use std::alloc::{AllocError, Global};
+use std::alloc::Global;
 
 /// Whether a line tells of activities, takes reports over or shows one.
 pub(crate) fn is_on_reports(act: &Act) -> bool
@@ -30,7 +31,7 @@ pub(crate) fn is_on_reports(act: &Act) -> bool
 }
 
 /// No cluster of a header holds a report.
-pub(crate) fn no_reports(alloc: Global, header: &Header) -> Result<Reports, AllocError>
+pub(crate) fn no_reports(alloc: Global, header: &Header) -> Result<Reports, OutOfMemory>
     ensures { IfOk result (λ reports. reports ≡ map (λ _. []) (all_clusters header.now)) }
 {
     let reports = Reports::new(alloc, header.clusters.count() as usize)?;
@@ -45,7 +46,7 @@ pub(crate) fn report<C: Reads + Drop>(
     alloc: Global,
     header: &Header,
     act: &Act,
-) -> Result<Told, AllocError>
+) -> Result<Told, OutOfMemory>
     requires header { IsWellFormedHeader header.now }
     requires act { IsWellFormedAct header.now act.now }
     requires on { is_on_reports act.now ≡ true }

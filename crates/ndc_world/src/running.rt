@@ -24,12 +24,13 @@ use crate::bursts::burst;
 use crate::reporting::{is_on_reports, report};
 use ndc_cluster_reads::Reads;
 use ndc_domain::ClusterNo;
+use ndc_event::OutOfMemory;
 use ndc_port::Gate;
 use ndc_progress::Reports;
 use ndc_script_types::{Act, BurstJob, Header, Line};
 use ndc_world_replication::Replication;
 use ndc_world_steps::Told;
-use std::alloc::{AllocError, Global};
+use std::alloc::Global;
 use std::thread::Threads;
 
 /// How many lines stand for what a line of the text asks for.
@@ -43,7 +44,7 @@ pub(crate) fn line_count(asked: &Act) -> u64
 }
 
 /// The answer of a line that is no burst, behind its number; and how many answers are refusals, none or one.
-fn one_answer(alloc: Global, number: u64, told: Told) -> Result<(Answer, u64), AllocError>
+fn one_answer(alloc: Global, number: u64, told: Told) -> Result<(Answer, u64), OutOfMemory>
     ensures text { IfOk result (λ answer. answer.0.text ≡ decimal number ++ codes " " ++ told.text) }
     ensures seen { IfOk result (λ answer. answer.0.seen ≡ told.seen) }
     ensures refused { IfOk result (λ answer. answer.1 ≡ one_if (is_refusal told.text)) }
@@ -65,7 +66,7 @@ fn run_one<R: Threads + Sync, G: Gate, C: Reads + Drop + Send>(
     lines: u64,
     number: u64,
     asked: &Act,
-) -> Result<(Answer, u64), AllocError>
+) -> Result<(Answer, u64), OutOfMemory>
     requires workers { 0 < workers }
     requires header { IsWellFormedHeader header.now }
     requires act { IsWellFormedAct header.now asked.now }
@@ -91,7 +92,7 @@ fn run_burst<R: Threads + Sync, G: Gate, C: Reads + Drop + Send>(
     lines: u64,
     cluster: ClusterNo,
     jobs: &[BurstJob],
-) -> Result<(Answer, u64), AllocError>
+) -> Result<(Answer, u64), OutOfMemory>
     requires workers { 0 < workers }
     requires header { IsWellFormedHeader header.now }
     requires cluster { IsCluster header.now cluster }
@@ -114,7 +115,7 @@ fn run_other<R: Threads + Sync, G: Gate, C: Reads + Drop + Send>(
     header: &Header,
     lines: u64,
     line: &Line,
-) -> Result<(Answer, u64), AllocError>
+) -> Result<(Answer, u64), OutOfMemory>
     requires workers { 0 < workers }
     requires header { IsWellFormedHeader header.now }
     requires act { IsWellFormedAct header.now line.now.act }
@@ -163,7 +164,7 @@ fn run_report<C: Reads + Drop>(
     header: &Header,
     number: u64,
     asked: &Act,
-) -> Result<(Answer, u64), AllocError>
+) -> Result<(Answer, u64), OutOfMemory>
     requires header { IsWellFormedHeader header.now }
     requires act { IsWellFormedAct header.now asked.now }
     requires on { is_on_reports asked.now ≡ true }
@@ -191,7 +192,7 @@ pub(crate) fn run_line<R: Threads + Sync, G: Gate, C: Reads + Drop + Send>(
     header: &Header,
     lines: u64,
     line: &Line,
-) -> Result<(Answer, u64), AllocError>
+) -> Result<(Answer, u64), OutOfMemory>
     requires workers { 0 < workers }
     requires act { IsWellFormedAct header.now line.now.act }
     requires lines { lines + length (lines_of_act line.now.number line.now.act) ≤ 100000 }

@@ -6,6 +6,7 @@ use crate::summary::Summary;
 use ndc_cluster::Cluster;
 use ndc_cluster_reads::Reads;
 use ndc_domain::ClusterNo;
+use ndc_event::OutOfMemory;
 use ndc_port::Gate;
 use ndc_progress::Reports;
 use ndc_script_types::{Header, Line};
@@ -13,7 +14,7 @@ use ndc_world_replication::Replication;
 use ndc_world_replication::publishers::cluster_of;
 use ndc_world_steps::moving::{Telling, settlement};
 use ndc_world_summary::totals;
-use std::alloc::{AllocError, Global};
+use std::alloc::Global;
 use std::marker::Model;
 use std::thread::Threads;
 
@@ -72,7 +73,7 @@ impl<'a, C: Reads + Drop> World<'a, C> {
     ghost use Rattle.ndc_world_replication.specs.Publishers.{cluster_alone};
 
     /// The world of a header in the beginning: nothing is registered, written or sent.
-    pub fn build(alloc: Global, header: &'a Header) -> Result<World<'a, C>, AllocError>
+    pub fn build(alloc: Global, header: &'a Header) -> Result<World<'a, C>, OutOfMemory>
         requires { IsWellFormedHeader header.now }
         ensures unspent { IfOk result (λ world. world.spent ≡ false) }
         ensures header { IfOk result (λ world. world.header ≡ header.now) }
@@ -128,7 +129,7 @@ impl<'a, C: Reads + Drop> World<'a, C> {
         gate: &G,
         workers: u32,
         line: &Line,
-    ) -> Result<Answer, AllocError>
+    ) -> Result<Answer, OutOfMemory>
     where
         C: Send,
         requires unspent { self.old.spent ≡ false }
@@ -166,7 +167,7 @@ impl<'a, C: Reads + Drop> World<'a, C> {
         alloc: Global,
         gate: &G,
         workers: u32,
-    ) -> Result<Settled, AllocError>
+    ) -> Result<Settled, OutOfMemory>
     where
         C: Send,
         requires unspent { self.old.spent ≡ false }
@@ -194,7 +195,7 @@ impl<'a, C: Reads + Drop> World<'a, C> {
     }
 
     /// What it comes to, in numbers. In time of all that was written and learned.
-    pub fn summary(&self, alloc: Global) -> Result<Summary, AllocError>
+    pub fn summary(&self, alloc: Global) -> Result<Summary, OutOfMemory>
         requires { self.now.spent ≡ false }
         ensures { IfOk result (λ summary. summary ≡ summary_of self.now) }
     {

@@ -7,25 +7,26 @@ ghost use Rattle.ndc_world_answers.specs.Writers.{writer_name_in};
 use crate::text::AnswerText;
 use crate::word::{Word, ok, refused};
 use ndc_domain::{Clusters, DomainError, DomainRecord, FailoverError, JoinError, RetainError};
+use ndc_event::OutOfMemory;
 use ndc_script_types::Header;
-use std::alloc::{AllocError, Global};
+use std::alloc::Global;
 
 /// A line was done, and there is nothing to say of it.
-pub fn done(alloc: Global) -> Result<AnswerText, AllocError>
+pub fn done(alloc: Global) -> Result<AnswerText, OutOfMemory>
     ensures { IfOk result (λ text. text ≡ ok []) }
 {
     ok(alloc, &[])
 }
 
 /// A line was done, and answers a number.
-pub fn counted(alloc: Global, number: u64) -> Result<AnswerText, AllocError>
+pub fn counted(alloc: Global, number: u64) -> Result<AnswerText, OutOfMemory>
     ensures { IfOk result (λ text. text ≡ ok (decimal number ∷ [])) }
 {
     ok(alloc, &[Word::Number(number)])
 }
 
 /// Why a domain is not registered; want of memory has no word.
-pub fn register_refused(alloc: Global, error: DomainError) -> Result<AnswerText, AllocError>
+pub fn register_refused(alloc: Global, error: DomainError) -> Result<AnswerText, OutOfMemory>
     ensures { IfOk result (λ text. text ≡ refused (register_words error)) }
 {
     match error {
@@ -38,7 +39,7 @@ pub fn register_refused(alloc: Global, error: DomainError) -> Result<AnswerText,
 }
 
 /// Why the days of a domain are not changed.
-pub fn retain_refused(alloc: Global, error: RetainError) -> Result<AnswerText, AllocError>
+pub fn retain_refused(alloc: Global, error: RetainError) -> Result<AnswerText, OutOfMemory>
     ensures { IfOk result (λ text. text ≡ refused (retain_words error)) }
 {
     match error {
@@ -48,7 +49,7 @@ pub fn retain_refused(alloc: Global, error: RetainError) -> Result<AnswerText, A
 }
 
 /// Why a domain is not failed over.
-pub fn failover_refused(alloc: Global, error: FailoverError) -> Result<AnswerText, AllocError>
+pub fn failover_refused(alloc: Global, error: FailoverError) -> Result<AnswerText, OutOfMemory>
     ensures { IfOk result (λ text. text ≡ refused (failover_words error)) }
 {
     match error {
@@ -60,7 +61,7 @@ pub fn failover_refused(alloc: Global, error: FailoverError) -> Result<AnswerTex
 }
 
 /// Why a cluster does not join a domain.
-pub fn join_refused(alloc: Global, error: JoinError) -> Result<AnswerText, AllocError>
+pub fn join_refused(alloc: Global, error: JoinError) -> Result<AnswerText, OutOfMemory>
     ensures { IfOk result (λ text. text ≡ refused (join_words error)) }
 {
     match error {
@@ -85,7 +86,7 @@ pub fn domain(
     alloc: Global,
     header: &Header,
     known: Option<&DomainRecord>,
-) -> Result<AnswerText, AllocError>
+) -> Result<AnswerText, OutOfMemory>
     ensures { IfOk result (λ text. text ≡ domain_answer header.now (option_copied known.entry)) }
 {
     match known {

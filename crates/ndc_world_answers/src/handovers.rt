@@ -5,25 +5,26 @@ ghost use Rattle.ndc_world_answers.specs.Handovers.{ready_words};
 
 use crate::text::AnswerText;
 use crate::word::{Word, refused};
+use ndc_event::OutOfMemory;
 use ndc_graceful::{BeginError, ReadyError};
-use std::alloc::{AllocError, Global};
+use std::alloc::Global;
 
 /// A handover of the domain is open already.
-pub fn still_open(alloc: Global) -> Result<AnswerText, AllocError>
+pub fn still_open(alloc: Global) -> Result<AnswerText, OutOfMemory>
     ensures { IfOk result (λ text. text ≡ refused (codes "HandoverOpen" ∷ [])) }
 {
     refused(alloc, &[Word::Plain("HandoverOpen")])
 }
 
 /// No handover of the domain to the cluster is open.
-pub fn no_handover(alloc: Global) -> Result<AnswerText, AllocError>
+pub fn no_handover(alloc: Global) -> Result<AnswerText, OutOfMemory>
     ensures { IfOk result (λ text. text ≡ refused (codes "NoHandover" ∷ [])) }
 {
     refused(alloc, &[Word::Plain("NoHandover")])
 }
 
 /// Why a handover does not begin; want of memory has no word.
-pub fn begin_refused(alloc: Global, error: BeginError) -> Result<AnswerText, AllocError>
+pub fn begin_refused(alloc: Global, error: BeginError) -> Result<AnswerText, OutOfMemory>
     ensures { IfOk result (λ text. text ≡ refused (begin_words error)) }
 {
     match error {
@@ -38,7 +39,7 @@ pub fn begin_refused(alloc: Global, error: BeginError) -> Result<AnswerText, All
 }
 
 /// What keeps a handover from its end.
-pub fn ready_refused(alloc: Global, error: ReadyError) -> Result<AnswerText, AllocError>
+pub fn ready_refused(alloc: Global, error: ReadyError) -> Result<AnswerText, OutOfMemory>
     ensures { IfOk result (λ text. text ≡ refused (ready_words error)) }
 {
     match error {

@@ -10,9 +10,9 @@ ghost use Rattle.ndc_world_answers.specs.Writers.{names_at};
 use crate::text::AnswerText;
 use crate::word::{Word, ok, refused};
 use ndc_domain::{ClusterNo, Clusters, DomainRecord, Members};
-use ndc_event::Name;
+use ndc_event::{Name, OutOfMemory};
 use ndc_script_types::Header;
-use std::alloc::{AllocError, Global};
+use std::alloc::Global;
 
 /// Adds the name of the cluster with this number, where it is a member.
 fn push_member<'a>(
@@ -20,7 +20,7 @@ fn push_member<'a>(
     clusters: &'a Clusters,
     members: Members,
     number: u32,
-) -> Result<(), AllocError>
+) -> Result<(), OutOfMemory>
     requires { AllByRecursion (λ number. number < count_of clusters.now) members }
     ensures name { OnOk result (map (λ name. name.now) names.new.items ≡ map (λ name. name.now) names.old.items ++ names_at clusters.now members number) }
     ensures ascending { AreMembers members }
@@ -37,7 +37,7 @@ fn names<'a>(
     alloc: Global,
     clusters: &'a Clusters,
     members: Members,
-) -> Result<Vec<&'a Name>, AllocError>
+) -> Result<Vec<&'a Name>, OutOfMemory>
     requires { AllByRecursion (λ number. number < count_of clusters.now) members }
     ensures { IfOk result (λ names. map (λ name. name.now) names.items ≡ map (λ number. name_of clusters.now (cluster_no number)) members) }
 {
@@ -49,7 +49,7 @@ fn names<'a>(
 }
 
 /// Appends names, each behind a comma.
-fn push_further(text: &mut Vec<u8>, names: &[&Name]) -> Result<(), AllocError>
+fn push_further(text: &mut Vec<u8>, names: &[&Name]) -> Result<(), OutOfMemory>
     ensures { OnOk result (text.new.items ≡ text.old.items ++ further (map (λ name. name.now) names.now)) }
 {
     for name in names {
@@ -60,7 +60,7 @@ fn push_further(text: &mut Vec<u8>, names: &[&Name]) -> Result<(), AllocError>
 }
 
 /// The names with commas between them.
-fn joined(alloc: Global, names: &[&Name]) -> Result<Vec<u8>, AllocError>
+fn joined(alloc: Global, names: &[&Name]) -> Result<Vec<u8>, OutOfMemory>
     ensures { IfOk result (λ text. text.items ≡ with_commas (map (λ name. name.now) names.now)) }
 {
     let mut text = Vec::new(alloc);
@@ -76,7 +76,7 @@ pub fn members(
     alloc: Global,
     header: &Header,
     known: Option<&DomainRecord>,
-) -> Result<AnswerText, AllocError>
+) -> Result<AnswerText, OutOfMemory>
     requires { IfSome (option_copied known) (λ one. AllByRecursion (λ number. number < count_of header.now.clusters) one.members) }
     ensures { IfOk result (λ text. text ≡ members_answer header.now (option_copied known.entry)) }
 {

@@ -5,25 +5,26 @@ ghost use Rattle.ndc_model.specs.Texts.{ok, refused};
 
 use crate::text::AnswerText;
 use crate::word::{Word, ok, refused};
+use ndc_event::OutOfMemory;
 use ndc_progress::Report;
-use std::alloc::{AllocError, Global};
+use std::alloc::Global;
 
 /// A report was told: its version and beat.
-pub fn beaten(alloc: Global, version: u64, beat: u64) -> Result<AnswerText, AllocError>
+pub fn beaten(alloc: Global, version: u64, beat: u64) -> Result<AnswerText, OutOfMemory>
     ensures { IfOk result (λ text. text ≡ ok (decimal version ∷ decimal beat ∷ [])) }
 {
     ok(alloc, &[Word::Number(version), Word::Number(beat)])
 }
 
 /// A report of a greater version is held.
-pub fn stale(alloc: Global, version: u64) -> Result<AnswerText, AllocError>
+pub fn stale(alloc: Global, version: u64) -> Result<AnswerText, OutOfMemory>
     ensures { IfOk result (λ text. text ≡ refused (codes "Stale" ∷ decimal version ∷ [])) }
 {
     refused(alloc, &[Word::Plain("Stale"), Word::Number(version)])
 }
 
 /// The report that is held of an activity, where there is one.
-pub fn report(alloc: Global, report: Option<&Report>) -> Result<AnswerText, AllocError>
+pub fn report(alloc: Global, report: Option<&Report>) -> Result<AnswerText, OutOfMemory>
     ensures { IfOk result (λ text. text ≡ report_answer (option_copied report.entry)) }
 {
     match report {

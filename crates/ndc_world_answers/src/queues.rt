@@ -6,13 +6,14 @@ ghost use Rattle.ndc_world_answers.specs.Gaps.{gap_ends, gap_head, gap_text};
 use crate::tally::Tally;
 use crate::text::AnswerText;
 use crate::word::{Word, count_line, ok, refused};
+use ndc_event::OutOfMemory;
 use ndc_queue::Levels;
 use ndc_resend::GapOf;
 use ndc_text::line::{push_item, push_key};
-use std::alloc::{AllocError, Global};
+use std::alloc::Global;
 
 /// No message is at the place.
-pub fn no_place(alloc: Global) -> Result<AnswerText, AllocError>
+pub fn no_place(alloc: Global) -> Result<AnswerText, OutOfMemory>
     ensures { IfOk result (λ text. text ≡ refused (codes "NoSuchPlace" ∷ [])) }
 {
     refused(alloc, &[Word::Plain("NoSuchPlace")])
@@ -25,7 +26,7 @@ pub fn levels(
     trimmed: u64,
     levels: Levels,
     flight: u64,
-) -> Result<AnswerText, AllocError>
+) -> Result<AnswerText, OutOfMemory>
     ensures { IfOk result (λ text. text ≡ ok (codes "queue" ∷ decimal queue ∷ codes "trimmed" ∷ decimal trimmed
         ∷ codes "read" ∷ decimal levels.read ∷ codes "done" ∷ decimal levels.done ∷ codes "flight" ∷ decimal flight ∷ [])) }
 {
@@ -47,7 +48,7 @@ pub fn levels(
 }
 
 /// What came of `work`.
-pub fn worked(alloc: Global, tally: Tally) -> Result<AnswerText, AllocError>
+pub fn worked(alloc: Global, tally: Tally) -> Result<AnswerText, OutOfMemory>
     ensures { IfOk result (λ text. text ≡ ok (codes "learned" ∷ decimal tally.learned ∷ codes "known" ∷ decimal tally.known
         ∷ codes "putoff" ∷ decimal tally.put_off ∷ codes "reapplied" ∷ decimal tally.applied ∷ [])) }
 {
@@ -67,7 +68,7 @@ pub fn worked(alloc: Global, tally: Tally) -> Result<AnswerText, AllocError>
 }
 
 /// What came of messages that arrived: `resend` and `mergeletters`.
-pub fn arrived(alloc: Global, tally: Tally) -> Result<AnswerText, AllocError>
+pub fn arrived(alloc: Global, tally: Tally) -> Result<AnswerText, OutOfMemory>
     ensures { IfOk result (λ text. text ≡ ok (codes "arrived" ∷ decimal tally.arrived ∷ codes "learned" ∷ decimal tally.learned ∷ [])) }
 {
     ok(
@@ -82,7 +83,7 @@ pub fn arrived(alloc: Global, tally: Tally) -> Result<AnswerText, AllocError>
 }
 
 /// What came of `bootstrap`, of so many domains.
-pub fn brought(alloc: Global, domains: u64, tally: Tally) -> Result<AnswerText, AllocError>
+pub fn brought(alloc: Global, domains: u64, tally: Tally) -> Result<AnswerText, OutOfMemory>
     ensures { IfOk result (λ text. text ≡ ok (codes "domains" ∷ decimal domains ∷ codes "arrived" ∷ decimal tally.arrived
         ∷ codes "learned" ∷ decimal tally.learned ∷ [])) }
 {
@@ -100,7 +101,7 @@ pub fn brought(alloc: Global, domains: u64, tally: Tally) -> Result<AnswerText, 
 }
 
 /// What came of `settle`.
-pub fn settled(alloc: Global, tally: Tally) -> Result<AnswerText, AllocError>
+pub fn settled(alloc: Global, tally: Tally) -> Result<AnswerText, OutOfMemory>
     ensures { IfOk result (λ text. text ≡ ok (codes "learned" ∷ decimal tally.learned ∷ codes "reapplied" ∷ decimal tally.applied ∷ [])) }
 {
     ok(
@@ -115,7 +116,7 @@ pub fn settled(alloc: Global, tally: Tally) -> Result<AnswerText, AllocError>
 }
 
 /// Appends which batch is put off.
-fn push_put_off(text: &mut Vec<u8>, gap: &GapOf) -> Result<(), AllocError>
+fn push_put_off(text: &mut Vec<u8>, gap: &GapOf) -> Result<(), OutOfMemory>
     ensures { OnOk result (text.new.items ≡ text.old.items ++ gap_head gap.now) }
 {
     text.extend_from_slice(b"gap ")?;
@@ -127,7 +128,7 @@ fn push_put_off(text: &mut Vec<u8>, gap: &GapOf) -> Result<(), AllocError>
 }
 
 /// Appends between which events the gap lies, and what is missing.
-fn push_ends(text: &mut Vec<u8>, gap: &GapOf) -> Result<(), AllocError>
+fn push_ends(text: &mut Vec<u8>, gap: &GapOf) -> Result<(), OutOfMemory>
     ensures { OnOk result (text.new.items ≡ text.old.items ++ gap_ends gap.now) }
 {
     text.extend_from_slice(b" after ")?;
@@ -140,7 +141,7 @@ fn push_ends(text: &mut Vec<u8>, gap: &GapOf) -> Result<(), AllocError>
 }
 
 /// Appends the line of a gap.
-fn push_gap(text: &mut Vec<u8>, gap: &GapOf) -> Result<(), AllocError>
+fn push_gap(text: &mut Vec<u8>, gap: &GapOf) -> Result<(), OutOfMemory>
     ensures { OnOk result (text.new.items ≡ text.old.items ++ gap_text gap.now) }
 {
     push_put_off(text, gap)?;
@@ -148,7 +149,7 @@ fn push_gap(text: &mut Vec<u8>, gap: &GapOf) -> Result<(), AllocError>
 }
 
 /// How many batches are put off, and a line for each.
-pub fn gaps(alloc: Global, gaps: &[GapOf]) -> Result<AnswerText, AllocError>
+pub fn gaps(alloc: Global, gaps: &[GapOf]) -> Result<AnswerText, OutOfMemory>
     ensures { IfOk result (λ text. text ≡ ok (decimal (length gaps.now) ∷ []) ++ flat_map gap_text gaps.now) }
 {
     let mut text = count_line(alloc, gaps.len() as u64)?;

@@ -9,23 +9,23 @@ ghost use Rattle.ndc_text.specs.Views.{branch_line, dump_text, key_text, run_lin
 use crate::tally::sum;
 use crate::text::AnswerText;
 use crate::word::{Word, count_line, ok, refused};
-use ndc_event::{Batch, BatchKey, Event, Name, RunId};
+use ndc_event::{Batch, BatchKey, Event, Name, OutOfMemory, RunId};
 use ndc_history::Item;
 use ndc_model_sets::{BranchView, RunStatus, RunView, View};
 use ndc_state::{CloseKind, State};
 use ndc_text::dump_text;
 use ndc_text::line::{push_branch_line, push_item, push_run_line, status_word};
-use std::alloc::{AllocError, Global};
+use std::alloc::Global;
 
 /// Nothing of the workflow is learned.
-pub fn no_workflow(alloc: Global) -> Result<AnswerText, AllocError>
+pub fn no_workflow(alloc: Global) -> Result<AnswerText, OutOfMemory>
     ensures { IfOk result (λ text. text ≡ refused (codes "NoWorkflow" ∷ [])) }
 {
     refused(alloc, &[Word::Plain("NoWorkflow")])
 }
 
 /// Appends `ID@VERSION KIND`.
-fn push_event(text: &mut Vec<u8>, event: &Event) -> Result<(), AllocError>
+fn push_event(text: &mut Vec<u8>, event: &Event) -> Result<(), OutOfMemory>
     ensures { OnOk result (text.new.items ≡ text.old.items ++ event_line event.now) }
 {
     push_item(
@@ -41,7 +41,7 @@ fn push_event(text: &mut Vec<u8>, event: &Event) -> Result<(), AllocError>
 }
 
 /// Appends events, one a line.
-fn push_events(text: &mut Vec<u8>, events: &[Event]) -> Result<(), AllocError>
+fn push_events(text: &mut Vec<u8>, events: &[Event]) -> Result<(), OutOfMemory>
     ensures { OnOk result (text.new.items ≡ text.old.items ++ flat_map event_line events.now) }
 {
     for event in events {
@@ -51,7 +51,7 @@ fn push_events(text: &mut Vec<u8>, events: &[Event]) -> Result<(), AllocError>
 }
 
 /// How many events the batches have. A number above 2^64 - 1, for which there is no memory, is said to be want of it.
-fn count_events(path: &[&Batch]) -> Result<u64, AllocError>
+fn count_events(path: &[&Batch]) -> Result<u64, OutOfMemory>
     ensures { IfOk result (λ count. count ≡ length (history_of (map (λ b. b.now) path.now))) }
 {
     let mut count = 0;
@@ -62,7 +62,7 @@ fn count_events(path: &[&Batch]) -> Result<u64, AllocError>
 }
 
 /// How many events the batches of a path have, and a line for each event.
-pub fn history(alloc: Global, path: &[&Batch]) -> Result<AnswerText, AllocError>
+pub fn history(alloc: Global, path: &[&Batch]) -> Result<AnswerText, OutOfMemory>
     ensures { IfOk result (λ text. text
         ≡ ok (decimal (length (history_of (map (λ b. b.now) path.now))) ∷ []) ++ flat_map event_line (history_of (map (λ b. b.now) path.now))) }
 {
@@ -74,7 +74,7 @@ pub fn history(alloc: Global, path: &[&Batch]) -> Result<AnswerText, AllocError>
 }
 
 /// Appends branches, one a line.
-fn push_branches(text: &mut Vec<u8>, branches: &[BranchView]) -> Result<(), AllocError>
+fn push_branches(text: &mut Vec<u8>, branches: &[BranchView]) -> Result<(), OutOfMemory>
     ensures { OnOk result (text.new.items ≡ text.old.items ++ flat_map branch_line branches.now) }
 {
     for branch in branches {
@@ -84,7 +84,7 @@ fn push_branches(text: &mut Vec<u8>, branches: &[BranchView]) -> Result<(), Allo
 }
 
 /// Appends a run with its branches.
-fn push_run(alloc: Global, text: &mut Vec<u8>, run: &RunView) -> Result<(), AllocError>
+fn push_run(alloc: Global, text: &mut Vec<u8>, run: &RunView) -> Result<(), OutOfMemory>
     ensures { OnOk result (text.new.items ≡ text.old.items ++ run_lines run.now) }
 {
     push_run_line(alloc, text, run)?;
@@ -92,7 +92,7 @@ fn push_run(alloc: Global, text: &mut Vec<u8>, run: &RunView) -> Result<(), Allo
 }
 
 /// How many runs there are, and their lines with those of their branches.
-pub fn branches(alloc: Global, runs: &[RunView]) -> Result<AnswerText, AllocError>
+pub fn branches(alloc: Global, runs: &[RunView]) -> Result<AnswerText, OutOfMemory>
     ensures { IfOk result (λ text. text ≡ ok (decimal (length runs.now) ∷ []) ++ flat_map run_lines runs.now) }
 {
     let mut text = count_line(alloc, runs.len() as u64)?;
@@ -109,7 +109,7 @@ pub fn current(
     tip: BatchKey,
     status: RunStatus,
     close: Option<CloseKind>,
-) -> Result<AnswerText, AllocError>
+) -> Result<AnswerText, OutOfMemory>
     ensures { IfOk result (λ text. text ≡ ok (run_text run ∷ key_text tip ∷ status_text status close ∷ [])) }
 {
     let name = run.text(alloc)?;
@@ -124,7 +124,7 @@ pub fn current(
 }
 
 /// A state in one line.
-pub fn state(alloc: Global, state: &State) -> Result<AnswerText, AllocError>
+pub fn state(alloc: Global, state: &State) -> Result<AnswerText, OutOfMemory>
     ensures { IfOk result (λ text. text ≡ ok (state_text state.now ∷ [])) }
 {
     let shown = state.text()?;
@@ -137,7 +137,7 @@ pub fn dump(
     domain: &Name,
     workflow: &Name,
     view: &View,
-) -> Result<AnswerText, AllocError>
+) -> Result<AnswerText, OutOfMemory>
     ensures { IfOk result (λ text. text ≡ ok (decimal (length view.now.batches) ∷ []) ++ dump_text domain.now workflow.now view.now) }
 {
     let mut text = count_line(alloc, view.batches.as_slice().len() as u64)?;
@@ -146,7 +146,7 @@ pub fn dump(
 }
 
 /// Whether two clusters show the same.
-pub fn compared(alloc: Global, is_same: bool) -> Result<AnswerText, AllocError>
+pub fn compared(alloc: Global, is_same: bool) -> Result<AnswerText, OutOfMemory>
     ensures { IfOk result (λ text. text ≡ ok ((if is_same then codes "same" else codes "differ") ∷ [])) }
 {
     if is_same {

@@ -6,7 +6,7 @@ ghost use Rattle.ndc_model.specs.Steps.{applied_count, arrived_count, brought, k
 ghost use Rattle.ndc_world_answers.specs.Tallies.{seen_by, with_reply};
 
 use ndc_domain::ClusterNo;
-use ndc_event::Batch;
+use ndc_event::{Batch, OutOfMemory};
 use ndc_index::Seen;
 use ndc_model_cells::{Arrived, Job, JobReply, Message, Outcome, ShardJob};
 use std::alloc::AllocError;
@@ -27,7 +27,7 @@ pub struct Tally {
 }
 
 /// The sum; where it is above 2^64 - 1 there can't be so much, and memory is said to have run out.
-pub fn sum(one: u64, two: u64) -> Result<u64, AllocError>
+pub fn sum(one: u64, two: u64) -> Result<u64, OutOfMemory>
     ensures { IfOk result (λ sum. sum ≡ one + two) }
 {
     match one.checked_add(two) {
@@ -128,7 +128,7 @@ impl Tally {
     }
 
     /// With what one job came to.
-    fn with(self, job: &Job, reply: &JobReply) -> Result<Tally, AllocError>
+    fn with(self, job: &Job, reply: &JobReply) -> Result<Tally, OutOfMemory>
         ensures { IfOk result (λ tally. tally ≡ with_reply job.now reply.now self) }
     {
         let (known, put_off) = known_and_put_off(&reply.outcome);
@@ -142,7 +142,7 @@ impl Tally {
     }
 
     /// Adds what jobs came to, job by job.
-    fn add_all(&mut self, jobs: &[ShardJob], replies: &[JobReply]) -> Result<(), AllocError>
+    fn add_all(&mut self, jobs: &[ShardJob], replies: &[JobReply]) -> Result<(), OutOfMemory>
         ensures { OnOk result (self.new ≡ with_replies jobs.now replies.now self.old) }
     {
         for place in 0..jobs.len() {
@@ -157,7 +157,7 @@ impl Tally {
     /// Adds what jobs came to, by their replies in order; on which cluster they were done does not count. Numbers
     /// above 2^64 - 1, for which there is no memory, are said to be want of it.
     #[tactic(auto, using(crate::proofs::TallyLemmas::replies_as_notes))]
-    pub fn add(&mut self, jobs: &[ShardJob], replies: &[JobReply]) -> Result<(), AllocError>
+    pub fn add(&mut self, jobs: &[ShardJob], replies: &[JobReply]) -> Result<(), OutOfMemory>
         ensures { OnOk result ((cluster : ClusterNo) → self.new ≡ with_notes (notes_of cluster jobs.now replies.now) self.old) }
     {
         self.add_all(jobs, replies)?;
@@ -170,7 +170,7 @@ fn add_batches(
     seen: &mut Vec<Seen>,
     cluster: ClusterNo,
     batches: Vec<Batch>,
-) -> Result<(), AllocError>
+) -> Result<(), OutOfMemory>
     ensures { OnOk result (seen.new.items ≡ seen.old.items ++ seen_at cluster batches.items) }
 {
     for batch in batches {
@@ -184,7 +184,7 @@ fn add_replies(
     seen: &mut Vec<Seen>,
     cluster: ClusterNo,
     replies: Vec<JobReply>,
-) -> Result<(), AllocError>
+) -> Result<(), OutOfMemory>
     ensures { OnOk result (seen.new.items ≡ seen.old.items ++ seen_by cluster replies.items) }
 {
     for reply in replies {
@@ -204,7 +204,7 @@ pub fn add_seen(
     cluster: ClusterNo,
     jobs: &[ShardJob],
     replies: Vec<JobReply>,
-) -> Result<(), AllocError>
+) -> Result<(), OutOfMemory>
     ensures { OnOk result (seen.new.items ≡ seen.old.items ++ seen_of (notes_of cluster jobs.now replies.items)) }
 {
     let mut answered = replies;

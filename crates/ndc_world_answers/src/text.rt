@@ -1,5 +1,6 @@
+use ndc_event::OutOfMemory;
 use ndc_text::line::push_number;
-use std::alloc::{AllocError, Global};
+use std::alloc::Global;
 use std::marker::Model;
 
 /// The text of an answer, which knows whether it is a refusal. Seen as its bytes.
@@ -67,7 +68,7 @@ impl AnswerText {
     }
 
     /// Appends the answer behind the number of its line.
-    pub fn push_behind_number(&self, text: &mut Vec<u8>, number: u64) -> Result<(), AllocError>
+    pub fn push_behind_number(&self, text: &mut Vec<u8>, number: u64) -> Result<(), OutOfMemory>
         ensures { OnOk result (text.new.items ≡ text.old.items ++ (decimal number ++ codes " " ++ self.now)) }
     {
         push_number(text, number)?;
@@ -76,7 +77,7 @@ impl AnswerText {
     }
 
     /// The answer behind the number of its line, in memory that is asked for once.
-    pub fn behind_number(&self, alloc: Global, number: u64) -> Result<Vec<u8>, AllocError>
+    pub fn behind_number(&self, alloc: Global, number: u64) -> Result<Vec<u8>, OutOfMemory>
         ensures { IfOk result (λ text. text.items ≡ decimal number ++ codes " " ++ self.now) }
     {
         let room = self.text.len().saturating_add(NUMBER_ROOM);

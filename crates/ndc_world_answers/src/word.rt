@@ -3,9 +3,9 @@ ghost use Rattle.ndc_model.specs.Texts.{ok, refused, spaced};
 ghost use Rattle.ndc_world_answers.specs.Words.{word_text};
 
 use crate::text::AnswerText;
-use ndc_event::BatchKey;
+use ndc_event::{BatchKey, OutOfMemory};
 use ndc_text::line::{push_key, push_number};
-use std::alloc::{AllocError, Global};
+use std::alloc::Global;
 
 /// A word of an answer.
 #[derive(Clone, Copy)]
@@ -21,7 +21,7 @@ pub(crate) enum Word<'a> {
 }
 
 /// Appends a word behind a space.
-fn push_word(text: &mut Vec<u8>, word: Word) -> Result<(), AllocError>
+fn push_word(text: &mut Vec<u8>, word: Word) -> Result<(), OutOfMemory>
     ensures { OnOk result (text.new.items ≡ text.old.items ++ (codes " " ++ word_text word.entry)) }
 {
     text.extend_from_slice(b" ")?;
@@ -34,7 +34,7 @@ fn push_word(text: &mut Vec<u8>, word: Word) -> Result<(), AllocError>
 }
 
 /// Appends words, each behind a space.
-fn push_words(text: &mut Vec<u8>, words: &[Word]) -> Result<(), AllocError>
+fn push_words(text: &mut Vec<u8>, words: &[Word]) -> Result<(), OutOfMemory>
     ensures { OnOk result (text.new.items ≡ text.old.items ++ spaced (map word_text words.now)) }
 {
     for word in words {
@@ -47,7 +47,7 @@ fn push_words(text: &mut Vec<u8>, words: &[Word]) -> Result<(), AllocError>
 const ROOM: usize = 40;
 
 /// The first line of an answer: a word, and words behind it.
-fn line(alloc: Global, first: &'static str, words: &[Word]) -> Result<Vec<u8>, AllocError>
+fn line(alloc: Global, first: &'static str, words: &[Word]) -> Result<Vec<u8>, OutOfMemory>
     ensures { IfOk result (λ text. text.items ≡ first.now ++ spaced (map word_text words.now) ++ codes "\n") }
 {
     let mut text = Vec::with_capacity(alloc, ROOM)?;
@@ -58,21 +58,21 @@ fn line(alloc: Global, first: &'static str, words: &[Word]) -> Result<Vec<u8>, A
 }
 
 /// `ok` and a number: the first line of an answer of so many lines more, or of lines on so many things.
-pub(crate) fn count_line(alloc: Global, number: u64) -> Result<Vec<u8>, AllocError>
+pub(crate) fn count_line(alloc: Global, number: u64) -> Result<Vec<u8>, OutOfMemory>
     ensures { IfOk result (λ text. text.items ≡ ok (decimal number ∷ [])) }
 {
     line(alloc, "ok", &[Word::Number(number)])
 }
 
 /// `ok`, and the words.
-pub(crate) fn ok(alloc: Global, words: &[Word]) -> Result<AnswerText, AllocError>
+pub(crate) fn ok(alloc: Global, words: &[Word]) -> Result<AnswerText, OutOfMemory>
     ensures { IfOk result (λ text. text ≡ ok (map word_text words.now)) }
 {
     Ok(AnswerText::done(line(alloc, "ok", words)?))
 }
 
 /// `refused`, and the words.
-pub(crate) fn refused(alloc: Global, words: &[Word]) -> Result<AnswerText, AllocError>
+pub(crate) fn refused(alloc: Global, words: &[Word]) -> Result<AnswerText, OutOfMemory>
     ensures { IfOk result (λ text. text ≡ refused (map word_text words.now)) }
 {
     Ok(AnswerText::refused(line(alloc, "refused", words)?))

@@ -6,8 +6,9 @@ ghost use Rattle.ndc_world_answers.specs.Refusals.{carried_version, refusal_name
 use crate::text::AnswerText;
 use crate::word::{Word, ok, refused};
 use ndc_command::Refusal;
+use ndc_event::OutOfMemory;
 use ndc_model_cells::{Outcome, Written};
-use std::alloc::{AllocError, Global};
+use std::alloc::Global;
 
 /// The name of a refusal that carries no version.
 fn refusal_name(refusal: Refusal) -> &'static str
@@ -50,7 +51,7 @@ fn carried_version(refusal: Refusal) -> Option<u64>
 }
 
 /// Why a line that writes is refused.
-pub fn refusal(alloc: Global, refusal: Refusal) -> Result<AnswerText, AllocError>
+pub fn refusal(alloc: Global, refusal: Refusal) -> Result<AnswerText, OutOfMemory>
     ensures { IfOk result (λ text. text ≡ refused (refusal_words refusal)) }
 {
     let name = Word::Plain(refusal_name(refusal));
@@ -61,7 +62,7 @@ pub fn refusal(alloc: Global, refusal: Refusal) -> Result<AnswerText, AllocError
 }
 
 /// The keys of what was written.
-fn written(alloc: Global, written: Written) -> Result<AnswerText, AllocError>
+fn written(alloc: Global, written: Written) -> Result<AnswerText, OutOfMemory>
     ensures { IfOk result (λ text. text ≡ ok (written_words written)) }
 {
     match written.second {
@@ -71,7 +72,7 @@ fn written(alloc: Global, written: Written) -> Result<AnswerText, AllocError>
 }
 
 /// What came of a line that writes; a job of another kind has no answer.
-pub fn outcome(alloc: Global, outcome: &Outcome) -> Result<AnswerText, AllocError>
+pub fn outcome(alloc: Global, outcome: &Outcome) -> Result<AnswerText, OutOfMemory>
     ensures { IfOk result (λ text. text ≡ outcome_answer outcome.now) }
 {
     match outcome {

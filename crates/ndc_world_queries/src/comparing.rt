@@ -5,10 +5,10 @@ ghost use Rattle.ndc_world_replication.specs.Found.{batches_or_none};
 ghost use Rattle.ndc_text.specs.Ranges.{InRange};
 ghost use Rattle.ndc_world_queries.specs.Learned.{last_key};
 
-use ndc_event::{Batch, BatchKey, Name};
+use ndc_event::{Batch, BatchKey, Name, OutOfMemory};
 use ndc_shard_runs::Runs;
 use ndc_world_answers::AnswerText;
-use std::alloc::{AllocError, Global};
+use std::alloc::Global;
 
 /// Whether two lists of batches are one.
 fn are_equal(one: &[&Batch], two: &[&Batch]) -> bool
@@ -26,7 +26,7 @@ fn are_equal(one: &[&Batch], two: &[&Batch]) -> bool
 }
 
 /// The batches, none where nothing is learned.
-fn batches_of<'a>(alloc: Global, runs: Option<&'a Runs>) -> Result<Vec<&'a Batch>, AllocError>
+fn batches_of<'a>(alloc: Global, runs: Option<&'a Runs>) -> Result<Vec<&'a Batch>, OutOfMemory>
     ensures { IfOk result (λ list. map (λ b. b.now) list.items ≡ batches_or_none (option_copied runs.entry)) }
 {
     match runs {
@@ -44,7 +44,7 @@ fn last_key(runs: Option<&Runs>) -> Option<BatchKey>
 
 /// Whether two clusters have learned the same of a workflow. Where their greatest keys differ, two look-ups tell that they
 /// have not; else it takes time of the batches. No dump is made.
-pub fn are_same(alloc: Global, one: Option<&Runs>, two: Option<&Runs>) -> Result<bool, AllocError>
+pub fn are_same(alloc: Global, one: Option<&Runs>, two: Option<&Runs>) -> Result<bool, OutOfMemory>
     ensures { IfOk result (λ same. IsTrue same ↔ (batches_or_none (option_copied one.entry) ≡ batches_or_none (option_copied two.entry))) }
 {
     if last_key(one) != last_key(two) {
@@ -63,7 +63,7 @@ pub(crate) fn compare(
     workflow: &Name,
     one: Option<&Runs>,
     two: Option<&Runs>,
-) -> Result<AnswerText, AllocError>
+) -> Result<AnswerText, OutOfMemory>
     requires one { AllByRecursion InRange (batches_or_none (option_copied one)) }
     requires two { AllByRecursion InRange (batches_or_none (option_copied two)) }
     ensures { IfOk result (λ text. text ≡ compare_answer domain.now workflow.now (batches_or_none (option_copied one.entry)) (batches_or_none (option_copied two.entry))) }

@@ -9,12 +9,13 @@ ghost use Rattle.ndc_world_queries.specs.Gaps.{gaps_at};
 
 use ndc_cluster_reads::Reads;
 use ndc_domain::ClusterNo;
+use ndc_event::OutOfMemory;
 use ndc_resend::GapOf;
 use ndc_script_types::Header;
 use ndc_world_answers::AnswerText;
 use ndc_world_replication::Replication;
 use ndc_world_replication::publishers::cell_of;
-use std::alloc::{AllocError, Global};
+use std::alloc::Global;
 
 /// Adds what is put off at a cluster in a shard, in order of place, each batch with the gap before it, as its cell tells it.
 fn add_shard<C: Reads + Drop>(
@@ -24,7 +25,7 @@ fn add_shard<C: Reads + Drop>(
     header: &Header,
     cluster: ClusterNo,
     shard: u32,
-) -> Result<(), AllocError>
+) -> Result<(), OutOfMemory>
     requires cluster { IsCluster header.now cluster }
     requires shard { shard < header.now.shards }
     requires reached { IsReachedSometime header.now replication.now }
@@ -42,7 +43,7 @@ fn all_gaps<C: Reads + Drop>(
     alloc: Global,
     header: &Header,
     cluster: ClusterNo,
-) -> Result<Vec<GapOf>, AllocError>
+) -> Result<Vec<GapOf>, OutOfMemory>
     requires cluster { IsCluster header.now cluster }
     requires reached { IsReachedSometime header.now replication.now }
     ensures { IfOk result (λ gaps. gaps.items ≡ flat_map (gaps_at cluster replication.now) (shards_of header.now)) }
@@ -60,7 +61,7 @@ pub fn gaps<C: Reads + Drop>(
     alloc: Global,
     header: &Header,
     cluster: ClusterNo,
-) -> Result<AnswerText, AllocError>
+) -> Result<AnswerText, OutOfMemory>
     requires cluster { IsCluster header.now cluster }
     requires reached { IsReachedSometime header.now replication.now }
     ensures { IfOk result (λ text. text ≡ gaps_answer header.now cluster replication.now) }

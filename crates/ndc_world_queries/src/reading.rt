@@ -7,12 +7,12 @@ ghost use Rattle.ndc_text.specs.Ranges.{InRange};
 
 use ndc_cluster_reads::Reads;
 use ndc_domain::ClusterNo;
-use ndc_event::Name;
+use ndc_event::{Name, OutOfMemory};
 use ndc_script_types::Header;
 use ndc_world_answers::AnswerText;
 use ndc_world_replication::Replication;
 use ndc_world_replication::publishers::runs_of;
-use std::alloc::{AllocError, Global};
+use std::alloc::Global;
 
 /// `history`.
 pub fn history<C: Reads + Drop>(
@@ -22,7 +22,7 @@ pub fn history<C: Reads + Drop>(
     cluster: ClusterNo,
     domain: &Name,
     workflow: &Name,
-) -> Result<AnswerText, AllocError>
+) -> Result<AnswerText, OutOfMemory>
     requires shards { 0 < header.now.shards }
     requires cluster { IsCluster header.now cluster }
     requires shaped { IsShaped header.now replication.now }
@@ -42,7 +42,7 @@ pub fn branches<C: Reads + Drop>(
     cluster: ClusterNo,
     domain: &Name,
     workflow: &Name,
-) -> Result<AnswerText, AllocError>
+) -> Result<AnswerText, OutOfMemory>
     requires shards { 0 < header.now.shards }
     requires cluster { IsCluster header.now cluster }
     requires shaped { IsShaped header.now replication.now }
@@ -62,7 +62,7 @@ pub fn current<C: Reads + Drop>(
     cluster: ClusterNo,
     domain: &Name,
     workflow: &Name,
-) -> Result<AnswerText, AllocError>
+) -> Result<AnswerText, OutOfMemory>
     requires shards { 0 < header.now.shards }
     requires cluster { IsCluster header.now cluster }
     requires shaped { IsShaped header.now replication.now }
@@ -82,7 +82,7 @@ pub fn state<C: Reads + Drop>(
     cluster: ClusterNo,
     domain: &Name,
     workflow: &Name,
-) -> Result<AnswerText, AllocError>
+) -> Result<AnswerText, OutOfMemory>
     requires shards { 0 < header.now.shards }
     requires cluster { IsCluster header.now cluster }
     requires shaped { IsShaped header.now replication.now }
@@ -102,7 +102,7 @@ pub fn dump<C: Reads + Drop>(
     cluster: ClusterNo,
     domain: &Name,
     workflow: &Name,
-) -> Result<AnswerText, AllocError>
+) -> Result<AnswerText, OutOfMemory>
     requires shards { 0 < header.now.shards }
     requires cluster { IsCluster header.now cluster }
     requires shaped { IsShaped header.now replication.now }
@@ -123,7 +123,7 @@ pub fn compare<C: Reads + Drop>(
     two: ClusterNo,
     domain: &Name,
     workflow: &Name,
-) -> Result<AnswerText, AllocError>
+) -> Result<AnswerText, OutOfMemory>
     requires shards { 0 < header.now.shards }
     requires one { IsCluster header.now one }
     requires two { IsCluster header.now two }

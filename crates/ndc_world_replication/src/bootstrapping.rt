@@ -17,11 +17,11 @@ use crate::working::Done;
 use ndc_cluster_links::Link;
 use ndc_cluster_rounds::Cell;
 use ndc_domain::ClusterNo;
-use ndc_event::Name;
+use ndc_event::{Name, OutOfMemory};
 use ndc_model_cells::ShardJob;
 use ndc_port::Gate;
 use ndc_script_types::Header;
-use std::alloc::{AllocError, Global};
+use std::alloc::Global;
 use std::thread::Threads;
 
 /// Jobs in which all arrives that cells have learned of some domains, by shard and then by place. Where there is no domain,
@@ -31,7 +31,7 @@ fn learned_jobs<C: Cell>(
     cells: &[C],
     domains: &[Name],
     shards: u32,
-) -> Result<Vec<ShardJob>, AllocError>
+) -> Result<Vec<ShardJob>, OutOfMemory>
     requires { length cells.now ≡ shards }
     ensures { IfOk result (λ jobs. jobs.items ≡ all_arrive (λ shard. learned_of_domains domains.now (cell_for shard (map C.cell cells.now))) (range_with_len 0 shards)) }
 {
@@ -65,7 +65,7 @@ impl<C: Cell + Drop> Replication<C> {
         header: &Header,
         reader: ClusterNo,
         source: ClusterNo,
-    ) -> Result<Vec<ShardJob>, AllocError>
+    ) -> Result<Vec<ShardJob>, OutOfMemory>
         requires source { IsCluster header.now source }
         requires shaped { IsShaped header.now self.now }
         ensures { IfOk result (λ jobs. jobs.items ≡ late_jobs header.now reader source self.now) }
@@ -99,7 +99,7 @@ impl<C: Cell + Drop> Replication<C> {
         header: &Header,
         reader: ClusterNo,
         source: ClusterNo,
-    ) -> Result<Done, AllocError>
+    ) -> Result<Done, OutOfMemory>
     where
         C: Send,
         requires workers { 0 < workers }

@@ -8,10 +8,10 @@ ghost use Rattle.ndc_resend.specs.Bringing.{new_of, put_new};
 ghost use Rattle.ndc_world_replication.specs.Brought.{AreKeysOf};
 
 use ndc_cluster_reads::Reads;
-use ndc_event::BatchKey;
+use ndc_event::{BatchKey, OutOfMemory};
 use ndc_model_cells::Message;
 use ndc_model_sets::KeySet;
-use std::alloc::{AllocError, Global};
+use std::alloc::Global;
 use std::collections::BTreeMap;
 use std::marker::Model;
 
@@ -48,7 +48,7 @@ impl Brought {
     }
 
     /// Puts the message to its place, or to that of the one whose batch has its key.
-    fn put(&mut self, message: Message) -> Result<(), AllocError>
+    fn put(&mut self, message: Message) -> Result<(), OutOfMemory>
         ensures { OnOk result (self.new ≡ with_brought message self.old) }
     {
         self.map.insert(message.batch.key, message)?;
@@ -56,7 +56,7 @@ impl Brought {
     }
 
     /// The messages, in key order.
-    fn into_list(self, alloc: Global) -> Result<Vec<Message>, AllocError>
+    fn into_list(self, alloc: Global) -> Result<Vec<Message>, OutOfMemory>
         ensures { IfOk result (λ list. list.items ≡ self) }
     {
         self.map.into_values().collect(alloc)
@@ -64,7 +64,7 @@ impl Brought {
 }
 
 /// Puts a message to its place, where its batch has not arrived in the cell.
-fn put_new<C: Reads>(brought: &mut Brought, cell: &C, message: Message) -> Result<(), AllocError>
+fn put_new<C: Reads>(brought: &mut Brought, cell: &C, message: Message) -> Result<(), OutOfMemory>
     ensures { OnOk result (brought.new ≡ put_new (C.cell cell.now) brought.old (message ∷ [])) }
 {
     let batch = &message.batch;
@@ -79,7 +79,7 @@ pub(crate) fn new_of<C: Reads>(
     alloc: Global,
     cell: &C,
     messages: Vec<Message>,
-) -> Result<Vec<Message>, AllocError>
+) -> Result<Vec<Message>, OutOfMemory>
     ensures { IfOk result (λ list. list.items ≡ new_of (C.cell cell.now) messages.items) }
 {
     let mut brought = Brought::new(alloc);
@@ -90,7 +90,7 @@ pub(crate) fn new_of<C: Reads>(
 }
 
 /// The keys with those of the batches of a message.
-fn put_keys(keys: &mut KeySet, message: &Message) -> Result<(), AllocError>
+fn put_keys(keys: &mut KeySet, message: &Message) -> Result<(), OutOfMemory>
     ensures { OnOk result ((key : Key) → is_key_among key keys.new ≡ (has_key (Some key) (both message.now) || is_key_among key keys.old)) }
 {
     keys.put(message.batch.key)?;
@@ -105,7 +105,7 @@ fn add_one(
     messages: &mut Vec<Message>,
     keys: &mut KeySet,
     message: Message,
-) -> Result<(), AllocError>
+) -> Result<(), OutOfMemory>
     ensures messages { OnOk result (messages.new.items ≡ messages.old.items ++ message ∷ []) }
     ensures keys { OnOk result (AreKeysOf messages.old.items keys.old → AreKeysOf messages.new.items keys.new) }
 {
@@ -119,7 +119,7 @@ pub(crate) fn add_all(
     messages: &mut Vec<Message>,
     keys: &mut KeySet,
     more: Vec<Message>,
-) -> Result<(), AllocError>
+) -> Result<(), OutOfMemory>
     ensures messages { OnOk result (messages.new.items ≡ messages.old.items ++ more.items) }
     ensures keys { OnOk result (AreKeysOf messages.old.items keys.old → AreKeysOf messages.new.items keys.new) }
 {

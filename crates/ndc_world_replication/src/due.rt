@@ -12,10 +12,11 @@ use crate::taking::add_jobs;
 use crate::working::Done;
 use ndc_cluster_rounds::Cell;
 use ndc_domain::ClusterNo;
+use ndc_event::OutOfMemory;
 use ndc_model_cells::ShardJob;
 use ndc_port::Gate;
 use ndc_script_types::Header;
-use std::alloc::{AllocError, Global};
+use std::alloc::Global;
 use std::thread::Threads;
 
 impl<C: Cell + Drop> Replication<C> {
@@ -25,7 +26,7 @@ impl<C: Cell + Drop> Replication<C> {
         alloc: Global,
         header: &Header,
         reader: ClusterNo,
-    ) -> Result<Vec<usize>, AllocError>
+    ) -> Result<Vec<usize>, OutOfMemory>
         requires orderly { IsOrderly header.now self.now }
         ensures places { IfOk result (λ places. AllByRecursion (λ place. place < length self.now.links) places.items) }
         ensures due { IfOk result (λ places. (shard : ℕ) → shard < header.now.shards
@@ -55,7 +56,7 @@ impl<C: Cell + Drop> Replication<C> {
         header: &Header,
         places: &[usize],
         shard: u32,
-    ) -> Result<(), AllocError>
+    ) -> Result<(), OutOfMemory>
         requires shard { shard < header.now.shards }
         requires orderly { IsOrderly header.now self.now }
         requires places { AllByRecursion (λ place. place < length self.now.links) places.now }
@@ -82,7 +83,7 @@ impl<C: Cell + Drop> Replication<C> {
         alloc: Global,
         header: &Header,
         reader: ClusterNo,
-    ) -> Result<Vec<ShardJob>, AllocError>
+    ) -> Result<Vec<ShardJob>, OutOfMemory>
         requires orderly { IsOrderly header.now self.now }
         ensures { IfOk result (λ jobs. jobs.items ≡ due_jobs header.now reader self.now) }
     {
@@ -108,7 +109,7 @@ impl<C: Cell + Drop> Replication<C> {
         workers: u32,
         header: &Header,
         reader: ClusterNo,
-    ) -> Result<Done, AllocError>
+    ) -> Result<Done, OutOfMemory>
     where
         C: Send,
         requires workers { 0 < workers }

@@ -4,9 +4,8 @@ ghost use Rattle.ndc_model.specs.Handovers.{is_handover_of, with_handover, witho
 
 use crate::replication::Replication;
 use ndc_cluster_rounds::Cell;
-use ndc_event::Name;
+use ndc_event::{Name, OutOfMemory};
 use ndc_graceful::Handover;
-use std::alloc::AllocError;
 
 /// Takes the handovers of a domain out.
 fn take_out(handovers: &mut Vec<Handover>, domain: &Name)
@@ -17,7 +16,7 @@ fn take_out(handovers: &mut Vec<Handover>, domain: &Name)
 
 impl<C: Cell + Drop> Replication<C> {
     /// Opens a handover. Where memory runs out, all stays as it was.
-    pub fn open_handover(&mut self, handover: Handover) -> Result<(), AllocError>
+    pub fn open_handover(&mut self, handover: Handover) -> Result<(), OutOfMemory>
         ensures opened { OnOk result (self.new ≡ with_handover handover self.old) }
         ensures unchanged { OnErr result (self.new ≡ self.old) }
     {

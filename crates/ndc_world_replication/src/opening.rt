@@ -10,8 +10,9 @@ use crate::replication::Replication;
 use ndc_cluster_links::Link;
 use ndc_cluster_rounds::Cell;
 use ndc_domain::ClusterNo;
+use ndc_event::OutOfMemory;
 use ndc_script_types::{Header, clusters_below};
-use std::alloc::{AllocError, Global};
+use std::alloc::Global;
 
 /// Adds what a reader has of each other of these clusters in the beginning, in order.
 fn add_links(
@@ -20,7 +21,7 @@ fn add_links(
     header: &Header,
     clusters: &[ClusterNo],
     reader: ClusterNo,
-) -> Result<(), AllocError>
+) -> Result<(), OutOfMemory>
     requires { header.now.shards ≤ 64 }
     ensures { OnOk result (links.new.items ≡ links.old.items ++ links_of header.now clusters.now reader) }
 {
@@ -37,7 +38,7 @@ fn opening_links(
     alloc: Global,
     header: &Header,
     clusters: &[ClusterNo],
-) -> Result<Vec<Link>, AllocError>
+) -> Result<Vec<Link>, OutOfMemory>
     requires { header.now.shards ≤ 64 }
     ensures { IfOk result (λ links. links.items ≡ flat_map (links_of header.now clusters.now) clusters.now) }
 {
@@ -53,7 +54,7 @@ fn opening_publishers<C: Cell + Drop>(
     alloc: Global,
     header: &Header,
     clusters: &[ClusterNo],
-) -> Result<Vec<Publisher<C>>, AllocError>
+) -> Result<Vec<Publisher<C>>, OutOfMemory>
     requires { header.now.shards ≤ 64 }
     ensures { IfOk result (λ publishers. publishers.items ≡ map (λ _. opening_publisher header.now.shards) clusters.now) }
 {
@@ -67,7 +68,7 @@ fn opening_publishers<C: Cell + Drop>(
 
 impl<C: Cell + Drop> Replication<C> {
     /// The clusters of a header in the beginning: nothing is registered, written or sent.
-    pub fn new(alloc: Global, header: &Header) -> Result<Replication<C>, AllocError>
+    pub fn new(alloc: Global, header: &Header) -> Result<Replication<C>, OutOfMemory>
         requires { header.now.shards ≤ 64 }
         ensures { IfOk result (λ replication. replication ≡ opening_world header.now) }
     {

@@ -12,13 +12,13 @@ use ndc_cluster_rounds::{Cell, Desk, Fresh, Home};
 use ndc_domain::{
     ClusterNo, Clusters, DomainError, DomainTable, FailoverError, JoinError, Members, RetainError,
 };
-use ndc_event::Name;
+use ndc_event::{Name, OutOfMemory};
 use ndc_graceful::{BeginError, Handover};
 use ndc_letters::Letters;
 use ndc_model_cells::{Job, JobReply, ShardJob};
 use ndc_port::Gate;
 use ndc_script_types::Header;
-use std::alloc::{AllocError, Global};
+use std::alloc::Global;
 use std::marker::Model;
 use std::mem;
 use std::thread::Threads;
@@ -72,7 +72,7 @@ fn extend_asked<C: Cell>(
     queues: &mut Queues,
     cells: &[C],
     jobs: &[ShardJob],
-) -> Result<(), AllocError>
+) -> Result<(), OutOfMemory>
     requires alike { length cells.now ≡ length queues.old }
     requires shards { AllByRecursion (λ asked. asked.shard < length queues.old) jobs.now }
     requires fronts { AreFronts queues.old (λ shard. (cell_for shard (map C.cell cells.now)).written) }
@@ -92,7 +92,7 @@ fn extend_all<C: Cell>(
     queues: &mut Queues,
     cells: &[C],
     fresh: Vec<Fresh>,
-) -> Result<(), AllocError>
+) -> Result<(), OutOfMemory>
     requires alike { length cells.now ≡ length queues.old }
     requires fresh { AreFresh fresh.items (map C.cell cells.now) }
     requires fronts { AreFronts queues.old (λ shard. (cell_for shard (map C.cell cells.now)).written) }
@@ -116,7 +116,7 @@ fn extend_queues<C: Cell>(
     cells: &[C],
     jobs: &[ShardJob],
     fresh: Option<Vec<Fresh>>,
-) -> Result<(), AllocError>
+) -> Result<(), OutOfMemory>
     requires alike { length cells.now ≡ length queues.old }
     requires shards { AllByRecursion (λ asked. asked.shard < length queues.old) jobs.now }
     requires fronts { AreFronts queues.old (λ shard. (cell_for shard (map C.cell cells.now)).written) }
@@ -151,7 +151,7 @@ impl<C: Cell + Drop> Publisher<C> {
     ghost use Rattle.ndc_graceful.specs.declared.handover.BeginError.TheVariants as begin_error;
 
     /// A cluster in the beginning, of so many cells, at most 64, in which nothing has happened.
-    pub fn new(alloc: Global, home: &Home, shards: u32) -> Result<Publisher<C>, AllocError>
+    pub fn new(alloc: Global, home: &Home, shards: u32) -> Result<Publisher<C>, OutOfMemory>
         requires { shards ≤ 64 }
         ensures { IfOk result (λ publisher. publisher ≡ opening_publisher shards) }
     {
@@ -327,7 +327,7 @@ impl<C: Cell + Drop> Publisher<C> {
         alloc: Global,
         home: &Home,
         shards: u32,
-    ) -> Result<Vec<ShardJob>, AllocError>
+    ) -> Result<Vec<ShardJob>, OutOfMemory>
         requires { length self.now.cluster.cells ≡ shards }
         ensures { IfOk result (λ jobs. AreChosen (desk_of home.now self.now.cluster.table) self.now.cluster.cells shards 0 jobs.items) }
     {
@@ -353,7 +353,7 @@ impl<C: Cell + Drop> Publisher<C> {
         workers: u32,
         home: &Home,
         jobs: &[ShardJob],
-    ) -> Result<Vec<JobReply>, AllocError>
+    ) -> Result<Vec<JobReply>, OutOfMemory>
     where
         C: Send,
         requires workers { 0 < workers }

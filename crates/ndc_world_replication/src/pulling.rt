@@ -9,8 +9,8 @@ use crate::replication::Replication;
 use ndc_cluster_links::Link;
 use ndc_cluster_rounds::Cell;
 use ndc_domain::ClusterNo;
+use ndc_event::OutOfMemory;
 use ndc_script_types::Header;
-use std::alloc::AllocError;
 
 /// Where what a reader has of a source stands among the links.
 pub(crate) fn link_place(links: &[Link], reader: ClusterNo, source: ClusterNo) -> Option<usize>
@@ -27,7 +27,7 @@ impl<C: Cell + Drop> Replication<C> {
         header: &Header,
         reader: ClusterNo,
         source: ClusterNo,
-    ) -> Result<u64, AllocError>
+    ) -> Result<u64, OutOfMemory>
         requires source { IsCluster header.now source }
         requires orderly { IsOrderly header.now self.old }
         ensures pulled { OnOk result (self.new ≡ pulled_all reader source self.old) }
@@ -50,7 +50,7 @@ impl<C: Cell + Drop> Replication<C> {
         source: ClusterNo,
         shard: u32,
         count: u64,
-    ) -> Result<u64, AllocError>
+    ) -> Result<u64, OutOfMemory>
         requires ends { AreTwoClusters header.now reader source }
         requires shard { shard < header.now.shards }
         requires orderly { IsOrderly header.now self.old }

@@ -17,11 +17,11 @@ use ndc_cluster_rounds::Cell;
 use ndc_domain::{
     ClusterNo, DomainError, DomainTable, FailoverError, JoinError, Members, RetainError,
 };
-use ndc_event::Name;
+use ndc_event::{Name, OutOfMemory};
 use ndc_graceful::{BeginError, Handover};
 use ndc_letters::Letters;
 use ndc_script_types::Header;
-use std::alloc::{AllocError, Global};
+use std::alloc::Global;
 
 /// The readers of a source note the domains whose record does not name them and does in another table. After want of memory
 /// some have noted them.
@@ -31,7 +31,7 @@ fn note_late(
     source: ClusterNo,
     before: &DomainTable,
     after: &DomainTable,
-) -> Result<(), AllocError>
+) -> Result<(), OutOfMemory>
     ensures { OnOk result (links.new.items ≡ map (with_late source before.now after.now) links.old.items) }
 {
     for place in 0..links.len() {
@@ -49,7 +49,7 @@ fn add_late(
     source: ClusterNo,
     reader: ClusterNo,
     domain: &Name,
-) -> Result<(), AllocError>
+) -> Result<(), OutOfMemory>
     ensures { OnOk result (links.new.items ≡ map (with_late_domain reader source domain.now) links.old.items) }
 {
     for place in 0..links.len() {
@@ -69,7 +69,7 @@ fn merge_into(
     cluster: ClusterNo,
     ours: &mut DomainTable,
     theirs: &DomainTable,
-) -> Result<u64, AllocError>
+) -> Result<u64, OutOfMemory>
     ensures table { OnOk result (ours.new ≡ merged ours.old theirs.now) }
     ensures links { OnOk result (links.new.items ≡ map (with_late cluster ours.old (merged ours.old theirs.now)) links.old.items) }
     ensures count { IfOk result (λ count. count ≡ merge_count ours.old theirs.now) }
@@ -167,7 +167,7 @@ impl<C: Cell + Drop> Replication<C> {
         at: ClusterNo,
         domain: &Name,
         member: ClusterNo,
-    ) -> Result<Result<(), JoinError>, AllocError>
+    ) -> Result<Result<(), JoinError>, OutOfMemory>
         requires at { at.number < length self.old.clusters }
         requires member { member.number < 8 }
         ensures answer { IfOk result (λ joined. Answers (λ _. self.new) joined (table_left at self.old (join_of at domain.now member (cluster_at at self.old).table))) }
@@ -188,7 +188,7 @@ impl<C: Cell + Drop> Replication<C> {
         alloc: Global,
         to: ClusterNo,
         from: ClusterNo,
-    ) -> Result<u64, AllocError>
+    ) -> Result<u64, OutOfMemory>
         requires to { to.number < length self.old.clusters }
         requires from { from.number < length self.old.clusters }
         requires apart { to.number ≢ from.number }
@@ -213,7 +213,7 @@ impl<C: Cell + Drop> Replication<C> {
         to: ClusterNo,
         from: ClusterNo,
         domain: &Name,
-    ) -> Result<(), AllocError>
+    ) -> Result<(), OutOfMemory>
         requires to { to.number < length self.old.clusters }
         requires from { from.number < length self.old.clusters }
         ensures { OnOk result (self.new ≡ with_table to (merged (cluster_at to self.old).table (only_of (cluster_at from self.old).table domain.now)) self.old) }

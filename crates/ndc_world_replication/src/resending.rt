@@ -21,12 +21,13 @@ use crate::taking::add_jobs;
 use crate::working::Done;
 use ndc_cluster_reads::Reads;
 use ndc_domain::ClusterNo;
+use ndc_event::OutOfMemory;
 use ndc_model_cells::{Message, Place, ShardJob};
 use ndc_model_sets::KeySet;
 use ndc_port::Gate;
 use ndc_resend::GapOf;
 use ndc_script_types::Header;
-use std::alloc::{AllocError, Global};
+use std::alloc::Global;
 use std::thread::Threads;
 
 impl<C: Reads + Drop> Replication<C> {
@@ -58,7 +59,7 @@ impl<C: Reads + Drop> Replication<C> {
         header: &Header,
         shard: u32,
         gap: &GapOf,
-    ) -> Result<Vec<Message>, AllocError>
+    ) -> Result<Vec<Message>, OutOfMemory>
         requires shard { shard < header.now.shards }
         requires shaped { IsShaped header.now self.now }
         ensures { IfOk result (λ list. list.items ≡ served_by_author header.now shard self.now gap.now) }
@@ -78,7 +79,7 @@ impl<C: Reads + Drop> Replication<C> {
         messages: &mut Vec<Message>,
         keys: &mut KeySet,
         gap: &GapOf,
-    ) -> Result<(), AllocError>
+    ) -> Result<(), OutOfMemory>
         requires shard { shard < header.now.shards }
         requires shaped { IsShaped header.now self.now }
         requires keys { AreKeysOf messages.old.items keys.old }
@@ -99,7 +100,7 @@ impl<C: Reads + Drop> Replication<C> {
         header: &Header,
         shard: u32,
         gaps: Vec<GapOf>,
-    ) -> Result<Vec<Message>, AllocError>
+    ) -> Result<Vec<Message>, OutOfMemory>
         requires shard { shard < header.now.shards }
         requires shaped { IsShaped header.now self.now }
         ensures { IfOk result (λ list. list.items ≡ asked_from (served_by_author header.now shard self.now) [] gaps.items) }
@@ -121,7 +122,7 @@ impl<C: Reads + Drop> Replication<C> {
         reader: ClusterNo,
         shard: u32,
         place: &Place,
-    ) -> Result<Vec<Message>, AllocError>
+    ) -> Result<Vec<Message>, OutOfMemory>
         requires reader { IsCluster header.now reader }
         requires shard { shard < header.now.shards }
         requires reached { IsReachedSometime header.now self.now }
@@ -144,7 +145,7 @@ impl<C: Reads + Drop> Replication<C> {
         reader: ClusterNo,
         shard: u32,
         places: &[Place],
-    ) -> Result<(), AllocError>
+    ) -> Result<(), OutOfMemory>
         requires reader { IsCluster header.now reader }
         requires shard { shard < header.now.shards }
         requires reached { IsReachedSometime header.now self.now }
@@ -166,7 +167,7 @@ impl<C: Reads + Drop> Replication<C> {
         header: &Header,
         reader: ClusterNo,
         shard: u32,
-    ) -> Result<(), AllocError>
+    ) -> Result<(), OutOfMemory>
         requires reader { IsCluster header.now reader }
         requires shard { shard < header.now.shards }
         requires reached { IsReachedSometime header.now self.now }
@@ -185,7 +186,7 @@ impl<C: Reads + Drop> Replication<C> {
         alloc: Global,
         header: &Header,
         reader: ClusterNo,
-    ) -> Result<Vec<ShardJob>, AllocError>
+    ) -> Result<Vec<ShardJob>, OutOfMemory>
         requires reader { IsCluster header.now reader }
         requires reached { IsReachedSometime header.now self.now }
         ensures { IfOk result (λ jobs. jobs.items ≡ again_jobs header.now reader self.now) }
@@ -209,7 +210,7 @@ impl<C: Reads + Drop> Replication<C> {
         workers: u32,
         header: &Header,
         reader: ClusterNo,
-    ) -> Result<Done, AllocError>
+    ) -> Result<Done, OutOfMemory>
     where
         C: Send,
         requires workers { 0 < workers }

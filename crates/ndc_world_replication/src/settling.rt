@@ -16,9 +16,10 @@ use crate::working::Done;
 use ndc_cluster_links::Link;
 use ndc_cluster_rounds::Cell;
 use ndc_domain::{ClusterNo, DomainTable};
+use ndc_event::OutOfMemory;
 use ndc_port::Gate;
 use ndc_script_types::{Header, clusters_below};
-use std::alloc::{AllocError, Global};
+use std::alloc::Global;
 use std::thread::Threads;
 
 /// The clusters other than this one.
@@ -27,7 +28,7 @@ fn others_of(
     header: &Header,
     clusters: &[ClusterNo],
     cluster: ClusterNo,
-) -> Result<Vec<ClusterNo>, AllocError>
+) -> Result<Vec<ClusterNo>, OutOfMemory>
     requires { clusters.now ≡ all_clusters header.now }
     ensures { IfOk result (λ others. others.items ≡ others_of header.now cluster) }
 {
@@ -93,7 +94,7 @@ impl<C: Cell + Drop> Replication<C> {
         header: &Header,
         cluster: ClusterNo,
         others: &[ClusterNo],
-    ) -> Result<(), AllocError>
+    ) -> Result<(), OutOfMemory>
         requires cluster { IsCluster header.now cluster }
         requires others { others.now ≡ others_of header.now cluster }
         requires orderly { IsOrderly header.now self.old }
@@ -112,7 +113,7 @@ impl<C: Cell + Drop> Replication<C> {
         alloc: Global,
         header: &Header,
         clusters: &[ClusterNo],
-    ) -> Result<(), AllocError>
+    ) -> Result<(), OutOfMemory>
         requires clusters { clusters.now ≡ all_clusters header.now }
         requires orderly { IsOrderly header.now self.old }
         ensures merged { OnOk result (self.new ≡ tables_merged header.now self.old) }
@@ -156,7 +157,7 @@ impl<C: Cell + Drop> Replication<C> {
         header: &Header,
         clusters: &[ClusterNo],
         dones: &mut Vec<Done>,
-    ) -> Result<(), AllocError>
+    ) -> Result<(), OutOfMemory>
     where
         C: Send,
         requires workers { 0 < workers }
@@ -183,7 +184,7 @@ impl<C: Cell + Drop> Replication<C> {
         header: &Header,
         clusters: &[ClusterNo],
         dones: &mut Vec<Done>,
-    ) -> Result<(), AllocError>
+    ) -> Result<(), OutOfMemory>
     where
         C: Send,
         requires workers { 0 < workers }
@@ -214,7 +215,7 @@ impl<C: Cell + Drop> Replication<C> {
         reader: ClusterNo,
         sources: &[ClusterNo],
         dones: &mut Vec<Done>,
-    ) -> Result<(), AllocError>
+    ) -> Result<(), OutOfMemory>
     where
         C: Send,
         requires workers { 0 < workers }
@@ -248,7 +249,7 @@ impl<C: Cell + Drop> Replication<C> {
         header: &Header,
         clusters: &[ClusterNo],
         dones: &mut Vec<Done>,
-    ) -> Result<(), AllocError>
+    ) -> Result<(), OutOfMemory>
     where
         C: Send,
         requires workers { 0 < workers }
@@ -276,7 +277,7 @@ impl<C: Cell + Drop> Replication<C> {
         header: &Header,
         clusters: &[ClusterNo],
         dones: &mut Vec<Done>,
-    ) -> Result<(), AllocError>
+    ) -> Result<(), OutOfMemory>
     where
         C: Send,
         requires workers { 0 < workers }
@@ -303,7 +304,7 @@ impl<C: Cell + Drop> Replication<C> {
         gate: &G,
         workers: u32,
         header: &Header,
-    ) -> Result<Vec<Done>, AllocError>
+    ) -> Result<Vec<Done>, OutOfMemory>
     where
         C: Send,
         requires workers { 0 < workers }

@@ -5,16 +5,17 @@ ghost use Rattle.ndc_world_replication.specs.Flights.{emptied, emptied_at};
 
 use ndc_cluster_links::Link;
 use ndc_domain::ClusterNo;
+use ndc_event::OutOfMemory;
 use ndc_model_cells::{Job, ShardJob};
 use ndc_queue::Message;
-use std::alloc::{AllocError, Global};
+use std::alloc::Global;
 
 /// A job for each of these messages to arrive, in order. Where there is none, this is one comparison.
 pub(crate) fn add_jobs(
     jobs: &mut Vec<ShardJob>,
     shard: u32,
     messages: Vec<Message>,
-) -> Result<(), AllocError>
+) -> Result<(), OutOfMemory>
     ensures { OnOk result (jobs.new.items ≡ jobs.old.items ++ map (arrives shard) messages.items) }
 {
     if messages.is_empty() {
@@ -24,7 +25,11 @@ pub(crate) fn add_jobs(
 }
 
 /// The same, of any messages.
-fn push_jobs(jobs: &mut Vec<ShardJob>, shard: u32, messages: Vec<Message>) -> Result<(), AllocError>
+fn push_jobs(
+    jobs: &mut Vec<ShardJob>,
+    shard: u32,
+    messages: Vec<Message>,
+) -> Result<(), OutOfMemory>
     ensures { OnOk result (jobs.new.items ≡ jobs.old.items ++ map (arrives shard) messages.items) }
 {
     for message in messages {
@@ -43,7 +48,7 @@ fn take_from(
     link: &mut Link,
     reader: ClusterNo,
     shard: u32,
-) -> Result<(), AllocError>
+) -> Result<(), OutOfMemory>
     requires { shard < length link.old.lanes }
     ensures link { OnOk result (link.new ≡ emptied_at reader shard link.old) }
     ensures jobs { OnOk result (jobs.new.items ≡ jobs.old.items ++ map (arrives shard) (by_link reader in_flight (link.old ∷ []) shard)) }
@@ -68,7 +73,7 @@ fn take_shard(
     links: &mut [Link],
     reader: ClusterNo,
     shard: u32,
-) -> Result<(), AllocError>
+) -> Result<(), OutOfMemory>
     requires { AllByRecursion (λ link. shard < length link.lanes) links.old }
     ensures links { OnOk result (links.new ≡ map (emptied_at reader shard) links.old) }
     ensures jobs { OnOk result (jobs.new.items ≡ jobs.old.items ++ map (arrives shard) (by_link reader in_flight links.old shard)) }
@@ -86,7 +91,7 @@ fn take_shards(
     links: &mut [Link],
     reader: ClusterNo,
     shards: u32,
-) -> Result<Vec<ShardJob>, AllocError>
+) -> Result<Vec<ShardJob>, OutOfMemory>
     requires { AllByRecursion (λ link. length link.lanes ≡ shards) links.old }
     ensures links { OnOk result (links.new ≡ map (emptied reader) links.old) }
     ensures jobs { IfOk result (λ jobs. jobs.items ≡ all_arrive (by_link reader in_flight links.old) (range_with_len 0 shards)) }
@@ -151,7 +156,7 @@ fn take_busy(
     links: &mut [Link],
     reader: ClusterNo,
     shards: u32,
-) -> Result<Vec<ShardJob>, AllocError>
+) -> Result<Vec<ShardJob>, OutOfMemory>
     requires { AllByRecursion (λ link. length link.lanes ≡ shards) links.old }
     ensures links { OnOk result (links.new ≡ map (emptied reader) links.old) }
     ensures jobs { IfOk result (λ jobs. jobs.items ≡ all_arrive (by_link reader in_flight links.old) (range_with_len 0 shards)) }
@@ -170,7 +175,7 @@ pub(crate) fn take_all(
     links: &mut [Link],
     reader: ClusterNo,
     shards: u32,
-) -> Result<Vec<ShardJob>, AllocError>
+) -> Result<Vec<ShardJob>, OutOfMemory>
     requires { AllByRecursion (λ link. length link.lanes ≡ shards) links.old }
     ensures links { OnOk result (links.new ≡ map (emptied reader) links.old) }
     ensures jobs { IfOk result (λ jobs. jobs.items ≡ all_arrive (by_link reader in_flight links.old) (range_with_len 0 shards)) }

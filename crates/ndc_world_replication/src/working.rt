@@ -16,10 +16,11 @@ use crate::replication::Replication;
 use crate::taking::take_all;
 use ndc_cluster_rounds::Cell;
 use ndc_domain::ClusterNo;
+use ndc_event::OutOfMemory;
 use ndc_model_cells::{JobReply, ShardJob};
 use ndc_port::Gate;
 use ndc_script_types::Header;
-use std::alloc::{AllocError, Global};
+use std::alloc::Global;
 use std::thread::Threads;
 
 /// Jobs that a cluster has done, with the reply to each.
@@ -58,7 +59,7 @@ impl<C: Cell + Drop> Replication<C> {
         header: &Header,
         cluster: ClusterNo,
         jobs: &[ShardJob],
-    ) -> Result<Vec<JobReply>, AllocError>
+    ) -> Result<Vec<JobReply>, OutOfMemory>
     where
         C: Send,
         requires workers { 0 < workers }
@@ -86,7 +87,7 @@ impl<C: Cell + Drop> Replication<C> {
         header: &Header,
         cluster: ClusterNo,
         jobs: Vec<ShardJob>,
-    ) -> Result<Done, AllocError>
+    ) -> Result<Done, OutOfMemory>
     where
         C: Send,
         requires workers { 0 < workers }
@@ -113,7 +114,7 @@ impl<C: Cell + Drop> Replication<C> {
         alloc: Global,
         header: &Header,
         reader: ClusterNo,
-    ) -> Result<Vec<ShardJob>, AllocError>
+    ) -> Result<Vec<ShardJob>, OutOfMemory>
         requires shaped { IsShaped header.now self.old }
         ensures taken { OnOk result (self.new ≡ without_flights_to reader self.old) }
         ensures jobs { IfOk result (λ jobs. jobs.items ≡ flight_jobs header.now reader self.old) }
@@ -133,7 +134,7 @@ impl<C: Cell + Drop> Replication<C> {
         workers: u32,
         header: &Header,
         reader: ClusterNo,
-    ) -> Result<Done, AllocError>
+    ) -> Result<Done, OutOfMemory>
     where
         C: Send,
         requires workers { 0 < workers }
@@ -154,7 +155,7 @@ impl<C: Cell + Drop> Replication<C> {
         alloc: Global,
         header: &Header,
         cluster: ClusterNo,
-    ) -> Result<Vec<ShardJob>, AllocError>
+    ) -> Result<Vec<ShardJob>, OutOfMemory>
         requires cluster { IsCluster header.now cluster }
         requires shaped { IsShaped header.now self.now }
         ensures { IfOk result (λ jobs. AreChosen (home_at header.now cluster self.now) (cluster_at cluster self.now).cells header.now.shards 0 jobs.items) }
@@ -175,7 +176,7 @@ impl<C: Cell + Drop> Replication<C> {
         workers: u32,
         header: &Header,
         cluster: ClusterNo,
-    ) -> Result<Done, AllocError>
+    ) -> Result<Done, OutOfMemory>
     where
         C: Send,
         requires workers { 0 < workers }
@@ -206,7 +207,7 @@ impl<C: Cell + Drop> Replication<C> {
         workers: u32,
         header: &Header,
         reader: ClusterNo,
-    ) -> Result<Worked, AllocError>
+    ) -> Result<Worked, OutOfMemory>
     where
         C: Send,
         requires workers { 0 < workers }

@@ -6,10 +6,11 @@ ghost use Rattle.ndc_world.specs.Counts.{refused_in};
 ghost use Rattle.ndc_world_report.specs.Rest.{last_world};
 
 use ndc_cluster_reads::Reads;
+use ndc_event::OutOfMemory;
 use ndc_port::Gate;
 use ndc_script_types::Script;
 use ndc_world::World;
-use std::alloc::{AllocError, Global};
+use std::alloc::Global;
 use std::thread::Threads;
 
 /// Runs a script on so many workers at most, behind the gate, and writes nothing; gives the world that its last line
@@ -20,7 +21,7 @@ pub fn last_world<'a, R: Threads + Sync, G: Gate, C: Reads + Drop + Send>(
     gate: &G,
     workers: u32,
     script: &'a Script,
-) -> Result<World<'a, C>, AllocError>
+) -> Result<World<'a, C>, OutOfMemory>
     requires workers { 0 < workers }
     requires script { IsWellFormed script.now }
     ensures unspent { IfOk result (λ world. world.spent ≡ false) }

@@ -14,11 +14,12 @@ ghost use Rattle.ndc_world.specs.Running.{ran_at};
 
 use crate::error::RunError;
 use ndc_cluster_reads::Reads;
+use ndc_event::OutOfMemory;
 use ndc_index::{Indexers, Seen};
 use ndc_port::{Gate, Sink, write_all};
 use ndc_script_types::{Line, Script};
 use ndc_world::{Answer, World};
-use std::alloc::{AllocError, Global};
+use std::alloc::Global;
 use std::thread::Threads;
 
 /// Runs a line and writes its answers in one piece; gives what it made learned.
@@ -51,7 +52,7 @@ fn run_line<R: Threads + Sync, G: Gate, K: Sink, C: Reads + Drop + Send>(
 }
 
 /// Puts these behind what was kept.
-fn keep(told: &mut Vec<Seen>, seen: Vec<Seen>) -> Result<(), AllocError>
+fn keep(told: &mut Vec<Seen>, seen: Vec<Seen>) -> Result<(), OutOfMemory>
     ensures { OnOk result (told.new.items ≡ told.old.items ++ seen.items) }
 {
     for one in seen {
@@ -61,7 +62,7 @@ fn keep(told: &mut Vec<Seen>, seen: Vec<Seen>) -> Result<(), AllocError>
 }
 
 /// Keeps what a line made learned, where it is to be told late.
-fn keep_where(keeps: bool, told: &mut Vec<Seen>, seen: Vec<Seen>) -> Result<(), AllocError>
+fn keep_where(keeps: bool, told: &mut Vec<Seen>, seen: Vec<Seen>) -> Result<(), OutOfMemory>
     ensures { OnOk result (told.new.items ≡ told.old.items ++ kept_where keeps seen.items) }
 {
     if keeps {

@@ -14,14 +14,14 @@ ghost use Rattle.ndc_world_steps.specs.Versions.{told_from, version_in};
 
 use ndc_command::{CommandError, Refusal};
 use ndc_domain::{ClusterNo, DomainTable};
-use ndc_event::{Batch, BatchKey, Name};
+use ndc_event::{Batch, BatchKey, Name, OutOfMemory};
 use ndc_history::Item;
 use ndc_progress::ActivityRef;
 use ndc_script_types::Header;
 use ndc_shard_entries::may_write;
 use ndc_shard_runs::Runs;
 use ndc_state::{Pending, State};
-use std::alloc::{AllocError, Global};
+use std::alloc::Global;
 
 /// The version of the event with this id on a path with this version history, 0 where there is none: that of the first
 /// item that reaches it. Ids count from 1.
@@ -40,7 +40,7 @@ fn version_in(items: &[Item], id: u64) -> u64
 }
 
 /// The version of the event with this id on the path to a batch, 0 where there is none. In time of the versions on it.
-fn version_to(alloc: Global, runs: &Runs, key: BatchKey, id: u64) -> Result<u64, AllocError>
+fn version_to(alloc: Global, runs: &Runs, key: BatchKey, id: u64) -> Result<u64, OutOfMemory>
     requires { IsSound runs.now }
     ensures { IfOk result (λ version. version ≡ version_of_event id (events_to key runs.now)) }
 {

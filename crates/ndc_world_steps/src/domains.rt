@@ -9,7 +9,7 @@ ghost use Rattle.ndc_world_steps.specs.Told.{leaving};
 use crate::told::{Told, answered};
 use ndc_cluster_rounds::Cell;
 use ndc_domain::{ClusterNo, DomainError, Members};
-use ndc_event::Name;
+use ndc_event::{Name, OutOfMemory};
 use ndc_script_types::Header;
 use ndc_world_answers::AnswerText;
 use ndc_world_replication::Replication;
@@ -26,7 +26,7 @@ pub fn register<C: Cell + Drop>(
     target: ClusterNo,
     days: u32,
     members: Members,
-) -> Result<Told, AllocError>
+) -> Result<Told, OutOfMemory>
     requires at { at.number < length replication.old.clusters }
     requires members { All (λ member. member < count_of header.now.clusters) members }
     ensures { IfOk result (λ answer. leaving replication.new answer
@@ -46,7 +46,7 @@ pub fn retain<C: Cell + Drop>(
     at: ClusterNo,
     domain: &Name,
     days: u32,
-) -> Result<Told, AllocError>
+) -> Result<Told, OutOfMemory>
     requires at { at.number < length replication.old.clusters }
     requires config { IfSome (record_of (cluster_at at replication.old).table domain.now) (λ old. old.config < 10 ^ 12) }
     ensures { IfOk result (λ answer. leaving replication.new answer ≡ table_step retain_words at replication.old (retain_of at domain.now days (cluster_at at replication.old).table)) }
@@ -65,7 +65,7 @@ pub fn failover<C: Cell + Drop>(
     at: ClusterNo,
     domain: &Name,
     target: ClusterNo,
-) -> Result<Told, AllocError>
+) -> Result<Told, OutOfMemory>
     requires at { at.number < length replication.old.clusters }
     ensures { IfOk result (λ answer. leaving replication.new answer ≡ table_step failover_words at replication.old (failover_of header.now.clusters domain.now target (cluster_at at replication.old).table)) }
 {
@@ -82,7 +82,7 @@ pub fn join<C: Cell + Drop>(
     at: ClusterNo,
     domain: &Name,
     member: ClusterNo,
-) -> Result<Told, AllocError>
+) -> Result<Told, OutOfMemory>
     requires at { at.number < length replication.old.clusters }
     requires member { member.number < 8 }
     ensures { IfOk result (λ answer. leaving replication.new answer ≡ join_step at replication.old (join_of at domain.now member (cluster_at at replication.old).table)) }
@@ -99,7 +99,7 @@ pub fn domains<C: Cell + Drop>(
     alloc: Global,
     to: ClusterNo,
     from: ClusterNo,
-) -> Result<Told, AllocError>
+) -> Result<Told, OutOfMemory>
     requires to { to.number < length replication.old.clusters }
     requires from { from.number < length replication.old.clusters }
     requires apart { to.number ≢ from.number }
@@ -116,7 +116,7 @@ pub fn domain<C: Cell + Drop>(
     header: &Header,
     at: ClusterNo,
     domain: &Name,
-) -> Result<AnswerText, AllocError>
+) -> Result<AnswerText, OutOfMemory>
     requires at { at.number < length replication.now.clusters }
     ensures { IfOk result (λ text. text ≡ domain_answer header.now (record_of (cluster_at at replication.now).table domain.now)) }
 {
@@ -131,7 +131,7 @@ pub fn members<C: Cell + Drop>(
     header: &Header,
     at: ClusterNo,
     domain: &Name,
-) -> Result<AnswerText, AllocError>
+) -> Result<AnswerText, OutOfMemory>
     requires at { at.number < length replication.now.clusters }
     requires members { IfSome (record_of (cluster_at at replication.now).table domain.now) (λ one. AllByRecursion (λ number. number < count_of header.now.clusters) one.members) }
     ensures { IfOk result (λ text. text ≡ members_answer header.now (record_of (cluster_at at replication.now).table domain.now)) }

@@ -17,7 +17,7 @@ use crate::told::{Told, answered};
 use ndc_cluster_links::Link;
 use ndc_cluster_rounds::Cell;
 use ndc_domain::{ClusterNo, DomainTable};
-use ndc_event::Name;
+use ndc_event::{Name, OutOfMemory};
 use ndc_graceful::{BeginError, Handover, ReadyError};
 use ndc_queue::Levels;
 use ndc_script_types::Header;
@@ -46,7 +46,7 @@ fn queue_ends<C: Cell + Drop>(
     alloc: Global,
     header: &Header,
     cluster: ClusterNo,
-) -> Result<Vec<u64>, AllocError>
+) -> Result<Vec<u64>, OutOfMemory>
     requires cluster { IsCluster header.now cluster }
     requires shaped { IsShaped header.now replication.now }
     ensures { IfOk result (λ ends. ends.items ≡ queue_ends header.now cluster replication.now) }
@@ -66,7 +66,7 @@ fn begin<C: Cell + Drop>(
     at: ClusterNo,
     domain: &Name,
     target: ClusterNo,
-) -> Result<Told, AllocError>
+) -> Result<Told, OutOfMemory>
     requires at { IsCluster header.now at }
     requires shaped { IsShaped header.now replication.old }
     ensures { IfOk result (λ answer. leaving replication.new answer
@@ -85,7 +85,7 @@ fn open<C: Cell + Drop>(
     replication: &mut Replication<C>,
     alloc: Global,
     begun: Handover,
-) -> Result<Told, AllocError>
+) -> Result<Told, OutOfMemory>
     ensures { IfOk result (λ answer. leaving replication.new answer ≡ answered (with_handover begun replication.old) (ok (decimal begun.new ∷ []))) }
 {
     let new = begun.new;
@@ -101,7 +101,7 @@ pub fn handover<C: Cell + Drop>(
     at: ClusterNo,
     domain: &Name,
     target: ClusterNo,
-) -> Result<Told, AllocError>
+) -> Result<Told, OutOfMemory>
     requires at { IsCluster header.now at }
     requires shaped { IsShaped header.now replication.old }
     ensures { IfOk result (λ answer. leaving replication.new answer ≡ handover_step header.now at domain.now target replication.old) }
@@ -145,7 +145,7 @@ fn handover_to(
     handovers: &[Handover],
     target: ClusterNo,
     domain: &Name,
-) -> Result<Option<Handover>, AllocError>
+) -> Result<Option<Handover>, OutOfMemory>
     ensures { IfOk result (λ found. found ≡ find (is_handover_to target domain.now) handovers.now) }
 {
     match find_handover(handovers, target, domain) {
@@ -155,7 +155,7 @@ fn handover_to(
 }
 
 /// The levels of a reader for the queues of a source, by shard.
-fn levels_of(alloc: Global, link: Option<&Link>) -> Result<Vec<Levels>, AllocError>
+fn levels_of(alloc: Global, link: Option<&Link>) -> Result<Vec<Levels>, OutOfMemory>
     ensures { IfOk result (λ levels. levels.items ≡ levels_by (option_copied link.entry)) }
 {
     let mut levels = Vec::new(alloc);
@@ -203,7 +203,7 @@ fn ready_in<C: Cell + Drop>(
     replication: &Replication<C>,
     alloc: Global,
     handover: &Handover,
-) -> Result<Result<(), ReadyError>, AllocError>
+) -> Result<Result<(), ReadyError>, OutOfMemory>
     requires to { handover.now.to.number < length replication.now.clusters }
     requires places { length (link_at handover.now.to handover.now.from replication.now).lanes ≡ length handover.now.places }
     requires few { length handover.now.places ≤ 64 }
@@ -221,7 +221,7 @@ fn hand_over<C: Cell + Drop>(
     replication: &mut Replication<C>,
     alloc: Global,
     handover: &Handover,
-) -> Result<(), AllocError>
+) -> Result<(), OutOfMemory>
     requires to { handover.now.to.number < length replication.old.clusters }
     requires from { handover.now.from.number < length replication.old.clusters }
     ensures { OnOk result (replication.new ≡ handed_over handover.now replication.old) }
@@ -247,7 +247,7 @@ fn complete_by<C: Cell + Drop>(
     alloc: Global,
     handover: &Handover,
     ready: Result<(), ReadyError>,
-) -> Result<Told, AllocError>
+) -> Result<Told, OutOfMemory>
     requires to { handover.now.to.number < length replication.old.clusters }
     requires from { handover.now.from.number < length replication.old.clusters }
     ensures { IfOk result (λ answer. leaving replication.new answer ≡ complete_by handover.now replication.old ready) }
@@ -273,7 +273,7 @@ fn complete_one<C: Cell + Drop>(
     alloc: Global,
     header: &Header,
     handover: &Handover,
-) -> Result<Told, AllocError>
+) -> Result<Told, OutOfMemory>
     requires shaped { IsShaped header.now replication.old }
     requires few { header.now.shards ≤ 64 }
     requires fit { IsBetween header.now handover.now }
@@ -292,7 +292,7 @@ pub fn complete<C: Cell + Drop>(
     header: &Header,
     at: ClusterNo,
     domain: &Name,
-) -> Result<Told, AllocError>
+) -> Result<Told, OutOfMemory>
     requires shaped { IsShaped header.now replication.old }
     requires few { header.now.shards ≤ 64 }
     requires fit { AllByRecursion (IsBetween header.now) replication.old.handovers }

@@ -10,6 +10,7 @@ ghost use Rattle.ndc_world_steps.specs.Told.{leaving};
 use crate::told::{Told, answered};
 use ndc_cluster_rounds::Cell;
 use ndc_domain::ClusterNo;
+use ndc_event::OutOfMemory;
 use ndc_queue::FlightError;
 use ndc_script_types::Header;
 use ndc_world_answers::AnswerText;
@@ -24,7 +25,7 @@ pub fn pull<C: Cell + Drop>(
     header: &Header,
     reader: ClusterNo,
     source: ClusterNo,
-) -> Result<Told, AllocError>
+) -> Result<Told, OutOfMemory>
     requires source { IsCluster header.now source }
     requires orderly { IsOrderly header.now replication.old }
     ensures { IfOk result (λ answer. leaving replication.new answer ≡ pull_step reader source replication.old) }
@@ -42,7 +43,7 @@ pub fn pull_some<C: Cell + Drop>(
     source: ClusterNo,
     shard: u32,
     count: u64,
-) -> Result<Told, AllocError>
+) -> Result<Told, OutOfMemory>
     requires ends { AreTwoClusters header.now reader source }
     requires shard { shard < header.now.shards }
     requires orderly { IsOrderly header.now replication.old }
@@ -60,7 +61,7 @@ pub fn lose<C: Cell + Drop>(
     source: ClusterNo,
     shard: u32,
     place: usize,
-) -> Result<Told, AllocError>
+) -> Result<Told, OutOfMemory>
     ensures { IfOk result (λ answer. leaving replication.new answer ≡ lose_step reader source shard place replication.old) }
 {
     let answer = match replication.lose(reader, source, shard as usize, place) {
@@ -78,7 +79,7 @@ pub fn repeat<C: Cell + Drop>(
     source: ClusterNo,
     shard: u32,
     place: usize,
-) -> Result<Told, AllocError>
+) -> Result<Told, OutOfMemory>
     ensures { IfOk result (λ answer. leaving replication.new answer ≡ repeat_step reader source shard place replication.old) }
 {
     let answer = match replication.repeat(reader, source, shard as usize, place) {
@@ -98,7 +99,7 @@ pub fn move_to<C: Cell + Drop>(
     shard: u32,
     place: usize,
     to: usize,
-) -> Result<Told, AllocError>
+) -> Result<Told, OutOfMemory>
     ensures { IfOk result (λ answer. leaving replication.new answer ≡ move_step reader source shard place to replication.old) }
 {
     let answer = match replication.move_to(reader, source, shard as usize, place, to) {
@@ -114,7 +115,7 @@ pub fn rewind<C: Cell + Drop>(
     alloc: Global,
     reader: ClusterNo,
     source: ClusterNo,
-) -> Result<Told, AllocError>
+) -> Result<Told, OutOfMemory>
     ensures { IfOk result (λ answer. leaving replication.new answer ≡ answered (rewound reader source replication.old) (ok [])) }
 {
     replication.rewind(reader, source);
@@ -127,7 +128,7 @@ pub fn trim<C: Cell + Drop>(
     alloc: Global,
     header: &Header,
     source: ClusterNo,
-) -> Result<Told, AllocError>
+) -> Result<Told, OutOfMemory>
     requires source { IsCluster header.now source }
     requires orderly { IsOrderly header.now replication.old }
     ensures { IfOk result (λ answer. leaving replication.new answer ≡ trim_step header.now source replication.old) }
@@ -144,7 +145,7 @@ pub fn levels<C: Cell + Drop>(
     reader: ClusterNo,
     source: ClusterNo,
     shard: u32,
-) -> Result<AnswerText, AllocError>
+) -> Result<AnswerText, OutOfMemory>
     requires source { IsCluster header.now source }
     requires shard { shard < header.now.shards }
     requires orderly { IsOrderly header.now replication.now }

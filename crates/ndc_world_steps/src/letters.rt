@@ -19,7 +19,7 @@ use crate::told::{Told, answered};
 use ndc_cluster_reads::Reads;
 use ndc_cluster_rounds::Cell;
 use ndc_domain::ClusterNo;
-use ndc_event::Batch;
+use ndc_event::{Batch, OutOfMemory};
 use ndc_letters::{Bytes, Letter, Letters, Taken};
 use ndc_model_cells::{Job, ShardJob, shard_of};
 use ndc_port::Gate;
@@ -28,7 +28,7 @@ use ndc_text::print_batch;
 use ndc_world_answers::AnswerText;
 use ndc_world_replication::publishers::{cell_of, flight_of, publisher_of};
 use ndc_world_replication::{Done, Replication};
-use std::alloc::{AllocError, Global};
+use std::alloc::Global;
 use std::thread::Threads;
 
 /// `letters`.
@@ -37,7 +37,7 @@ pub fn letters<C: Cell + Drop>(
     alloc: Global,
     header: &Header,
     reader: ClusterNo,
-) -> Result<AnswerText, AllocError>
+) -> Result<AnswerText, OutOfMemory>
     requires reader { reader.number < length replication.now.clusters }
     requires sources { AllByRecursion (λ letter. letter.source.number < count_of header.now.clusters) (cluster_at reader replication.now).letters }
     ensures { IfOk result (λ text. text ≡ letters_answer header.now (cluster_at reader replication.now).letters) }
@@ -51,7 +51,7 @@ pub fn purge<C: Cell + Drop>(
     replication: &mut Replication<C>,
     alloc: Global,
     reader: ClusterNo,
-) -> Result<Told, AllocError>
+) -> Result<Told, OutOfMemory>
     requires reader { reader.number < length replication.old.clusters }
     ensures { IfOk result (λ answer. leaving replication.new answer ≡ purge_step reader replication.old) }
 {
@@ -66,7 +66,7 @@ fn letter_of(
     source: ClusterNo,
     cut: usize,
     batch: &Batch,
-) -> Result<Letter, AllocError>
+) -> Result<Letter, OutOfMemory>
     ensures { IfOk result (λ letter. letter ≡ letter_of source cut batch.now) }
 {
     let mut bytes = print_batch(alloc, batch)?;
@@ -89,7 +89,7 @@ fn letter_at<C: Cell + Drop>(
     shard: u32,
     place: usize,
     cut: usize,
-) -> Result<Option<Letter>, AllocError>
+) -> Result<Option<Letter>, OutOfMemory>
     ensures { IfOk result (λ letter. letter ≡ option_map (λ sent. letter_of source cut sent.batch) (slice_get (flight_at reader source shard replication.now) place)) }
 {
     let flight = flight_of(replication, reader, source, shard);
@@ -105,7 +105,7 @@ fn take<C: Cell + Drop>(
     alloc: Global,
     reader: ClusterNo,
     letter: Letter,
-) -> Result<bool, AllocError>
+) -> Result<bool, OutOfMemory>
     requires { reader.number < length replication.old.clusters }
     ensures whole { IfOk result (λ whole. whole ≡ is_whole letter) }
     ensures letters { OnOk result (replication.new ≡ with_letters reader (with_letter letter (cluster_at reader replication.old).letters) replication.old) }
@@ -125,7 +125,7 @@ fn set_aside<C: Cell + Drop>(
     shard: u32,
     place: usize,
     letter: Letter,
-) -> Result<Told, AllocError>
+) -> Result<Told, OutOfMemory>
     requires reader { reader.number < length replication.old.clusters }
     requires place { place < length (flight_at reader source shard replication.old) }
     ensures { IfOk result (λ answer. leaving replication.new answer ≡ damaged reader source shard place replication.old letter) }
@@ -148,7 +148,7 @@ pub fn damage<C: Cell + Drop>(
     shard: u32,
     place: usize,
     cut: usize,
-) -> Result<Told, AllocError>
+) -> Result<Told, OutOfMemory>
     requires { reader.number < length replication.old.clusters }
     ensures { IfOk result (λ answer. leaving replication.new answer ≡ damage_step reader source shard place cut replication.old) }
 {
@@ -164,7 +164,7 @@ fn letter_job<C: Reads + Drop>(
     alloc: Global,
     header: &Header,
     letter: &Letter,
-) -> Result<Option<ShardJob>, AllocError>
+) -> Result<Option<ShardJob>, OutOfMemory>
     requires shards { 0 < header.now.shards }
     requires shaped { IsShaped header.now replication.now }
     requires source { IsCluster header.now letter.now.source }
@@ -180,7 +180,7 @@ fn letter_job<C: Reads + Drop>(
 }
 
 /// A job goes last, where there is one.
-fn add_job(jobs: &mut Vec<ShardJob>, asked: Option<ShardJob>) -> Result<(), AllocError>
+fn add_job(jobs: &mut Vec<ShardJob>, asked: Option<ShardJob>) -> Result<(), OutOfMemory>
     ensures { OnOk result (jobs.new.items ≡ jobs.old.items ++ option_to_list asked) }
 {
     if let Some(asked) = asked {
@@ -195,7 +195,7 @@ fn letter_jobs<C: Reads + Drop>(
     alloc: Global,
     header: &Header,
     letters: &[Letter],
-) -> Result<Vec<ShardJob>, AllocError>
+) -> Result<Vec<ShardJob>, OutOfMemory>
     requires shards { 0 < header.now.shards }
     requires shaped { IsShaped header.now replication.now }
     requires sources { AllByRecursion (λ letter. IsCluster header.now letter.source) letters.now }
@@ -215,7 +215,7 @@ fn jobs_of<C: Reads + Drop>(
     alloc: Global,
     header: &Header,
     reader: ClusterNo,
-) -> Result<Vec<ShardJob>, AllocError>
+) -> Result<Vec<ShardJob>, OutOfMemory>
     requires reader { IsCluster header.now reader }
     requires shards { 0 < header.now.shards }
     requires shaped { IsShaped header.now replication.now }
@@ -236,7 +236,7 @@ fn serve<R: Threads + Sync, G: Gate, C: Reads + Drop + Send>(
     workers: u32,
     header: &Header,
     reader: ClusterNo,
-) -> Result<Done, AllocError>
+) -> Result<Done, OutOfMemory>
     requires workers { 0 < workers }
     requires reader { IsCluster header.now reader }
     requires shards { 0 < header.now.shards }
@@ -267,7 +267,7 @@ pub fn merge<R: Threads + Sync, G: Gate, C: Reads + Drop + Send>(
     workers: u32,
     header: &Header,
     reader: ClusterNo,
-) -> Result<Told, AllocError>
+) -> Result<Told, OutOfMemory>
     requires workers { 0 < workers }
     requires reader { IsCluster header.now reader }
     requires shards { 0 < header.now.shards }

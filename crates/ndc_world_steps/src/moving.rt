@@ -17,17 +17,18 @@ use crate::told::Told;
 use ndc_cluster_reads::Reads;
 use ndc_cluster_rounds::Cell;
 use ndc_domain::ClusterNo;
+use ndc_event::OutOfMemory;
 use ndc_index::Seen;
 use ndc_port::Gate;
 use ndc_script_types::Header;
 use ndc_world_answers::{Tally, add_seen};
 use ndc_world_replication::publishers::link_of;
 use ndc_world_replication::{Done, Replication, Worked};
-use std::alloc::{AllocError, Global};
+use std::alloc::Global;
 use std::thread::Threads;
 
 /// Counts what was done, and adds what it made learned.
-fn tell(tally: &mut Tally, seen: &mut Vec<Seen>, done: Done) -> Result<(), AllocError>
+fn tell(tally: &mut Tally, seen: &mut Vec<Seen>, done: Done) -> Result<(), OutOfMemory>
     ensures tally { OnOk result (tally.new ≡ with_notes (notes_in done) tally.old) }
     ensures seen { OnOk result (seen.new.items ≡ seen.old.items ++ seen_of (notes_in done)) }
 {
@@ -52,7 +53,7 @@ pub struct Telling {
 }
 
 /// Counts all that was done, in order, and lists what it made learned.
-pub(crate) fn tell_all(alloc: Global, dones: Vec<Done>) -> Result<Telling, AllocError>
+pub(crate) fn tell_all(alloc: Global, dones: Vec<Done>) -> Result<Telling, OutOfMemory>
     ensures tally { IfOk result (λ telling. telling.tally ≡ tally_of (flat_map notes_in dones.items)) }
     ensures seen { IfOk result (λ telling. telling.seen.items ≡ seen_of (flat_map notes_in dones.items)) }
 {
@@ -65,7 +66,7 @@ pub(crate) fn tell_all(alloc: Global, dones: Vec<Done>) -> Result<Telling, Alloc
 }
 
 /// What was done first, and what was done then.
-fn in_turn(alloc: Global, first: Done, second: Done) -> Result<Vec<Done>, AllocError>
+fn in_turn(alloc: Global, first: Done, second: Done) -> Result<Vec<Done>, OutOfMemory>
     ensures { IfOk result (λ dones. dones.items ≡ first ∷ second ∷ []) }
 {
     let mut dones = Vec::new(alloc);
@@ -83,7 +84,7 @@ pub fn work<R: Threads + Sync, G: Gate, C: Cell + Drop + Send>(
     workers: u32,
     header: &Header,
     cluster: ClusterNo,
-) -> Result<Told, AllocError>
+) -> Result<Told, OutOfMemory>
     requires workers { 0 < workers }
     requires cluster { IsCluster header.now cluster }
     requires orderly { IsOrderly header.now replication.old }
@@ -108,7 +109,7 @@ pub fn resend<R: Threads + Sync, G: Gate, C: Reads + Drop + Send>(
     workers: u32,
     header: &Header,
     reader: ClusterNo,
-) -> Result<Told, AllocError>
+) -> Result<Told, OutOfMemory>
     requires workers { 0 < workers }
     requires reader { IsCluster header.now reader }
     requires reached { IsReachedSometime header.now replication.old }
@@ -133,7 +134,7 @@ pub fn bootstrap<R: Threads + Sync, G: Gate, C: Cell + Drop + Send>(
     header: &Header,
     reader: ClusterNo,
     source: ClusterNo,
-) -> Result<Told, AllocError>
+) -> Result<Told, OutOfMemory>
     requires workers { 0 < workers }
     requires clusters { AreTwoClusters header.now reader source }
     requires orderly { IsOrderly header.now replication.old }
@@ -157,7 +158,7 @@ pub fn settlement<R: Threads + Sync, G: Gate, C: Cell + Drop + Send>(
     gate: &G,
     workers: u32,
     header: &Header,
-) -> Result<Telling, AllocError>
+) -> Result<Telling, OutOfMemory>
     requires workers { 0 < workers }
     requires orderly { IsOrderly header.now replication.old }
     requires allowed { MaySettle C.allows header.now replication.old }
@@ -178,7 +179,7 @@ pub fn settle<R: Threads + Sync, G: Gate, C: Cell + Drop + Send>(
     gate: &G,
     workers: u32,
     header: &Header,
-) -> Result<Told, AllocError>
+) -> Result<Told, OutOfMemory>
     requires workers { 0 < workers }
     requires orderly { IsOrderly header.now replication.old }
     requires allowed { MaySettle C.allows header.now replication.old }

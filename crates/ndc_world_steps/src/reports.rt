@@ -20,7 +20,7 @@ use crate::told::{Told, answered};
 use ndc_cluster_reads::Reads;
 use ndc_command::CommandError;
 use ndc_domain::ClusterNo;
-use ndc_event::Name;
+use ndc_event::{Name, OutOfMemory};
 use ndc_progress::{ActivityRef, Progress, Report, Reports};
 use ndc_script_types::Header;
 use ndc_shard_runs::Runs;
@@ -47,7 +47,7 @@ fn tell(
     version: u64,
     activity: ActivityRef,
     details: &Name,
-) -> Result<Told, AllocError>
+) -> Result<Told, OutOfMemory>
     requires cluster { cluster < length reports.old }
     requires beats { AllByRecursion (λ report. report.beat < 10 ^ 12) (slice_index_or reports.old cluster []) }
     ensures answer { IfOk result (λ answer. answer ≡ only_answer (told_by details.now (slice_index_or reports.old cluster []) (Ok (version, activity))).answer) }
@@ -135,7 +135,7 @@ pub fn beat<C: Reads + Drop>(
     workflow: &Name,
     id: &Name,
     details: &Name,
-) -> Result<Told, AllocError>
+) -> Result<Told, OutOfMemory>
     requires shards { 0 < header.now.shards }
     requires cluster { IsCluster header.now cluster }
     requires shaped { IsShaped header.now replication.now }
@@ -165,7 +165,7 @@ pub fn sync<C: Reads + Drop>(
     alloc: Global,
     to: ClusterNo,
     from: ClusterNo,
-) -> Result<Told, AllocError>
+) -> Result<Told, OutOfMemory>
     requires to { to.number < length reports.old }
     requires from { from.number < length reports.old }
     ensures { IfOk result (λ answer. (w : World) → StandFor replication.now reports.old w → IsLeftBy (sync_step to from w) replication.now reports.new answer.text answer.seen) }
@@ -179,7 +179,7 @@ fn activity_shown(
     alloc: Global,
     own: &Progress,
     activity: Result<ActivityRef, CommandError>,
-) -> Result<AnswerText, AllocError>
+) -> Result<AnswerText, OutOfMemory>
     ensures { IfOk result (λ text. (r : Result Reference CommandFault) → Gives Memory (λ a. a) activity r → text ≡ activity_answer own.now r) }
 {
     match activity {
@@ -197,7 +197,7 @@ fn shown(
     workflow: &Name,
     id: &Name,
     runs: &Runs,
-) -> Result<AnswerText, AllocError>
+) -> Result<AnswerText, OutOfMemory>
     requires { IsSound runs.now }
     ensures { IfOk result (λ text. text ≡ shown_of domain.now workflow.now id.now own.now runs.now) }
 {
@@ -224,7 +224,7 @@ fn shown_at<C: Reads + Drop>(
     domain: &Name,
     workflow: &Name,
     id: &Name,
-) -> Result<AnswerText, AllocError>
+) -> Result<AnswerText, OutOfMemory>
     requires shards { 0 < header.now.shards }
     requires cluster { IsCluster header.now cluster }
     requires shaped { IsShaped header.now replication.now }
@@ -247,7 +247,7 @@ pub fn progress<C: Reads + Drop>(
     domain: &Name,
     workflow: &Name,
     id: &Name,
-) -> Result<AnswerText, AllocError>
+) -> Result<AnswerText, OutOfMemory>
     requires shards { 0 < header.now.shards }
     requires cluster { IsCluster header.now cluster }
     requires shaped { IsShaped header.now replication.now }

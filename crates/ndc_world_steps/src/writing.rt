@@ -11,17 +11,17 @@ use crate::told::Told;
 use ndc_cluster_rounds::Cell;
 use ndc_command::Command;
 use ndc_domain::ClusterNo;
-use ndc_event::Name;
+use ndc_event::{Name, OutOfMemory};
 use ndc_model_cells::{Job, JobReply, ShardJob, shard_of};
 use ndc_port::Gate;
 use ndc_script_types::Header;
 use ndc_world_answers::{AnswerText, add_seen};
 use ndc_world_replication::Replication;
-use std::alloc::{AllocError, Global};
+use std::alloc::Global;
 use std::thread::Threads;
 
 /// What the first of replies answers.
-fn first_answer(alloc: Global, replies: &[JobReply]) -> Result<AnswerText, AllocError>
+fn first_answer(alloc: Global, replies: &[JobReply]) -> Result<AnswerText, OutOfMemory>
     ensures { IfOk result (λ text. text ≡ first_answer replies.now) }
 {
     match replies {
@@ -40,7 +40,7 @@ fn ask<R: Threads + Sync, G: Gate, C: Cell + Drop + Send>(
     header: &Header,
     cluster: ClusterNo,
     asked: ShardJob,
-) -> Result<Told, AllocError>
+) -> Result<Told, OutOfMemory>
     requires workers { 0 < workers }
     requires cluster { IsCluster header.now cluster }
     requires shard { asked.shard < header.now.shards }
@@ -70,7 +70,7 @@ pub fn command<R: Threads + Sync, G: Gate, C: Cell + Drop + Send>(
     domain: &Name,
     workflow: &Name,
     command: &Command,
-) -> Result<Told, AllocError>
+) -> Result<Told, OutOfMemory>
     requires workers { 0 < workers }
     requires cluster { IsCluster header.now cluster }
     requires shards { 0 < header.now.shards }
@@ -110,7 +110,7 @@ pub fn reset<R: Threads + Sync, G: Gate, C: Cell + Drop + Send>(
     domain: &Name,
     workflow: &Name,
     event: u64,
-) -> Result<Told, AllocError>
+) -> Result<Told, OutOfMemory>
     requires workers { 0 < workers }
     requires cluster { IsCluster header.now cluster }
     requires shards { 0 < header.now.shards }

@@ -4,10 +4,10 @@ ghost use Rattle.ndc_world_summary.specs.Same.{same_batches};
 ghost use Rattle.ndc_world_summary.specs.Summaries.{are_alike, learned_with};
 
 use ndc_cluster_reads::Reads;
-use ndc_event::Batch;
+use ndc_event::{Batch, OutOfMemory};
 use ndc_shard_runs::Runs;
 use ndc_world_queries::are_same;
-use std::alloc::{AllocError, Global};
+use std::alloc::Global;
 
 /// What a cell has learned of the workflow of a batch. There is none only where nothing is.
 fn learned_with<'a, C: Reads>(cell: &'a C, batch: &Batch) -> Option<&'a Runs>
@@ -22,7 +22,7 @@ fn have_learned_the_same<C: Reads>(
     one: &C,
     two: &C,
     batch: &Batch,
-) -> Result<bool, AllocError>
+) -> Result<bool, OutOfMemory>
     ensures { IfOk result (λ same. same ≡ same_batches (learned_with batch.now (C.cell one.now)) (learned_with batch.now (C.cell two.now))) }
 {
     let first = learned_with(one, batch);
@@ -36,7 +36,7 @@ pub(crate) fn are_alike<C: Reads>(
     alloc: Global,
     cells: &[&C],
     batch: &Batch,
-) -> Result<bool, AllocError>
+) -> Result<bool, OutOfMemory>
     ensures { IfOk result (λ alike. alike ≡ are_alike (map (learned_with batch.now) (map (λ cell. C.cell cell.now) cells.now))) }
 {
     let Some((first, others)) = cells.split_first() else {

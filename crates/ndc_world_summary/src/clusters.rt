@@ -9,9 +9,10 @@ use crate::parts::{Totals, added, totals_in};
 use crate::tables::have_one_table;
 use ndc_cluster_reads::Reads;
 use ndc_cluster_rounds::Cell;
+use ndc_event::OutOfMemory;
 use ndc_script_types::Header;
 use ndc_world_replication::{Publisher, Replication};
-use std::alloc::{AllocError, Global};
+use std::alloc::Global;
 
 /// The cell of a cluster for a shard.
 fn cell_of<C: Cell + Drop>(publisher: &Publisher<C>, shard: u32) -> &C
@@ -26,7 +27,7 @@ fn cells_of<C: Cell + Drop>(
     alloc: Global,
     publishers: &[Publisher<C>],
     shard: u32,
-) -> Result<Vec<&C>, AllocError>
+) -> Result<Vec<&C>, OutOfMemory>
     requires { AllByRecursion (λ (publisher : PublisherValue). shard < length publisher.cluster.cells) publishers.now }
     ensures { IfOk result (λ cells. map (λ cell. C.cell cell.now) cells.items ≡ map (λ (publisher : PublisherValue). cell_for shard publisher.cluster.cells) publishers.now) }
 {
@@ -43,7 +44,7 @@ fn shard_totals<C: Reads + Drop>(
     header: &Header,
     replication: &Replication<C>,
     shard: u32,
-) -> Result<Totals, AllocError>
+) -> Result<Totals, OutOfMemory>
     requires shaped { IsShaped header.now replication.now }
     requires shard { shard < header.now.shards }
     ensures { IfOk result (λ part. part ≡ totals_in (cells_of replication.now shard)) }
@@ -58,7 +59,7 @@ pub fn totals<C: Reads + Drop>(
     alloc: Global,
     header: &Header,
     replication: &Replication<C>,
-) -> Result<Totals, AllocError>
+) -> Result<Totals, OutOfMemory>
     requires { IsShaped header.now replication.now }
     ensures { IfOk result (λ totals. totals ≡ totals_of header.now replication.now) }
 {

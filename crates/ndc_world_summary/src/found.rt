@@ -5,10 +5,10 @@ ghost use Rattle.ndc_model_cells.specs.Places.{is_of};
 ghost use Rattle.ndc_world_summary.specs.Summaries.{messages_of, with_workflow, workflows_in};
 
 use ndc_cluster_rounds::Cell;
-use ndc_event::Batch;
+use ndc_event::{Batch, OutOfMemory};
 use ndc_model_cells::Message;
 use ndc_world_answers::sum;
-use std::alloc::{AllocError, Global};
+use std::alloc::Global;
 
 /// What cells have written: how many batches, and to which workflows, each by the first batch that was found of it.
 #[derive(Drop)]
@@ -35,7 +35,7 @@ fn is_found(found: &[Batch], batch: &Batch) -> bool
 }
 
 /// Adds the workflow of a batch to those that were found, where none of them is it.
-fn add_workflow(found: &mut Vec<Batch>, batch: Batch) -> Result<(), AllocError>
+fn add_workflow(found: &mut Vec<Batch>, batch: Batch) -> Result<(), OutOfMemory>
     ensures { OnOk result (found.new.items ≡ with_workflow found.old.items batch) }
 {
     if !is_found(found.as_slice(), &batch) {
@@ -45,7 +45,7 @@ fn add_workflow(found: &mut Vec<Batch>, batch: Batch) -> Result<(), AllocError>
 }
 
 /// Adds the workflows to which a cell has written, and counts the batches.
-fn add_written<C: Cell>(found: &mut Vec<Batch>, cell: &C) -> Result<u64, AllocError>
+fn add_written<C: Cell>(found: &mut Vec<Batch>, cell: &C) -> Result<u64, OutOfMemory>
     ensures workflows { OnOk result (found.new.items ≡ fold with_workflow found.old.items (map (λ sent. sent.batch) (C.cell cell.now).written)) }
     ensures batches { IfOk result (λ count. count ≡ length (flat_map both (C.cell cell.now).written)) }
 {
@@ -64,7 +64,7 @@ fn add_written<C: Cell>(found: &mut Vec<Batch>, cell: &C) -> Result<u64, AllocEr
 }
 
 /// What cells have written.
-pub(crate) fn found_in<C: Cell>(alloc: Global, cells: &[&C]) -> Result<Found, AllocError>
+pub(crate) fn found_in<C: Cell>(alloc: Global, cells: &[&C]) -> Result<Found, OutOfMemory>
     ensures batches { IfOk result (λ found. found.batches ≡ length (flat_map both (messages_of (map (λ cell. C.cell cell.now) cells.now)))) }
     ensures workflows { IfOk result (λ found. found.workflows.items ≡ workflows_in (map (λ cell. C.cell cell.now) cells.now)) }
 {

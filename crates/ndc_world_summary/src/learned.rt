@@ -4,12 +4,12 @@ ghost use Rattle.ndc_model_cells.specs.Cells.{learned_of};
 ghost use Rattle.ndc_world_summary.specs.Summaries.{branch_count};
 
 use ndc_cluster_reads::Reads;
-use ndc_event::{Batch, Name};
+use ndc_event::{Batch, Name, OutOfMemory};
 use ndc_model_sets::RunView;
 use ndc_shard_runs::Runs;
 use ndc_state::Steps;
 use ndc_world_answers::sum;
-use std::alloc::{AllocError, Global};
+use std::alloc::Global;
 
 /// Steps of restoring states are counted under this name.
 struct Restoring;
@@ -20,7 +20,7 @@ pub(crate) fn learned_of<'a, C: Reads>(
     cell: &'a C,
     domain: &Name,
     workflow: &Name,
-) -> Result<Vec<&'a Batch>, AllocError>
+) -> Result<Vec<&'a Batch>, OutOfMemory>
     ensures { IfOk result (λ list. map (λ b. b.now) list.items ≡ learned_of domain.now workflow.now (C.cell cell.now)) }
 {
     match cell.runs(domain, workflow) {
@@ -30,7 +30,7 @@ pub(crate) fn learned_of<'a, C: Reads>(
 }
 
 /// How many branches these runs have.
-fn branches_in(runs: &[RunView]) -> Result<u64, AllocError>
+fn branches_in(runs: &[RunView]) -> Result<u64, OutOfMemory>
     ensures { IfOk result (λ count. count ≡ sum_by (λ run. length run.branches) runs.now) }
 {
     let mut count = 0;
@@ -41,7 +41,7 @@ fn branches_in(runs: &[RunView]) -> Result<u64, AllocError>
 }
 
 /// How many branches the runs of a workflow have.
-fn branches_of(alloc: Global, runs: &Runs) -> Result<u64, AllocError>
+fn branches_of(alloc: Global, runs: &Runs) -> Result<u64, OutOfMemory>
     ensures { IfOk result (λ count. count ≡ branch_count runs.now) }
 {
     let mut steps: Steps<Restoring> = Steps::new();
@@ -56,7 +56,7 @@ pub(crate) fn branch_count<C: Reads>(
     cell: &C,
     domain: &Name,
     workflow: &Name,
-) -> Result<u64, AllocError>
+) -> Result<u64, OutOfMemory>
     ensures { IfOk result (λ count. count ≡ branch_count (learned_of domain.now workflow.now (C.cell cell.now))) }
 {
     match cell.runs(domain, workflow) {

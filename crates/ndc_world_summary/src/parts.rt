@@ -5,9 +5,9 @@ use crate::alike::are_alike;
 use crate::found::found_in;
 use crate::learned::{branch_count, learned_of};
 use ndc_cluster_reads::Reads;
-use ndc_event::Batch;
+use ndc_event::{Batch, OutOfMemory};
 use ndc_world_answers::sum;
-use std::alloc::{AllocError, Global};
+use std::alloc::Global;
 
 /// What the clusters of a script come to.
 #[derive(Clone, Copy, Debug, PartialEq, Eq)]
@@ -23,7 +23,7 @@ pub struct Totals {
 }
 
 /// Two parts together.
-pub(crate) fn added(one: Totals, two: Totals) -> Result<Totals, AllocError>
+pub(crate) fn added(one: Totals, two: Totals) -> Result<Totals, OutOfMemory>
     ensures { IfOk result (λ both. both ≡ added one two) }
 {
     Ok(Totals {
@@ -35,7 +35,11 @@ pub(crate) fn added(one: Totals, two: Totals) -> Result<Totals, AllocError>
 }
 
 /// One, where the first cell has learned anything of the workflow of a batch; and how many branches its runs have there.
-fn counts_of<C: Reads>(alloc: Global, cells: &[&C], batch: &Batch) -> Result<(u64, u64), AllocError>
+fn counts_of<C: Reads>(
+    alloc: Global,
+    cells: &[&C],
+    batch: &Batch,
+) -> Result<(u64, u64), OutOfMemory>
     ensures workflows { IfOk result (λ counts. counts.0 ≡ one_if_any (first_learned (map (λ cell. C.cell cell.now) cells.now) batch.now)) }
     ensures branches { IfOk result (λ counts. counts.1 ≡ branch_count (first_learned (map (λ cell. C.cell cell.now) cells.now) batch.now)) }
 {
@@ -49,7 +53,7 @@ fn counts_of<C: Reads>(alloc: Global, cells: &[&C], batch: &Batch) -> Result<(u6
 
 /// What the workflow of a batch comes to in the cells of its shard, without the batches that were written.
 #[tactic(auto, unfolding(crate::specs::Summaries::part_of))]
-fn part_of<C: Reads>(alloc: Global, cells: &[&C], batch: &Batch) -> Result<Totals, AllocError>
+fn part_of<C: Reads>(alloc: Global, cells: &[&C], batch: &Batch) -> Result<Totals, OutOfMemory>
     ensures { IfOk result (λ part. part ≡ part_of (map (λ cell. C.cell cell.now) cells.now) batch.now) }
 {
     let (workflows, branches) = counts_of(alloc, cells, batch)?;
@@ -64,7 +68,7 @@ fn part_of<C: Reads>(alloc: Global, cells: &[&C], batch: &Batch) -> Result<Total
 
 /// What the cells of one shard come to, a cell for each cluster.
 #[tactic(auto, unfolding(crate::specs::Summaries::totals_in))]
-pub(crate) fn totals_in<C: Reads>(alloc: Global, cells: &[&C]) -> Result<Totals, AllocError>
+pub(crate) fn totals_in<C: Reads>(alloc: Global, cells: &[&C]) -> Result<Totals, OutOfMemory>
     ensures { IfOk result (λ whole. whole ≡ totals_in (map (λ cell. C.cell cell.now) cells.now)) }
 {
     let found = found_in(alloc, cells)?;
