@@ -54,7 +54,6 @@ module _ (header : Header) (well : IsWellFormedHeader header) (lines : ℕ) (w :
   pub command-allowed : (command : Command) → IsWellFormedCommand command → IsAllowed (home_at header cluster w) (job.Command domain workflow command) (cell_at cluster (shard_of domain workflow header.shards) w)
   unfolding command_of
   command-allowed command fit = record {
-    least = let l = well.limit_least in omega (arith, l);
     limit = well.limit_most;
     room = has-room header lines w is cluster names.known domain workflow there;
     takes = by (command_of home domain workflow command here) refl;
@@ -103,7 +102,6 @@ module _ (header : Header) (well : IsWellFormedHeader header) (lines : ℕ) (w :
   pub reset-allowed : lines < 100000 → (event : ℕ) → IsAllowed (home_at header cluster w) (job.Reset domain workflow event) (cell_at cluster (shard_of domain workflow header.shards) w)
   unfolding reset_at
   reset-allowed few event = record {
-    least = let l = well.limit_least in omega (arith, l);
     limit = well.limit_most;
     room = has-room header lines w is cluster names.known domain workflow there;
     takes = by (reset_at home domain workflow event here) refl;

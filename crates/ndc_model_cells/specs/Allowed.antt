@@ -52,7 +52,6 @@ MayTake domain workflow (Err error) cell = Unit {0}
 
 -- a command or a reset may write to a workflow
 pub record MayBeAsked (home : Desk) (domain workflow : Name) (written : Result (List Entry) CommandError) (cell : Cell) : Type 0 where
-  pub least : 2 ≤ home.limit
   pub limit : home.limit ≤ 204800
   pub room : HasRoom (learned_of domain workflow cell)
   pub takes : MayTake domain workflow written cell

@@ -75,6 +75,15 @@ may_write_by home (Some one) batches = may_write_with home one.version batches
 unfoldable pub may_write : Desk → Name → Name → Cell → Result ℕ Refusal
 may_write home domain workflow cell = may_write_by home (record_of home.table domain) (learned_of domain workflow cell)
 
+-- a version to write with, where the workflow has a run
+abbrev pub where_begun : Option Batch → ℕ → Result ℕ Refusal
+where_begun None version = Err refusal.NoWorkflow
+where_begun (Some tip) version = Ok version
+
+-- the version with which the cell may write to a workflow that has begun, or why it may not
+abbrev pub may_go_on : Desk → Name → Name → Cell → Result ℕ Refusal
+may_go_on desk domain workflow cell = may_write desk domain workflow cell >>= where_begun (workflow_tip (learned_of domain workflow cell))
+
 -- the key that is written next with this version
 abbrev pub next_key : ℕ → List Batch → BatchKey
 next_key version batches = record { version = version; task = greatest_task batches + 1 }

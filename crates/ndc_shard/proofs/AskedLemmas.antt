@@ -32,7 +32,7 @@ use Rattle.ndc_model_sets.specs.Sound.{IsSound}
 use Rattle.ndc_state.specs.Value.{StateValue}
 use Rattle.ndc_shard_waiting.proofs.OrderLemmas.{all-more}
 use Rattle.ndc_model_cells.specs.Allowed.{MayTake}
-use Rattle.ndc_shard.specs.Shards.{AreWritable, IsFit, MayBeTaken}
+use Rattle.ndc_shard.specs.Shards.{AreWritable, IsFit}
 use Rattle.ndc_shard.proofs.MayLemmas.{AreReached, all-may}
 
 -- what is written has no earlier key, or that of the tip
@@ -75,7 +75,7 @@ ids-weaker least most l entries small =
     (λ b up. All-weaker (λ (event : Event). event.id ≤ least) (λ (event : Event). event.id ≤ most) (λ event h. omega (arith, h, l)) b.events up) (batches_in entry) all) entries small
 
 -- what is asked for with the version of the cell
-module _ (home : Desk) (domain workflow : Name) (cell : Cell) (fit : IsFit domain workflow cell) (written : Result (List Entry) CommandError) (may : MayBeTaken home.limit domain workflow written cell)
+module _ (home : Desk) (domain workflow : Name) (cell : Cell) (fit : IsFit domain workflow cell) (written : Result (List Entry) CommandError) (may : MayBeAsked home domain workflow written cell)
     (entries_with : ℕ → Result (List Entry) CommandError) (is : written ≡ (as_command_error (may_write_by home (record_of home.table domain) (learned_of domain workflow cell)) >>= entries_with))
     (behind : (version : ℕ) → greatest_version (learned_of domain workflow cell) ≤ version → IfOk (entries_with version) (AreWrittenTo (learned_of domain workflow cell) domain workflow))
     (reached : (version : ℕ) → IfOk (entries_with version) (AreReached (learned_of domain workflow cell)))
@@ -92,16 +92,16 @@ module _ (home : Desk) (domain workflow : Name) (cell : Cell) (fit : IsFit domai
           (subst (λ r. MayTake domain workflow r cell) e may.takes)
 
 pub command-writable : (home : Desk) (domain workflow : Name) (command : Command) (cell : Cell) (entries : List Entry) → IsFit domain workflow cell
-    → MayBeTaken home.limit domain workflow (command_of home domain workflow command cell) cell → command_of home domain workflow command cell ≡ Ok entries → AreWritable entries cell
+    → MayBeAsked home domain workflow (command_of home domain workflow command cell) cell → command_of home domain workflow command cell ≡ Ok entries → AreWritable entries cell
 unfolding command_of may_write
 command-writable home domain workflow command cell entries fit may =
     asked-writable home domain workflow cell fit (command_of home domain workflow command cell) may (λ version. command_entries domain workflow command home.limit version (learned_of domain workflow cell)) refl
     (λ version ahead. command-behind (learned_of domain workflow cell) version domain workflow fit.sound ahead home.limit command)
     (λ version. command-reached (learned_of domain workflow cell) fit.sound domain workflow version home.limit command)
-    (λ version. command-ids (learned_of domain workflow cell) version domain workflow home.limit 204800 command may.limit_most (omega arith)) entries
+    (λ version. command-ids (learned_of domain workflow cell) version domain workflow home.limit 204800 command may.limit (omega arith)) entries
 
 pub reset-writable : (home : Desk) (domain workflow : Name) (event : ℕ) (cell : Cell) (entries : List Entry) → IsFit domain workflow cell
-    → MayBeTaken home.limit domain workflow (reset_at home domain workflow event cell) cell → reset_at home domain workflow event cell ≡ Ok entries → AreWritable entries cell
+    → MayBeAsked home domain workflow (reset_at home domain workflow event cell) cell → reset_at home domain workflow event cell ≡ Ok entries → AreWritable entries cell
 unfolding reset_at may_write
 reset-writable home domain workflow event cell entries fit may =
     asked-writable home domain workflow cell fit (reset_at home domain workflow event cell) may
@@ -112,5 +112,5 @@ reset-writable home domain workflow event cell entries fit may =
     (resets-ids (learned_of domain workflow cell) version domain workflow event home.limit (workflow_tip (learned_of domain workflow cell)))) entries
   where
     weaker : (r : Result (List Entry) CommandError) → IfOk r (AllByRecursion (HasIdsUpTo home.limit)) → IfOk r (AllByRecursion (HasIdsUpTo 204800))
-    weaker (Ok all) small = ids-weaker home.limit 204800 may.limit_most all small
+    weaker (Ok all) small = ids-weaker home.limit 204800 may.limit all small
     weaker (Err why) small = tt

@@ -12,7 +12,7 @@ use Rattle.ndc_laws_cells.proofs.AskLemmas.{AllWait, IsFine, command-asked, has-
 use Rattle.ndc_laws_cells.proofs.KeptLemmas.{HaveCarriers, may-arrive}
 use Rattle.ndc_laws_cells.proofs.NameLemmas.{names-of, workflows-apart}
 use Rattle.ndc_model_cells.specs.declared.message.Message.{Message}
-use Rattle.ndc_model_cells.specs.Allowed.{MayArrive, MayReapply}
+use Rattle.ndc_model_cells.specs.Allowed.{MayArrive, MayBeAsked, MayReapply}
 use Rattle.ndc_model_cells.specs.Cells.{Cell, IsCell, arrived_of, both}
 use Rattle.ndc_model_cells.specs.Jobs.{workflows_of}
 use Rattle.ndc_model_cells.specs.Messages.{batches_of}
@@ -25,7 +25,6 @@ use Rattle.ndc_model_sets.proofs.BranchLemmas.{among-has, has-among}
 use Rattle.ndc_model_sets.proofs.ForkLemmas.{among-left, among-right}
 use Rattle.ndc_model_sets.proofs.Lists.{Among, all-among, filter-among}
 use Rattle.ndc_shard.specs.Sent.{HasCarrier}
-use Rattle.ndc_shard.specs.Shards.{MayBeTaken}
 use Rattle.ndc_shard_waiting.specs.Waiting.{CanWait}
 use Rattle.ndc_shard_waiting.specs.Learning.{with_messages}
 use Rattle.ndc_shard_waiting.proofs.LearnLemmas.{found-all-of}
@@ -77,16 +76,16 @@ module _ (home : Desk) (domain workflow : Name) (cell : Cell) (is : IsCell cell)
   fine : IsFine can.all domain workflow cell
   fine = fine-of can.all domain workflow cell is workflow_is can.kept
 
-  pub can-command : (command : Command) → MayBeTaken home.limit domain workflow (command_of home domain workflow command cell) cell
+  pub can-command : (command : Command) → MayBeAsked home domain workflow (command_of home domain workflow command cell) cell
   can-command command = record {
-    limit_most = can.limit_most;
+    limit = can.limit_most;
     room = has-room can.all domain workflow cell fine can.author.named can.range;
     takes = command-asked home can.all domain workflow cell fine can.author can.range command;
   }
 
-  pub can-reset : (event : ℕ) → MayBeTaken home.limit domain workflow (reset_at home domain workflow event cell) cell
+  pub can-reset : (event : ℕ) → MayBeAsked home domain workflow (reset_at home domain workflow event cell) cell
   can-reset event = record {
-    limit_most = can.limit_most;
+    limit = can.limit_most;
     room = has-room can.all domain workflow cell fine can.author.named can.range;
     takes = reset-asked home can.all domain workflow cell fine can.author can.range event;
   }

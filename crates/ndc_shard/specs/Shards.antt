@@ -30,12 +30,6 @@ pub record IsFit (domain workflow : Name) (cell : Cell) : Type 0 where
   pub workflow_is : IsWorkflow (workflow_of domain workflow cell)
   pub sound : IsSound (learned_of domain workflow cell)
 
--- a command or a reset may write to a workflow of a cell with this limit
-pub record MayBeTaken (limit : ℕ) (domain workflow : Name) (written : Result (List Entry) CommandError) (cell : Cell) : Type 0 where
-  pub limit_most : limit ≤ 204800
-  pub room : HasRoom (learned_of domain workflow cell)
-  pub takes : MayTake domain workflow written cell
-
 -- entries may be written one after the other
 abbrev pub AreWritable : List Entry → Cell → Type 0
 AreWritable [] cell = Unit {0}

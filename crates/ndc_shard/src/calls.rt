@@ -50,8 +50,8 @@ impl Shard {
     ghost use Rattle.ndc_model_cells.specs.Keeping.{CanArrive, CanWrite, CanWriteEach};
     ghost use Rattle.ndc_model_cells.specs.Arrival.{arrival_of, arrived_at};
     ghost use Rattle.ndc_model_cells.specs.Jobs.{reapplied_in, reapplied_now, workflows_of, written_at};
-    ghost use Rattle.ndc_model_cells.specs.Writing.{command_of, reset_at};
-    ghost use Rattle.ndc_shard.specs.Answers.{answer_of, may_go_on, names_of};
+    ghost use Rattle.ndc_model_cells.specs.Writing.{command_of, may_go_on, reset_at};
+    ghost use Rattle.ndc_shard.specs.Answers.{answer_of, names_of};
     ghost use Rattle.ndc_shard.specs.declared.error.ShardError.TheVariants.{Memory};
     ghost use Rattle.ndc_shard_workflows.specs.Reapplied.{IsReappliedInFirst};
 

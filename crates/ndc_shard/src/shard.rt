@@ -58,8 +58,8 @@ impl Shard {
     ghost use Rattle.ndc_model_sets.specs.Branches.{workflow_tip};
     ghost use Rattle.ndc_model_sets.specs.Current.{strays};
     ghost use Rattle.ndc_model_sets.specs.Learned.{has_key};
-    ghost use Rattle.ndc_shard.specs.Shards.{AreLone, AreOneOrTwo, AreWritable, GoAsTwo, IsFit, MayBeTaken, batches_written, having_written};
-    ghost use Rattle.ndc_model_cells.specs.Allowed.{HasRoom, MayArrive, MayReapply, MayWriteAll};
+    ghost use Rattle.ndc_shard.specs.Shards.{AreLone, AreOneOrTwo, AreWritable, GoAsTwo, IsFit, batches_written, having_written};
+    ghost use Rattle.ndc_model_cells.specs.Allowed.{HasRoom, MayArrive, MayBeAsked, MayReapply, MayWriteAll};
     ghost use Rattle.ndc_model_cells.specs.Messages.{carrying};
     ghost use Rattle.ndc_model_cells.specs.Workflow.{workflow_of};
     ghost use Rattle.ndc_shard_workflows.specs.Reapplied.{AreReapplied, IsReappliedAmongFirst, IsReappliedInFirst, MayReapplyAmong, reapplied_among, reapplied_at, written_among};
@@ -301,7 +301,7 @@ impl Shard {
         command: &Command,
         steps: &mut Steps<L>,
     ) -> Result<Batches, CommandError>
-        requires { MayBeTaken desk.now.limit domain.now workflow.now (command_of desk.now domain.now workflow.now command.now self.old) self.old }
+        requires { MayBeAsked desk.now domain.now workflow.now (command_of desk.now domain.now workflow.now command.now self.old) self.old }
         ensures batches { Gives Memory (λ batches. batches) result (batches_written (command_of desk.now domain.now workflow.now command.now self.old)) }
         ensures some { IfOk result (λ batches. 0 < length batches) }
         ensures cell { OnOk result (self.new ≡ written_at (command_of desk.now domain.now workflow.now command.now self.old) self.old) }
@@ -324,7 +324,7 @@ impl Shard {
         event: u64,
         steps: &mut Steps<L>,
     ) -> Result<Batches, CommandError>
-        requires { MayBeTaken desk.now.limit domain.now workflow.now (reset_at desk.now domain.now workflow.now event self.old) self.old }
+        requires { MayBeAsked desk.now domain.now workflow.now (reset_at desk.now domain.now workflow.now event self.old) self.old }
         ensures batches { Gives Memory (λ batches. batches) result (batches_written (reset_at desk.now domain.now workflow.now event self.old)) }
         ensures some { IfOk result (λ batches. 0 < length batches) }
         ensures cell { OnOk result (self.new ≡ written_at (reset_at desk.now domain.now workflow.now event self.old) self.old) }

@@ -1,7 +1,7 @@
 use Rattle.std.proofs.Common.{◌≡◌, ◌<◌, ◌∙◌, List, length, ap, sym, subst}
 use Rattle.ndc_cluster_rounds.specs.Homes.{HomeValue, desk_of}
 use Rattle.ndc_model_cells.specs.Writing.{Desk, command_of}
-use Rattle.ndc_shard.specs.Shards.{MayBeTaken}
+use Rattle.ndc_model_cells.specs.Allowed.{MayBeAsked}
 use Rattle.ndc_shard.proofs.KeepingLemmas.{can-command}
 use Rattle.ndc_event.specs.declared.batch.Batch.{Batch}
 use Rattle.ndc_shard.proofs.ReplyLemmas.{keys-kept}
@@ -10,7 +10,7 @@ use Rattle.ndc_shard.proofs.shard.Shard.command.Goals as goal
 pub write_command-requires : goal.write_command-requires
 write_command-requires g c =
     let same : c.new-desk.result ≡ desk_of c.args.home.now c.args.table.now = c.new-desk.ensures ∙ ap (λ (h : HomeValue). desk_of h c.args.table.now) c.home.view_is in
-    subst (λ (d : Desk). MayBeTaken d.limit c.args.domain.now c.args.workflow.now (command_of d c.args.domain.now c.args.workflow.now c.args.command.now c.args.self.now) c.args.self.now) (sym same)
+    subst (λ (d : Desk). MayBeAsked d c.args.domain.now c.args.workflow.now (command_of d c.args.domain.now c.args.workflow.now c.args.command.now c.args.self.now) c.args.self.now) (sym same)
     (can-command (desk_of c.args.home.now c.args.table.now) c.args.domain.now c.args.workflow.now c.args.self.now c.is_in_order.ensures.cell (c.is_in_order.ensures.workflows c.args.domain.now c.args.workflow.now) c.requires c.args.command.now)
 
 pub returns-clause-unchanged : goal.returns-clause-unchanged
