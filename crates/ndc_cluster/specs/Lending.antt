@@ -3,7 +3,7 @@ use Rattle.std.specs.Prelude.{List}
 use Rattle.std.specs.Borrow.{Lends, MutBor, Fml, RattleType}
 use Rattle.ndc_cluster.specs.Clusters.{ClusterValue, with_records}
 use Rattle.ndc_cluster.specs.contracts.cluster.Cluster.{the_row as cluster_row}
-use Rattle.ndc_cluster_rounds.specs.declared.cell.Cell.{Ghosts}
+use Rattle.ndc_cluster.specs.declared.cell.Cell.{Ghosts}
 use Rattle.ndc_domain.specs.contracts.table.DomainTable.{the_row as table_row}
 use Rattle.ndc_domain.specs.declared.record.DomainRecord.{DomainRecord}
 

@@ -1,4 +1,5 @@
-use ndc_cluster_rounds::{Cell, Fresh};
+use crate::cell::Cell;
+use crate::fresh::Fresh;
 use std::marker::Model;
 
 /// Cells by shard. Behind a round that was done in pieces, messages that each of them has written stand beside them, until
@@ -10,7 +11,7 @@ pub(crate) struct Cells<C: Cell + Drop> {
 
 impl<C: Cell + Drop> Model for Cells<C> {
     ghost use Rattle.std.specs.Prelude.{List, map, IfSome};
-    ghost use Rattle.ndc_cluster_rounds.specs.Rounds.{AreFresh};
+    ghost use Rattle.ndc_cluster.specs.Rounds.{AreFresh};
     ghost use Rattle.ndc_model_cells.specs.Cells.{Cell as ModelCell};
 
     ghost Value = { List ModelCell };
@@ -31,7 +32,7 @@ impl<C: Cell + Drop> Drop for Cells<C> {
 
 impl<C: Cell + Drop> Cells<C> {
     ghost use Rattle.std.specs.Prelude.{◌≡◌, map, IfSome};
-    ghost use Rattle.ndc_cluster_rounds.specs.Rounds.{AreFresh};
+    ghost use Rattle.ndc_cluster.specs.Rounds.{AreFresh};
 
     /// Cells, and what they have written from some place on, where it is at hand.
     pub(crate) fn new(cells: Vec<C>, fresh: Option<Vec<Fresh>>) -> Cells<C>

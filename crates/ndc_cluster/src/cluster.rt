@@ -1,8 +1,11 @@
 ghost use Rattle.std.specs.Prelude.{◌≡◌, map, replicate, IfOk};
 ghost use Rattle.ndc_model_cells.specs.Cells.{empty_cell};
 
+use crate::cell::Cell;
 use crate::cells::Cells;
-use ndc_cluster_rounds::{Cell, Desk, Fresh, Home, round};
+use crate::fresh::Fresh;
+use crate::home::{Desk, Home};
+use crate::rounds::round;
 use ndc_domain::DomainTable;
 use ndc_model_cells::{JobReply, ShardJob};
 use ndc_port::{Gate, OutOfMemory};
@@ -51,12 +54,12 @@ fn empty_cells<C: Cell + Drop>(
 
 impl<C: Cell + Drop> Cluster<C> {
     ghost use Rattle.std.specs.Borrow.{sem};
-    ghost use Rattle.std.specs.Prelude.{◌≡◌, ◌<◌, length, map, IfOk, IfSome, OnOk};
+    ghost use Rattle.std.specs.Prelude.{◌≡◌, ◌<◌, length, map, [], IfOk, IfSome, OnOk, OnErr};
     ghost use Rattle.std.specs.List.{AllByRecursion};
     ghost use Rattle.ndc_cluster.specs.Clusters.{new_cluster, with_cells};
     ghost use Rattle.ndc_cluster.specs.Lending.{LendsRecords};
-    ghost use Rattle.ndc_cluster_rounds.specs.Homes.{desk_of};
-    ghost use Rattle.ndc_cluster_rounds.specs.Rounds.{AreFresh};
+    ghost use Rattle.ndc_cluster.specs.Homes.{desk_of};
+    ghost use Rattle.ndc_cluster.specs.Rounds.{AreFresh};
     ghost use Rattle.ndc_model_cells.specs.Conditions.{AreAllowed};
     ghost use Rattle.ndc_model_cells.specs.Jobs.{cell_for, cells_after, replies_to};
 
@@ -104,7 +107,7 @@ impl<C: Cell + Drop> Cluster<C> {
     /// Its cells do jobs side by side, on so many workers at most, 1 at least, each worker on neighbouring cells. Each worker
     /// first enters the gate with its number, counted from 0. The cells and the replies, in the order of the jobs, are those of
     /// the jobs done one after the other. The shard of each job is that of a cell, and each job may be done by the cell that
-    /// the jobs before it leave. After want of memory there are no cells.
+    /// the jobs before it leave. After want of memory there are no cells, and the domain records are as they were.
     pub fn round<R: Threads + Sync, G: Gate>(
         &mut self,
         rt: &R,
@@ -120,6 +123,7 @@ impl<C: Cell + Drop> Cluster<C> {
         requires shards { AllByRecursion (λ asked. asked.shard < length self.old.cells) jobs.now }
         requires allowed { AreAllowed C.allows (desk_of home.now self.old.table) jobs.now self.old.cells }
         ensures cells { OnOk result (self.new ≡ with_cells (cells_after (desk_of home.now self.old.table) jobs.now self.old.cells) self.old) }
+        ensures err { OnErr result (self.new ≡ with_cells [] self.old) }
         ensures replies { IfOk result (λ replies. replies.items ≡ replies_to (desk_of home.now self.old.table) jobs.now self.old.cells) }
     {
         let no_cells = Cells::new(Vec::new(alloc), None);

@@ -4,7 +4,7 @@ ghost use Rattle.ndc_model_cells.specs.Cells.{is_learned_in, is_message_learned}
 ghost use Rattle.ndc_domain.specs.Records.{record_of};
 ghost use Rattle.ndc_model.specs.Queues.{is_addressed, names_cluster, needs_nothing};
 
-use ndc_cluster_rounds::Cell;
+use ndc_cluster::Cell;
 use ndc_domain::{ClusterNo, DomainTable};
 use ndc_event::{Batch, Name, OutOfMemory};
 use ndc_model_cells::Message;

@@ -7,7 +7,7 @@ ghost use Rattle.ndc_queue.specs.Lists.{entries_from};
 ghost use Rattle.ndc_queue.specs.Queues.{queue_len};
 
 use crate::addressed::{addressed, keep_addressed, settled_front};
-use ndc_cluster_rounds::Cell;
+use ndc_cluster::Cell;
 use ndc_domain::{ClusterNo, DomainTable};
 use ndc_event::OutOfMemory;
 use ndc_model_cells::Message;

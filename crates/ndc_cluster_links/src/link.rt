@@ -11,7 +11,7 @@ ghost use Rattle.ndc_model.specs.World.{newly_naming};
 use crate::addressed::is_named;
 use crate::lane::Lane;
 use crate::queues::Queues;
-use ndc_cluster_rounds::Cell;
+use ndc_cluster::Cell;
 use ndc_domain::{ClusterNo, DomainRecord, DomainTable};
 use ndc_event::{Name, OutOfMemory};
 use ndc_queue::{FlightError, Message, NoSuchPlace, Queue};

@@ -1,9 +1,9 @@
 ghost use Rattle.std.specs.Prelude.{◌≡◌, ◌≤◌, IfSome, OnOk};
 ghost use Rattle.ndc_cluster_links.specs.Rest.{IsFrontOf, IsRestOf};
-ghost use Rattle.ndc_cluster_rounds.specs.Rounds.{IsFresh};
+ghost use Rattle.ndc_cluster.specs.Rounds.{IsFresh};
 ghost use Rattle.ndc_queue.specs.Queues.{queue_len};
 
-use ndc_cluster_rounds::{Cell, Fresh};
+use ndc_cluster::{Cell, Fresh};
 use ndc_event::OutOfMemory;
 use ndc_queue::Queue;
 use std::alloc::Global;
@@ -83,7 +83,7 @@ fn push_written<C: Cell>(queue: &mut Queue, cell: &C) -> Result<(), OutOfMemory>
 impl Queues {
     ghost use Rattle.std.specs.Prelude.{◌≡◌, ◌<◌, ◌≤◌, ◌-◌, length, max, replicate, slice_set, IfOk, IfSome, OnOk};
     ghost use Rattle.std.specs.List.{sum_by};
-    ghost use Rattle.ndc_cluster_rounds.specs.Rounds.{IsFresh};
+    ghost use Rattle.ndc_cluster.specs.Rounds.{IsFresh};
     ghost use Rattle.ndc_cluster_links.specs.Rest.{IsFrontOf, IsRestOf, queue_at};
     ghost use Rattle.ndc_queue.specs.Queues.{new_queue, queue_len, trimmed};
 

@@ -1,4 +1,4 @@
-use ndc_cluster_rounds::Cell;
+use ndc_cluster::Cell;
 use ndc_event::{BatchKey, Name, OutOfMemory};
 use ndc_model_cells::{Message, Place};
 use ndc_resend::GapOf;

@@ -4,7 +4,7 @@ use Rattle.std.specs.Str.{bytes_eq}
 use Rattle.std.specs.List.{AllByRecursion, filter, list_any}
 use Rattle.std.proofs.lemmas.Bool.{and_parts}
 use Rattle.std.proofs.lemmas.Slice.Eq.{bytes_eq-Decides}
-use Rattle.ndc_cluster_rounds.specs.Homes.{HomeValue, desk_of}
+use Rattle.ndc_cluster.specs.Homes.{HomeValue, desk_of}
 use Rattle.ndc_command.specs.declared.command.Command.{Command}
 use Rattle.ndc_command.specs.declared.refusal.CommandError.{CommandError}
 use Rattle.ndc_domain.specs.Clusters.{ClusterList}

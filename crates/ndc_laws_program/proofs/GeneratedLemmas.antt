@@ -31,7 +31,7 @@ use Rattle.ndc_model.specs.World.{World, new_cluster, opening_world}
 use Rattle.ndc_model.proofs.ListLemmas.{all-append}
 use Rattle.ndc_model.proofs.ScriptLemmas.{world_in_parts}
 use Rattle.ndc_script.proofs.GeneratedFits.{generated_fits}
-use Rattle.ndc_world_summary.specs.Summaries.{totals_of}
+use Rattle.ndc_world_queries.specs.Summaries.{totals_of}
 use Rattle.ndc_script.specs.Generate.{drawn, drawn_cluster, drawn_command, drawn_domain, drawn_lines, drawn_move, drawn_other, drawn_target, drawn_workflow, first_lines, generated_act, generated_header, generated_lines, line_at, next_state}
 
 -- lines after which each record names all clusters, where it did before

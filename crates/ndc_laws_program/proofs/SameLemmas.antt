@@ -21,11 +21,11 @@ use Rattle.ndc_model.specs.Fair.{IsOwn, written_of}
 use Rattle.ndc_model.specs.Queues.{names_cluster}
 use Rattle.ndc_model.proofs.ListLemmas.{all-append, all-weaker}
 use Rattle.ndc_model.specs.World.{Cluster, World, cell_at, cluster_at, new_cluster, shards_of}
-use Rattle.ndc_world_summary.specs.declared.parts.Totals.{Totals}
-use Rattle.ndc_world_summary.specs.Summaries.{added, are_alike, are_one_table, cells_of, learned_with, messages_of, part_of, same_table, totals_in, totals_of, tables_alone, with_workflow, workflows_in}
-use Rattle.ndc_world_summary.specs.Same.{same_batches}
-use Rattle.ndc_world_summary.proofs.BatchLemmas.{batches_decide}
-use Rattle.ndc_world_summary.proofs.TableLemmas.{table_decides, both-true}
+use Rattle.ndc_world_queries.specs.declared.parts.Totals.{Totals}
+use Rattle.ndc_world_queries.specs.Summaries.{added, are_alike, are_one_table, cells_of, learned_with, messages_of, part_of, same_table, totals_in, totals_of, tables_alone, with_workflow, workflows_in}
+use Rattle.ndc_world_queries.specs.Same.{same_batches}
+use Rattle.ndc_world_queries.proofs.BatchLemmas.{batches_decide}
+use Rattle.ndc_world_queries.proofs.TableLemmas.{table_decides, both-true}
 
 -- parts that are all the same, and a beginning that is
 fold-same : (parts : List Totals) (start : Totals) → start.same ≡ true → AllByRecursion (λ (part : Totals). part.same ≡ true) parts → (fold added start parts).same ≡ true

@@ -7,7 +7,7 @@ ghost use Rattle.ndc_laws.specs.Promised.{world_before};
 ghost use Rattle.ndc_model.specs.Facts.{IsReached};
 ghost use Rattle.ndc_model.specs.World.{World};
 ghost use Rattle.ndc_script.specs.Generate.{generated_header, generated_lines};
-ghost use Rattle.ndc_world_summary.specs.Summaries.{totals_of};
+ghost use Rattle.ndc_world_queries.specs.Summaries.{totals_of};
 
 /// In a settled world in which each record of a domain names all clusters, these are the same: they hold one table, and
 /// have learned the same of each workflow.

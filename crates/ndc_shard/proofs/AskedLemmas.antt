@@ -31,7 +31,7 @@ use Rattle.ndc_model_sets.specs.Paths.{events_to}
 use Rattle.ndc_model_sets.specs.Sound.{IsSound}
 use Rattle.ndc_state.specs.Value.{StateValue}
 use Rattle.ndc_shard_waiting.proofs.OrderLemmas.{all-more}
-use Rattle.ndc_model_cells.specs.Allowed.{MayTake}
+use Rattle.ndc_model_cells.specs.Allowed.{MayBeAsked, MayTake}
 use Rattle.ndc_shard.specs.Shards.{AreWritable, IsFit}
 use Rattle.ndc_shard.proofs.MayLemmas.{AreReached, all-may}
 

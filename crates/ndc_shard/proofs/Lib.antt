@@ -14,3 +14,7 @@ pub mod KeepingLemmas
 pub mod KeepLaws
 pub mod TwoLemmas
 pub mod SoFarLemmas
+mod BranchLemmas
+mod EndLemmas
+mod GapLemmas
+mod GroupLemmas

@@ -1,5 +1,5 @@
 -- Words for a shard.
-use Rattle.std.specs.Prelude.{◌≡◌, ◌≤◌, ℕ, true, List, [], ◌∷◌, None, Result, Ok, Err}
+use Rattle.std.specs.Prelude.{◌≡◌, true, List, [], ◌∷◌, None, Result, Ok, Err}
 use Rattle.std.specs.List.{AllByRecursion}
 use Rattle.ndc_model_cells.specs.declared.job.JobReply.{JobReply}
 use Rattle.ndc_model_cells.specs.declared.job.Outcome.TheVariants as outcome
@@ -14,7 +14,6 @@ use Rattle.ndc_event.specs.Outcome.{◌>>=◌}
 use Rattle.ndc_event.specs.declared.batch.Batch.{Batch}
 use Rattle.ndc_event.specs.declared.name.Name.{Name}
 use Rattle.ndc_model_sets.specs.Sound.{IsSound}
-use Rattle.ndc_model_cells.specs.Allowed.{HasRoom, MayTake}
 use Rattle.ndc_model_cells.specs.Messages.{carrying}
 use Rattle.ndc_shard_workflows.specs.Workflow.{IsWorkflow}
 use Rattle.ndc_model_cells.specs.Workflow.{workflow_of}

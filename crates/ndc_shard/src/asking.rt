@@ -7,7 +7,7 @@ ghost use Rattle.ndc_model_cells.specs.Places.{place_of};
 ghost use Rattle.ndc_model_cells.specs.Writing.{as_command_error, batches_in, reapplication_of};
 ghost use Rattle.ndc_shard_entries.specs.Writer.{writes_to};
 
-use ndc_cluster_rounds::Desk;
+use ndc_cluster::Desk;
 use ndc_command::{CommandError, Refusal};
 use ndc_event::{Batch, Name, OutOfMemory};
 use ndc_model_cells::Place;

@@ -5,7 +5,7 @@ ghost use Rattle.ndc_shard.specs.declared.error.ShardError.TheVariants.{Memory};
 
 use crate::error::ShardError;
 use crate::shard::Shard;
-use ndc_cluster_rounds::{Desk, Home};
+use ndc_cluster::{Desk, Home};
 use ndc_command::{Command, Refusal};
 use ndc_domain::DomainTable;
 use ndc_event::{Batch, BatchKey, Name, OutOfMemory};
@@ -45,7 +45,7 @@ fn places_of(alloc: Global, batches: &[Batch]) -> Result<Vec<(Name, Name, BatchK
 
 impl Shard {
     ghost use Rattle.std.specs.Prelude.{◌≡◌, ◌≢◌, map, IfOk, IfErr, OnOk, OnErr};
-    ghost use Rattle.ndc_cluster_rounds.specs.Homes.{desk_of};
+    ghost use Rattle.ndc_cluster.specs.Homes.{desk_of};
     ghost use Rattle.ndc_event.specs.Outcome.{Gives};
     ghost use Rattle.ndc_model_cells.specs.Keeping.{CanArrive, CanWrite, CanWriteEach};
     ghost use Rattle.ndc_model_cells.specs.Arrival.{arrival_of, arrived_at};

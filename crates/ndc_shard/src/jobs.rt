@@ -1,5 +1,5 @@
 ghost use Rattle.std.specs.Prelude.{◌≡◌, ◌≢◌, Err, IfOk, IsTrue, OnOk};
-ghost use Rattle.ndc_cluster_rounds.specs.Idle.{IsIdle};
+ghost use Rattle.ndc_cluster.specs.Idle.{IsIdle};
 ghost use Rattle.ndc_model_cells.specs.Jobs.{after_job, keys_written, reply_to, workflows_of};
 ghost use Rattle.ndc_model_cells.specs.Writing.{command_of, reset_at};
 ghost use Rattle.ndc_model_cells.specs.declared.job.Job.TheVariants.{Arrive, Command as Commanded, Reapply, Reset};
@@ -8,7 +8,7 @@ ghost use Rattle.ndc_shard.specs.Shards.{reply_of};
 ghost use Rattle.ndc_model_cells.specs.Allowed.{IsAllowed, MayArrive, MayBeAsked, MayReapply};
 
 use crate::shard::Shard;
-use ndc_cluster_rounds::Desk;
+use ndc_cluster::Desk;
 use ndc_command::{Command, CommandError};
 use ndc_event::{Batch, Name, OutOfMemory};
 use ndc_model_cells::{Job, JobReply, Message, Outcome, Written};

@@ -6,7 +6,9 @@ ghost use Rattle.ndc_command.specs.declared.command.Command.{Command as Asked};
 ghost use Rattle.ndc_event.specs.declared.batch.Batch.{Batch as One};
 ghost use Rattle.ndc_event.specs.declared.key.BatchKey.{BatchKey as Key};
 ghost use Rattle.ndc_event.specs.declared.name.Name.{Name as Text};
-ghost use Rattle.ndc_model_cells.specs.Keeping.{HasRange, IsAuthor, IsAuthored, IsKept, IsMessageOf, IsWhole, set_behind, with_entries};
+ghost use Rattle.ndc_model_cells.specs.Allowed.{IsAllowed};
+ghost use Rattle.ndc_model_cells.specs.Keeping.{CanArrive, CanWrite, CanWriteEach, HasRange, IsAuthor, IsAuthored, IsKept, IsMessageOf, IsWhole, set_behind, with_entries};
+ghost use Rattle.ndc_model_cells.specs.declared.job.Job.TheVariants.{Arrive, Command as Commanded, Reapply, Reset};
 ghost use Rattle.ndc_model_cells.specs.declared.message.Message.{Message as Sent};
 ghost use Rattle.ndc_model_cells.specs.Arrival.{arrived_at};
 ghost use Rattle.ndc_model_cells.specs.Cells.{Cell as CellValue, empty_cell, message_at};
@@ -15,6 +17,18 @@ ghost use Rattle.ndc_model_cells.specs.Places.{is_of};
 ghost use Rattle.ndc_model_cells.specs.Writing.{Desk as DeskValue, command_of, reapplication_of, reset_at, with_all_written};
 ghost use Rattle.ndc_model_sets.specs.Sound.{IsSound};
 ghost use Rattle.ndc_shard.specs.Orderly.{IsOrderly};
+
+/// Where the caller vouches for what a call asks, a cell may do the job of the call, so a round may be asked for it.
+pub fn what_a_caller_vouches_for_may_be_done()
+    ensures commands { (home : DeskValue) (domain workflow : Text) (cell : CellValue) → IsOrderly cell
+        → CanWrite home domain workflow cell → (command : Asked) → IsAllowed home (Commanded domain workflow command) cell }
+    ensures resets { (home : DeskValue) (domain workflow : Text) (cell : CellValue) → IsOrderly cell
+        → CanWrite home domain workflow cell → (event : ℕ) → IsAllowed home (Reset domain workflow event) cell }
+    ensures arrivals { (home : DeskValue) (sent : Sent) (cell : CellValue) → IsOrderly cell
+        → CanArrive sent cell → IsAllowed home (Arrive sent) cell }
+    ensures reapplications { (home : DeskValue) (cell : CellValue) → IsOrderly cell
+        → CanWriteEach home cell → IsAllowed home Reapply cell }
+{}
 
 /// Where nothing has arrived, any sound set of a workflow is kept.
 pub fn an_empty_cell_keeps_every_set()

@@ -4,7 +4,7 @@ ghost use Rattle.ndc_domain.specs.Records.{names_cmp};
 ghost use Rattle.ndc_shard.specs.Again.{AreReappliedOf};
 
 use crate::asking::{as_command_error, batches_of, place_of, push_batches, refuses, version_of};
-use ndc_cluster_rounds::{Desk, Home};
+use ndc_cluster::{Desk, Home};
 use ndc_command::{Command, CommandError, Refusal};
 use ndc_event::{Batch, Name, OutOfMemory};
 use ndc_model_cells::{Message, Place};

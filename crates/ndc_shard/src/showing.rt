@@ -1,9 +1,10 @@
+use crate::finding::gaps;
+use crate::serving::serve;
 use crate::shard::Shard;
 use ndc_event::{BatchKey, Name, OutOfMemory};
 use ndc_model_cells::Message;
 use ndc_model_sets::View;
 use ndc_resend::GapOf;
-use ndc_shard_gaps::{gaps, serve};
 use ndc_shard_workflows::{message_there, messages_of};
 use ndc_state::Steps;
 

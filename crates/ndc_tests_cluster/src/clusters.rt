@@ -1,6 +1,5 @@
 use crate::given::{ListCell, two_clusters};
-use ndc_cluster::Cluster;
-use ndc_cluster_rounds::{Cell, Home};
+use ndc_cluster::{Cell, Cluster, Home};
 use ndc_domain::ClusterNo;
 use ndc_model_cells::ShardJob;
 use ndc_port::OpenGate;

@@ -1,7 +1,8 @@
-use ndc_cluster_rounds::{Cell, Desk, Home};
+use ndc_cluster::{Cell, Desk, Home};
 use ndc_domain::Clusters;
 use ndc_event::{BatchKey, Name, OutOfMemory};
-use ndc_model_cells::{Job, JobReply, Message};
+use ndc_model_cells::{Job, JobReply, Message, Outcome};
+use ndc_model_sets::Batches;
 use std::alloc::{AllocError, Global};
 use std::test::Fail;
 
@@ -10,7 +11,8 @@ pub(crate) fn name(alloc: Global, text: &str) -> Result<Name, OutOfMemory> {
     Name::new(alloc, text.as_bytes()).map_err(|_| AllocError)
 }
 
-/// A cell that has written some messages and learned nothing, and finds no memory for any job.
+/// A cell that has written some messages and learned nothing. It has nothing to apply again, and finds no memory for any
+/// other job.
 #[derive(Drop)]
 pub(crate) struct ListCell {
     pub(crate) written: Vec<Message>,
@@ -31,8 +33,14 @@ impl Cell for ListCell {
         })
     }
 
-    fn do_job(&mut self, _desk: &Desk, _job: &Job) -> Result<JobReply, OutOfMemory> {
-        Err(AllocError)
+    fn do_job(&mut self, _desk: &Desk, job: &Job) -> Result<JobReply, OutOfMemory> {
+        match job {
+            Job::Reapply => Ok(JobReply {
+                outcome: Outcome::Reapplied { count: 0 },
+                learned: Batches::new(Vec::new(*self.written.allocator())),
+            }),
+            _ => Err(AllocError),
+        }
     }
 
     fn is_idle(&self, _desk: &Desk) -> bool {

@@ -1,9 +1,9 @@
 ghost use Rattle.std.specs.List.{AllByRecursion};
 ghost use Rattle.std.specs.Prelude.{◌≡◌, ◌<◌, ◌≤◌, length, IfOk};
 
-use crate::given::{ListCell, two_clusters};
-use ndc_cluster_rounds::{Cell, Desk, round};
-use ndc_domain::{ClusterNo, DomainTable};
+use crate::given::{ListCell, name, two_clusters};
+use ndc_cluster::{Cell, Cluster, Home};
+use ndc_domain::ClusterNo;
 use ndc_event::OutOfMemory;
 use ndc_model_cells::{Job, ShardJob};
 use ndc_port::{Gate, OpenGate, PairGate};
@@ -75,35 +75,6 @@ impl Gate for FalseGate {
     }
 }
 
-/// Two cells without memory.
-fn two_cells(alloc: Global) -> Result<Vec<ListCell>, OutOfMemory>
-    ensures { IfOk result (λ cells. length cells.items ≡ 2) }
-{
-    let mut cells = Vec::new(alloc);
-    cells.push(ListCell {
-        written: Vec::new(alloc),
-    })?;
-    cells.push(ListCell {
-        written: Vec::new(alloc),
-    })?;
-    Ok(cells)
-}
-
-/// How many cells and replies a round without jobs leaves, whose two workers enter this gate.
-fn rounded<R: Threads + Sync, G: Gate>(
-    rt: &R,
-    alloc: Global,
-    gate: &G,
-) -> Result<(usize, usize), Fail> {
-    let clusters = two_clusters(alloc)?;
-    let table = DomainTable::new(alloc);
-    let desk = Desk::new(&clusters, ClusterNo { number: 0 }, 100, &table);
-    let jobs: Vec<ShardJob> = Vec::new(alloc);
-    let cells = two_cells(alloc)?;
-    let rounded = round(rt, alloc, gate, 2, &desk, cells, jobs.as_slice())?;
-    Ok((rounded.cells.len(), rounded.replies.len()))
-}
-
 /// So many jobs for each of two shards.
 fn jobs_for_two(alloc: Global, count: u32) -> Result<Vec<ShardJob>, OutOfMemory>
     requires { count ≤ 1000 }
@@ -119,30 +90,35 @@ fn jobs_for_two(alloc: Global, count: u32) -> Result<Vec<ShardJob>, OutOfMemory>
     Ok(jobs)
 }
 
-/// Whether two workers find no memory for so many jobs in each of two shards, behind this gate.
-fn is_spent<R: Threads + Sync, G: Gate>(
+/// How many cells and replies a round leaves in which two workers, who enter this gate, do so many jobs for each of two
+/// shards.
+fn rounded<R: Threads + Sync, G: Gate>(
     rt: &R,
     alloc: Global,
     gate: &G,
     count: u32,
-) -> Result<bool, Fail>
+) -> Result<(usize, usize), Fail>
     requires { count ≤ 1000 }
 {
     let clusters = two_clusters(alloc)?;
-    let table = DomainTable::new(alloc);
-    let desk = Desk::new(&clusters, ClusterNo { number: 0 }, 100, &table);
+    let home = Home {
+        clusters: &clusters,
+        me: ClusterNo { number: 0 },
+        limit: 100,
+    };
+    let mut cluster = Cluster::<ListCell>::new(alloc, &home, 2)?;
     let jobs = jobs_for_two(alloc, count)?;
-    let cells = two_cells(alloc)?;
-    Ok(round(rt, alloc, gate, 2, &desk, cells, jobs.as_slice()).is_err())
+    let replies = cluster.round(rt, alloc, gate, 2, &home, jobs.as_slice())?;
+    Ok((cluster.cells().len(), replies.len()))
 }
 
 #[test]
 fn workers_enter_side_by_side_where_their_jobs_pay(rt: HostRuntime) -> Result<(), Fail> {
     let many = FalseGate::new();
-    assert!(rt; is_spent(&rt, rt.alloc(), &many, 64)?);
+    assert_eq!(rt; rounded(&rt, rt.alloc(), &many, 64)?, (2, 128));
     assert!(rt; many.both() && many.pair.met());
     let few = FalseGate::new();
-    assert!(rt; is_spent(&rt, rt.alloc(), &few, 1)?);
+    assert_eq!(rt; rounded(&rt, rt.alloc(), &few, 1)?, (2, 2));
     assert!(rt; few.both() && !few.pair.met());
     Ok(())
 }
@@ -150,12 +126,12 @@ fn workers_enter_side_by_side_where_their_jobs_pay(rt: HostRuntime) -> Result<()
 #[test]
 fn both_workers_enter_at_once(rt: HostRuntime) -> Result<(), Fail> {
     let pair = PairGate::new();
-    assert_eq!(rt; rounded(&rt, rt.alloc(), &pair)?, (2, 0));
+    assert_eq!(rt; rounded(&rt, rt.alloc(), &pair, 3)?, (2, 6));
     let late = LateGate {
         first: AtomicBool::new(false),
         met: AtomicBool::new(false),
     };
-    assert_eq!(rt; rounded(&rt, rt.alloc(), &late)?, (2, 0));
+    assert_eq!(rt; rounded(&rt, rt.alloc(), &late, 3)?, (2, 6));
     assert!(rt; pair.met() && late.met.load(Ordering::SeqCst));
     Ok(())
 }
@@ -172,18 +148,25 @@ fn the_first_worker_waits_for_the_second(rt: HostRuntime) -> Result<(), Fail> {
 }
 
 #[test]
-fn want_of_memory_ends_a_round(rt: HostRuntime) -> Result<(), Fail> {
+fn after_want_of_memory_there_are_no_cells(rt: HostRuntime) -> Result<(), Fail> {
     let alloc = rt.alloc();
     let clusters = two_clusters(alloc)?;
-    let table = DomainTable::new(alloc);
-    let desk = Desk::new(&clusters, ClusterNo { number: 0 }, 100, &table);
+    let home = Home {
+        clusters: &clusters,
+        me: ClusterNo { number: 0 },
+        limit: 100,
+    };
+    let mut cluster = Cluster::<ListCell>::new(alloc, &home, 2)?;
     let mut jobs = Vec::new(alloc);
     jobs.push(ShardJob {
         shard: 1,
-        job: Job::Reapply,
+        job: Job::Reset {
+            domain: name(alloc, "alpha")?,
+            workflow: name(alloc, "w1")?,
+            event: 1,
+        },
     })?;
-    let cells = two_cells(alloc)?;
-    let rounded = round(&rt, alloc, &OpenGate {}, 2, &desk, cells, jobs.as_slice());
-    assert!(rt; rounded.is_err());
+    let replies = cluster.round(&rt, alloc, &OpenGate {}, 2, &home, jobs.as_slice());
+    assert!(rt; replies.is_err() && cluster.cells().is_empty());
     Ok(())
 }

@@ -16,10 +16,10 @@ use Rattle.ndc_world.specs.Counts.{refused_in}
 use Rattle.ndc_world.specs.Standing.{WorldValue}
 use Rattle.ndc_world.specs.Summary.{summary_of, summary_with}
 use Rattle.ndc_world.specs.declared.summary.Summary.{Summary}
-use Rattle.ndc_world_report.specs.Rest.{last_world}
+use Rattle.ndc_world.specs.Rest.{last_world}
 use Rattle.ndc_tool_top.specs.Demo.{demo_text, summary_line}
-use Rattle.ndc_world_summary.specs.Summaries.{added, are_one_table, cells_of, totals_in, totals_of, tables_alone}
-use Rattle.ndc_world_summary.specs.declared.parts.Totals.{Totals}
+use Rattle.ndc_world_queries.specs.Summaries.{added, are_one_table, cells_of, totals_in, totals_of, tables_alone}
+use Rattle.ndc_world_queries.specs.declared.parts.Totals.{Totals}
 
 -- what is mapped over clusters without reports
 map-bare : {X : Type 0} (f : Cluster → X) → ((cluster : Cluster) → f (bare_cluster cluster) ≡ f cluster) → (clusters : List Cluster) → map f (map bare_cluster clusters) ≡ map f clusters

@@ -15,8 +15,8 @@ use Rattle.ndc_script_read.specs.Body.{script_of}
 use Rattle.ndc_world.specs.Counts.{refused_in}
 use Rattle.ndc_world.specs.Summary.{summary_with}
 use Rattle.ndc_world.specs.declared.summary.Summary.{Summary}
-use Rattle.ndc_world_report.specs.Rest.{last_world}
-use Rattle.ndc_world_summary.specs.Summaries.{totals_of}
+use Rattle.ndc_world.specs.Rest.{last_world}
+use Rattle.ndc_world_queries.specs.Summaries.{totals_of}
 use Rattle.ndc_tool_words.specs.WellFormed.{IsWellFormedAsked}
 use Rattle.ndc_tool_words.specs.declared.words.Asked.{Asked}
 use Rattle.ndc_tool_words.specs.declared.words.Asked.TheVariants.{Demo, Inspect, Make, Rebuild, Run}

@@ -5,8 +5,8 @@ use Rattle.ndc_model.specs.Lines.{ran_of}
 use Rattle.ndc_world.specs.Counts.{refused_in}
 use Rattle.ndc_world.specs.Summary.{summary_with}
 use Rattle.ndc_world.specs.declared.summary.Summary.{Summary}
-use Rattle.ndc_world_report.specs.Rest.{last_world}
-use Rattle.ndc_world_summary.specs.Summaries.{totals_of}
+use Rattle.ndc_world.specs.Rest.{last_world}
+use Rattle.ndc_world_queries.specs.Summaries.{totals_of}
 
 -- `yes` or `no`
 abbrev pub answer_of : Bool → List ℕ

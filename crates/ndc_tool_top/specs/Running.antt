@@ -7,7 +7,7 @@ use Rattle.ndc_index.specs.Seats.{IndexerValue, all_known}
 use Rattle.ndc_port.specs.Fault.{Rose}
 use Rattle.ndc_laws_program.specs.Promises.{KeepsPromises}
 use Rattle.ndc_script_read.specs.Body.{script_of}
-use Rattle.ndc_world_report.specs.Seats.{Reports, ReportsFront}
+use Rattle.ndc_world.specs.Seats.{Reports, ReportsFront}
 use Rattle.ndc_dump.specs.Input.{most_bytes}
 use Rattle.ndc_dump.specs.Telling.{Streams, Tells}
 use Rattle.ndc_tool_top.specs.Top.{script_line}

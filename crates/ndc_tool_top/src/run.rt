@@ -5,7 +5,7 @@ ghost use Rattle.ndc_index.specs.Seats.{all_known, shown};
 ghost use Rattle.ndc_port.specs.Bytes.{ConsumesAtMost};
 ghost use Rattle.ndc_port.specs.Fault.{Rose};
 ghost use Rattle.ndc_script_read.specs.Body.{script_of};
-ghost use Rattle.ndc_world_report.specs.Seats.{AreNew};
+ghost use Rattle.ndc_world.specs.Seats.{AreNew};
 ghost use Rattle.ndc_dump.specs.Input.{most_bytes};
 ghost use Rattle.ndc_dump.specs.Telling.{IsAmong, Streams, Tells};
 ghost use Rattle.ndc_tool_top.specs.Running.{FrontOfReport, ReadFault, RunFault, Succeeds, TellsError};
@@ -19,7 +19,7 @@ use ndc_index::{ChooseError, Indexer, Indexers};
 use ndc_port::{Gate, ReadError, Sink, Source, read_all};
 use ndc_script::{Script, ScriptError, parse};
 use ndc_shard::Shard;
-use ndc_world_report::{RunError, run_script};
+use ndc_world::{RunError, run_script};
 use std::alloc::Global;
 use std::thread::Threads;
 

@@ -8,7 +8,7 @@ ghost use Rattle.ndc_tool_words.specs.Words.{asked_of};
 ghost use Rattle.ndc_port.specs.Bytes.{Appends, AppendsFront};
 ghost use Rattle.ndc_port.specs.Fault.{Rose};
 ghost use Rattle.ndc_script_read.specs.Body.{script_of};
-ghost use Rattle.ndc_world_report.specs.Seats.{AreNew};
+ghost use Rattle.ndc_world.specs.Seats.{AreNew};
 ghost use Rattle.ndc_script.specs.Generate.{generated_script};
 ghost use Rattle.ndc_dump.specs.Input.{most_bytes};
 ghost use Rattle.ndc_dump.specs.Telling.{IsAmong, Tells};

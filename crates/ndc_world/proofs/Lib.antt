@@ -3,3 +3,7 @@ pub mod BurstLemmas
 pub mod ReachedLemmas
 pub mod RunLemmas
 pub mod StandingLemmas
+pub mod LeftLemmas
+pub mod SeatLemmas
+pub mod CountLemmas
+pub mod Ends

@@ -4,3 +4,5 @@ pub mod Reading
 pub mod Running
 pub mod Standing
 pub mod Summary
+pub mod Rest
+pub mod Seats

@@ -1,7 +1,7 @@
 -- What a world comes to, in numbers.
 use Rattle.std.specs.Prelude.{ℕ}
-use Rattle.ndc_world_summary.specs.Summaries.{totals_of}
-use Rattle.ndc_world_summary.specs.declared.parts.Totals.{Totals}
+use Rattle.ndc_world_queries.specs.Summaries.{totals_of}
+use Rattle.ndc_world_queries.specs.declared.parts.Totals.{Totals}
 use Rattle.ndc_world.specs.Standing.{WorldValue}
 use Rattle.ndc_world.specs.declared.summary.Summary.{Summary}
 

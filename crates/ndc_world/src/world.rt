@@ -13,7 +13,7 @@ use ndc_script_types::{Header, Line};
 use ndc_world_replication::Replication;
 use ndc_world_replication::publishers::cluster_of;
 use ndc_world_steps::moving::{Telling, settlement};
-use ndc_world_summary::totals;
+use ndc_world_queries::totals;
 use std::alloc::Global;
 use std::marker::Model;
 use std::thread::Threads;

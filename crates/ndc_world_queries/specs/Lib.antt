@@ -1,2 +1,4 @@
 pub mod Gaps
 pub mod Learned
+pub mod Same
+pub mod Summaries

@@ -3,7 +3,7 @@ use Rattle.std.proofs.Common.{◌≡◌, ◌≢◌, ◌+◌, ◌-◌, ◌<◌, �
 use Rattle.std.proofs.lemmas.Bool.{eqb-true}
 use Rattle.std.proofs.lemmas.List.{set-get_or}
 use Rattle.std.specs.List.{AllByRecursion, range_with_len}
-use Rattle.ndc_cluster_rounds.specs.Idle.{IsIdle}
+use Rattle.ndc_cluster.specs.Idle.{IsIdle}
 use Rattle.ndc_domain.specs.declared.clusters.ClusterNo.{ClusterNo}
 use Rattle.ndc_model.specs.Moves.{Note, notes_of}
 use Rattle.ndc_model_cells.specs.Cells.{Cell, empty_cell}

@@ -3,8 +3,8 @@ use Rattle.std.proofs.Common.{◌≡◌, ◌<◌, ◌≤◌, ◌+◌, ℕ, zero,
 use Rattle.std.proofs.Math.Seq.{drop-nil}
 use Rattle.ndc_model_cells.specs.Cells.{Cell}
 use Rattle.ndc_model_cells.specs.Jobs.{cell_for}
-use Rattle.ndc_cluster_rounds.specs.Rounds.{AreFresh, IsFresh}
-use Rattle.ndc_cluster_rounds.specs.declared.fresh.Fresh.{Fresh}
+use Rattle.ndc_cluster.specs.Rounds.{AreFresh, IsFresh}
+use Rattle.ndc_cluster.specs.declared.fresh.Fresh.{Fresh}
 
 -- the next one is that of the next cell
 pub fresh_next : (one : Fresh) (rest : List Fresh) (cells : List Cell) (shard : ℕ) → AreFresh (one ∷ rest) (drop shard cells)

@@ -17,8 +17,8 @@ use Rattle.ndc_cluster_links.proofs.RestLemmas.{len_kept}
 use Rattle.ndc_cluster_links.proofs.QueueLemmas.{front_rest}
 use Rattle.ndc_cluster_links.specs.Rest.{AreFronts, IsFrontOf, IsRestOf, queue_at}
 use Rattle.ndc_queue.specs.Queues.{QueueValue, new_queue, queue_len}
-use Rattle.ndc_cluster_rounds.proofs.ShardLemmas.{cell_by_itself, cells-many}
-use Rattle.ndc_cluster_rounds.specs.Rounds.{cell_after, jobs_of}
+use Rattle.ndc_cluster.proofs.ShardLemmas.{cell_by_itself, cells-many}
+use Rattle.ndc_cluster.specs.Rounds.{cell_after, jobs_of}
 use Rattle.ndc_world_replication.specs.Publishers.{AreRestsBut, AreTied}
 
 -- one list goes on from another

@@ -25,7 +25,7 @@ use Rattle.ndc_model.specs.Sending.{pull_count}
 use Rattle.ndc_model.specs.World.{Cluster, Link, World, changed_first, cluster_at, is_link, lane_in, link_at, link_found, new_cluster}
 use Rattle.ndc_model.specs.World as world
 use Rattle.ndc_queue.specs.Queues.{QueueValue, new_queue, queue_len}
-use Rattle.ndc_cluster_rounds.proofs.EachLemmas.{all_there}
+use Rattle.ndc_cluster.proofs.EachLemmas.{all_there}
 use Rattle.ndc_world_replication.specs.Publishers.{PublisherValue}
 use Rattle.ndc_world_replication.proofs.PlaceLemmas.{changed_at, found_at, none_changed, none_found}
 use Rattle.ndc_world_replication.proofs.ShardLemmas.{cells_there}

@@ -3,7 +3,7 @@ use Rattle.std.proofs.Common.{◌≡◌, [], ◌∷◌, List, map, not, refl, ap
 use Rattle.std.specs.List.{AllByRecursion, fold}
 use Rattle.ndc_script_types.specs.WellFormed.{IsCluster}
 use Rattle.ndc_script_types.specs.declared.script.Header.{Header}
-use Rattle.ndc_cluster_rounds.proofs.EachLemmas.{all_there}
+use Rattle.ndc_cluster.proofs.EachLemmas.{all_there}
 use Rattle.ndc_domain.proofs.MergeLaws.{merge_idempotent}
 use Rattle.ndc_domain.specs.Clusters.{count_of}
 use Rattle.ndc_domain.specs.Merge.{merged}

@@ -18,7 +18,7 @@ use Rattle.ndc_model.specs.Fair.{IsShaped, LanesAreTrue, ends_of}
 use Rattle.ndc_model.specs.Moves.{Trace, all_reapply, bootstrapped, due_arrived, flights_arrived, from_world, jobs_done, link_without_flights, map_from, reapplied_all, renewed, renewed_lane, renewed_link, without_flight, without_flights, without_flights_to}
 use Rattle.ndc_model.specs.Queues.{new_lane}
 use Rattle.ndc_model.specs.World.{Cluster, Link, World, cell_at, changed_first, cluster_at, home_at, is_link, lane_in, new_cluster, newly_naming, queue_at, with_cells, with_late, with_link, with_table}
-use Rattle.ndc_cluster_rounds.proofs.ShardLemmas.{cells-many}
+use Rattle.ndc_cluster.proofs.ShardLemmas.{cells-many}
 use Rattle.ndc_world_replication.proofs.GrowLemmas.{written_more}
 use Rattle.ndc_world_replication.proofs.ShardLemmas.{cells_there}
 use Rattle.ndc_model.specs.Conditions.{due_jobs, flight_jobs, late_jobs}

@@ -9,7 +9,7 @@ use Rattle.ndc_domain.specs.declared.clusters.ClusterNo.{ClusterNo}
 use Rattle.ndc_model.specs.Fair.{IsShaped}
 use Rattle.ndc_model.specs.Moves.{all_arrive, arrives}
 use Rattle.ndc_model.specs.World.{Cluster, World, cluster_at, new_cluster, shards_of}
-use Rattle.ndc_cluster_rounds.proofs.EachLemmas.{all_there}
+use Rattle.ndc_cluster.proofs.EachLemmas.{all_there}
 
 -- jobs whose shards are below a number
 abbrev AreBelow : ℕ → List ShardJob → Type 0

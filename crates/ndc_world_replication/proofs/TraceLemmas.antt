@@ -13,7 +13,7 @@ use Rattle.ndc_model.specs.Moves.{Note, Trace, after_settlement, bootstrapped, d
 use Rattle.ndc_model.proofs.FairLemmas.{clusters-among}
 use Rattle.ndc_model.proofs.ListLemmas.{all-filter, filter-passes}
 use Rattle.ndc_model.specs.World.{World, all_clusters, others_of, with_link}
-use Rattle.ndc_cluster_rounds.proofs.EachLemmas.{all_there}
+use Rattle.ndc_cluster.proofs.EachLemmas.{all_there}
 use Rattle.ndc_model_sets.proofs.Lists.{all-from}
 use Rattle.ndc_model.specs.Conditions.{EachStep, late_jobs}
 use Rattle.ndc_world_replication.specs.Dones.{notes_in, trace_of}

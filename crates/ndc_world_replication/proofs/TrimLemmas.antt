@@ -21,7 +21,7 @@ use Rattle.ndc_model.specs.World.{Cluster, Link, World, cluster_at, lane_in, sha
 use Rattle.ndc_model.specs.World as world
 use Rattle.ndc_queue.specs.Levels.{trim_level}
 use Rattle.ndc_queue.specs.Queues.{QueueValue, queue_len}
-use Rattle.ndc_cluster_rounds.proofs.EachLemmas.{all_there}
+use Rattle.ndc_cluster.proofs.EachLemmas.{all_there}
 use Rattle.ndc_world_replication.specs.Publishers.{PublisherValue}
 use Rattle.ndc_world_replication.proofs.LinkLemmas.{stands_by}
 use Rattle.ndc_world_replication.proofs.ShardLemmas.{cells_there}

@@ -1,6 +1,6 @@
 -- Jobs of reapplication for some of the shards of a cluster.
 use Rattle.std.specs.Prelude.{◌≡◌, ◌⊎◌, ◌+◌, ℕ, zero, suc, List, [], ◌∷◌}
-use Rattle.ndc_cluster_rounds.specs.Idle.{IsIdle}
+use Rattle.ndc_cluster.specs.Idle.{IsIdle}
 use Rattle.ndc_model_cells.specs.declared.job.Job.TheVariants.{Reapply}
 use Rattle.ndc_model_cells.specs.declared.job.ShardJob.{ShardJob}
 use Rattle.ndc_model_cells.specs.Cells.{Cell}

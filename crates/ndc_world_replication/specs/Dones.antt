@@ -1,7 +1,7 @@
 -- Jobs that clusters have done, and the traces that they make.
 use Rattle.std.specs.Prelude.{ℕ, ◌==◌, List, [], ◌∷◌, if◌then◌else◌}
 use Rattle.std.specs.List.{flat_map, range_with_len}
-use Rattle.ndc_cluster_rounds.specs.Idle.{idle_reply}
+use Rattle.ndc_cluster.specs.Idle.{idle_reply}
 use Rattle.ndc_domain.specs.declared.clusters.ClusterNo.{ClusterNo}
 use Rattle.ndc_model.specs.Moves.{Note, Trace, notes_of}
 use Rattle.ndc_model.specs.World.{World}

@@ -7,7 +7,7 @@ use Rattle.ndc_model_cells.specs.declared.job.ShardJob.{ShardJob}
 use Rattle.ndc_model_cells.specs.declared.message.Message.{Message}
 use Rattle.ndc_cluster.specs.Clusters.{ClusterValue}
 use Rattle.ndc_cluster_links.specs.Rest.{AreRests, IsRestOf, queue_at}
-use Rattle.ndc_cluster_rounds.specs.Rounds.{jobs_of}
+use Rattle.ndc_cluster.specs.Rounds.{jobs_of}
 use Rattle.ndc_model.specs.World.{Cluster}
 use Rattle.ndc_queue.specs.Queues.{QueueValue}
 

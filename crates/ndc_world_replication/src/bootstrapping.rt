@@ -15,7 +15,7 @@ use crate::replication::Replication;
 use crate::taking::add_jobs;
 use crate::working::Done;
 use ndc_cluster_links::Link;
-use ndc_cluster_rounds::Cell;
+use ndc_cluster::Cell;
 use ndc_domain::ClusterNo;
 use ndc_event::{Name, OutOfMemory};
 use ndc_model_cells::ShardJob;

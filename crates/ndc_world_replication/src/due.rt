@@ -10,7 +10,7 @@ ghost use Rattle.ndc_world_replication.specs.Places.{links_at};
 use crate::replication::Replication;
 use crate::taking::add_jobs;
 use crate::working::Done;
-use ndc_cluster_rounds::Cell;
+use ndc_cluster::Cell;
 use ndc_domain::ClusterNo;
 use ndc_event::OutOfMemory;
 use ndc_model_cells::ShardJob;

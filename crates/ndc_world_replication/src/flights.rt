@@ -7,7 +7,7 @@ ghost use Rattle.ndc_queue.specs.declared.flight.FlightError.TheVariants as erro
 
 use crate::pulling::link_place;
 use crate::replication::Replication;
-use ndc_cluster_rounds::Cell;
+use ndc_cluster::Cell;
 use ndc_domain::ClusterNo;
 use ndc_queue::{FlightError, NoSuchPlace};
 

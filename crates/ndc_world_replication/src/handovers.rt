@@ -3,7 +3,7 @@ ghost use Rattle.std.specs.List.{filter};
 ghost use Rattle.ndc_model.specs.Handovers.{is_handover_of, with_handover, without_handover};
 
 use crate::replication::Replication;
-use ndc_cluster_rounds::Cell;
+use ndc_cluster::Cell;
 use ndc_event::{Name, OutOfMemory};
 use ndc_graceful::Handover;
 

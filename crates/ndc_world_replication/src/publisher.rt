@@ -1,14 +1,14 @@
 ghost use Rattle.std.specs.Prelude.{◌≡◌, ◌<◌, length, map, IfSome, OnOk};
 ghost use Rattle.std.specs.List.{AllByRecursion};
 ghost use Rattle.ndc_cluster_links.specs.Rest.{AreFronts, AreRests};
-ghost use Rattle.ndc_cluster_rounds.specs.Rounds.{AreFresh};
+ghost use Rattle.ndc_cluster.specs.Rounds.{AreFresh};
 ghost use Rattle.ndc_model_cells.specs.Jobs.{cell_for};
 ghost use Rattle.ndc_queue.specs.Queues.{QueueValue};
 ghost use Rattle.ndc_world_replication.specs.Publishers.{AreRestsBut};
 
 use ndc_cluster::Cluster;
 use ndc_cluster_links::Queues;
-use ndc_cluster_rounds::{Cell, Desk, Fresh, Home};
+use ndc_cluster::{Cell, Desk, Fresh, Home};
 use ndc_domain::{
     ClusterNo, Clusters, DomainError, DomainTable, FailoverError, JoinError, Members, RetainError,
 };
@@ -134,7 +134,7 @@ fn extend_queues<C: Cell>(
 impl<C: Cell + Drop> Publisher<C> {
     ghost use Rattle.std.specs.Prelude.{◌≡◌, ◌<◌, ◌≤◌, ◌-◌, ◌^◌, All, length, map, max, slice_index_or, slice_set, IfOk, IfSome, OnOk, OnErr};
     ghost use Rattle.std.specs.List.{AllByRecursion};
-    ghost use Rattle.ndc_cluster_rounds.specs.Homes.{desk_of};
+    ghost use Rattle.ndc_cluster.specs.Homes.{desk_of};
     ghost use Rattle.ndc_model_cells.specs.Jobs.{cell_for, cells_after, replies_to};
     ghost use Rattle.ndc_cluster_links.specs.Rest.{AreRests};
     ghost use Rattle.ndc_queue.specs.Queues.{QueueValue};

@@ -13,7 +13,7 @@ use crate::replication::Replication;
 use ndc_cluster::Cluster;
 use ndc_cluster_links::Link;
 use ndc_cluster_reads::Reads;
-use ndc_cluster_rounds::Cell;
+use ndc_cluster::Cell;
 use ndc_domain::{ClusterNo, DomainTable};
 use ndc_event::Name;
 use ndc_model_cells::{Message, shard_of};

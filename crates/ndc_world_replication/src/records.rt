@@ -13,7 +13,7 @@ ghost use Rattle.ndc_world_replication.specs.Tables.{table_changed, table_left, 
 
 use crate::replication::Replication;
 use ndc_cluster_links::Link;
-use ndc_cluster_rounds::Cell;
+use ndc_cluster::Cell;
 use ndc_domain::{
     ClusterNo, DomainError, DomainTable, FailoverError, JoinError, Members, RetainError,
 };

@@ -14,7 +14,7 @@ use crate::publisher::Publisher;
 use crate::replication::Replication;
 use crate::working::Done;
 use ndc_cluster_links::Link;
-use ndc_cluster_rounds::Cell;
+use ndc_cluster::Cell;
 use ndc_domain::{ClusterNo, DomainTable};
 use ndc_event::OutOfMemory;
 use ndc_port::Gate;

@@ -9,7 +9,7 @@ ghost use Rattle.ndc_world_replication.specs.Orderly.{IsOrderly};
 use crate::publisher::Publisher;
 use crate::replication::Replication;
 use ndc_cluster_links::Link;
-use ndc_cluster_rounds::Cell;
+use ndc_cluster::Cell;
 use ndc_domain::ClusterNo;
 use ndc_script_types::Header;
 

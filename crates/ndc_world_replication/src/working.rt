@@ -14,7 +14,7 @@ ghost use Rattle.ndc_model_cells.specs.Conditions.{AreAllowed};
 use crate::publisher::home_in;
 use crate::replication::Replication;
 use crate::taking::take_all;
-use ndc_cluster_rounds::Cell;
+use ndc_cluster::Cell;
 use ndc_domain::ClusterNo;
 use ndc_event::OutOfMemory;
 use ndc_model_cells::{JobReply, ShardJob};

@@ -1,6 +1,6 @@
 -- Cells that are passed by tell nothing.
 use Rattle.std.proofs.Common.{◌≡◌, ◌==◌, ◌+◌, ℕ, Bool, true, false, List, [], ◌∷◌, ◌++◌, if◌then◌else◌, refl, ap, sym, ◌∙◌, arith}
-use Rattle.ndc_cluster_rounds.specs.Idle.{idle_reply}
+use Rattle.ndc_cluster.specs.Idle.{idle_reply}
 use Rattle.ndc_domain.specs.declared.clusters.ClusterNo.{ClusterNo}
 use Rattle.ndc_index.specs.declared.seen.Seen.{Seen}
 use Rattle.ndc_model.specs.Moves.{Note, notes_of}

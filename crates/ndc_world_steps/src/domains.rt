@@ -7,7 +7,7 @@ ghost use Rattle.ndc_model.specs.World.{cluster_at};
 ghost use Rattle.ndc_world_steps.specs.Told.{leaving};
 
 use crate::told::{Told, answered};
-use ndc_cluster_rounds::Cell;
+use ndc_cluster::Cell;
 use ndc_domain::{ClusterNo, DomainError, Members};
 use ndc_event::{Name, OutOfMemory};
 use ndc_script_types::Header;

@@ -15,7 +15,7 @@ ghost use Rattle.ndc_world_steps.specs.Told.{leaving};
 
 use crate::told::{Told, answered};
 use ndc_cluster_links::Link;
-use ndc_cluster_rounds::Cell;
+use ndc_cluster::Cell;
 use ndc_domain::{ClusterNo, DomainTable};
 use ndc_event::{Name, OutOfMemory};
 use ndc_graceful::{BeginError, Handover, ReadyError};

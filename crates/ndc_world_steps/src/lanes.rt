@@ -8,7 +8,7 @@ ghost use Rattle.ndc_world_replication.specs.Orderly.{IsOrderly};
 ghost use Rattle.ndc_world_steps.specs.Told.{leaving};
 
 use crate::told::{Told, answered};
-use ndc_cluster_rounds::Cell;
+use ndc_cluster::Cell;
 use ndc_domain::ClusterNo;
 use ndc_event::OutOfMemory;
 use ndc_queue::FlightError;

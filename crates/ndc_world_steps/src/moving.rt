@@ -15,7 +15,7 @@ ghost use Rattle.ndc_world_steps.specs.Told.{leaving};
 
 use crate::told::Told;
 use ndc_cluster_reads::Reads;
-use ndc_cluster_rounds::Cell;
+use ndc_cluster::Cell;
 use ndc_domain::ClusterNo;
 use ndc_event::OutOfMemory;
 use ndc_index::Seen;

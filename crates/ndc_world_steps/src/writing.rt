@@ -8,7 +8,7 @@ ghost use Rattle.ndc_model.specs.Conditions.{MayDoAll};
 ghost use Rattle.ndc_world_steps.specs.Told.{first_answer, leaving};
 
 use crate::told::Told;
-use ndc_cluster_rounds::Cell;
+use ndc_cluster::Cell;
 use ndc_command::Command;
 use ndc_domain::ClusterNo;
 use ndc_event::{Name, OutOfMemory};

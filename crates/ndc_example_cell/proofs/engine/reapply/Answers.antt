@@ -1,5 +1,5 @@
 use Rattle.std.proofs.Common.{sym, subst}
-use Rattle.ndc_cluster_rounds.specs.Homes.{HomeValue, desk_of}
+use Rattle.ndc_cluster.specs.Homes.{HomeValue, desk_of}
 use Rattle.ndc_model_cells.specs.Keeping.{CanWriteEach}
 use Rattle.ndc_example_cell.proofs.SharedLemmas.{shared-reapply}
 use Rattle.ndc_example_cell.proofs.engine.reapply.Goals as goal

@@ -1,5 +1,5 @@
 use Rattle.std.proofs.Common.{rules, ◌≡◌, sym, subst}
-use Rattle.ndc_cluster_rounds.specs.Homes.{HomeValue, desk_of}
+use Rattle.ndc_cluster.specs.Homes.{HomeValue, desk_of}
 use Rattle.ndc_model_cells.specs.Keeping.{CanWrite}
 use Rattle.ndc_example_cell.proofs.SharedLemmas.{refuse-then, shared-write, write-then}
 use Rattle.ndc_example_cell.proofs.engine.write.Goals as goal

@@ -1,5 +1,5 @@
 use Rattle.std.proofs.Common.{◌<◌, arith}
-use Rattle.ndc_cluster_rounds.proofs.RoundLemmas.{all_more}
+use Rattle.ndc_cluster.proofs.RoundLemmas.{all_more}
 use Rattle.ndc_model_cells.specs.declared.job.ShardJob.{ShardJob}
 use Rattle.ndc_tests_cluster.proofs.rounds.jobs_for_two.Goals as goal
 

@@ -1,7 +1,7 @@
 use Rattle.std.proofs.Common.{Err, inl, inr, ◌∙◌, ap, refl, sym}
 use Rattle.std.proofs.lemmas.Bool.{false≢true}
 use Rattle.ndc_laws_program.proofs.PromiseLemmas.{keeps_promises}
-use Rattle.ndc_world_report.proofs.SeatLemmas.{reports_front, reports_whole, seated_chosen, unknown_chosen}
+use Rattle.ndc_world.proofs.SeatLemmas.{reports_front, reports_whole, seated_chosen, unknown_chosen}
 use Rattle.ndc_dump.specs.Telling.{Streams}
 use Rattle.ndc_tool_top.proofs.Endings.{read_fault, stops_within, succeeds}
 use Rattle.ndc_tool_top.proofs.run.run.Goals as goal

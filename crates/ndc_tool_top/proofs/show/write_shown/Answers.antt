@@ -1,7 +1,7 @@
 use Rattle.ndc_port.proofs.Steps.{Sent_start, Sent_stop}
 use Rattle.ndc_port.specs.Bytes.{AppendsFront}
 use Rattle.ndc_tool_top.specs.Show.{shown_text}
-use Rattle.ndc_world_report.proofs.Ends.{on_err}
+use Rattle.ndc_world.proofs.Ends.{on_err}
 use Rattle.ndc_tool_top.proofs.show.write_shown.Goals as goal
 
 -- nothing was written yet

@@ -5,8 +5,8 @@ use Rattle.ndc_model_cells.specs.Jobs.{cell_for}
 use Rattle.ndc_model_cells.specs.declared.message.Message.{Message}
 use Rattle.ndc_cluster_links.proofs.RestLemmas.{cell_there}
 use Rattle.ndc_cluster_links.specs.Rest.{IsFrontOf, IsRestOf, queue_at}
-use Rattle.ndc_cluster_rounds.specs.Rounds.{AreFresh, IsFresh}
-use Rattle.ndc_cluster_rounds.specs.declared.fresh.Fresh.{Fresh}
+use Rattle.ndc_cluster.specs.Rounds.{AreFresh, IsFresh}
+use Rattle.ndc_cluster.specs.declared.fresh.Fresh.{Fresh}
 use Rattle.ndc_world_replication.proofs.FreshLemmas.{fresh_end, fresh_next}
 use Rattle.ndc_world_replication.proofs.GrowLemmas.{firsts_then, fronts_then, rests_front}
 use Rattle.ndc_world_replication.proofs.publisher.extend_all.Goals as goal

@@ -1,7 +1,7 @@
 use Rattle.std.proofs.Common.{◌≡◌, ◌<◌, ◌≤◌, ℕ, drop, length, map}
 use Rattle.ndc_model_cells.specs.Jobs.{cell_for}
 use Rattle.ndc_cluster_links.specs.Rest.{AreFronts, IsRestOf, queue_at}
-use Rattle.ndc_cluster_rounds.specs.Rounds.{AreFresh}
+use Rattle.ndc_cluster.specs.Rounds.{AreFresh}
 use Rattle.ndc_queue.specs.Queues.{QueueValue}
 use Rattle.ndc_world_replication.proofs.publisher.extend_all.Given as goal
 

@@ -1,5 +1,5 @@
 use Rattle.std.proofs.Common.{◌≡◌, ◌<◌, ◌∙◌, List, length, ap, sym, subst}
-use Rattle.ndc_cluster_rounds.specs.Homes.{HomeValue, desk_of}
+use Rattle.ndc_cluster.specs.Homes.{HomeValue, desk_of}
 use Rattle.ndc_model_cells.specs.Writing.{Desk, command_of}
 use Rattle.ndc_model_cells.specs.Allowed.{MayBeAsked}
 use Rattle.ndc_shard.proofs.KeepingLemmas.{can-command}

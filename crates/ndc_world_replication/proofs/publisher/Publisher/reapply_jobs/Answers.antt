@@ -1,7 +1,7 @@
 use Rattle.std.proofs.Common.{◌≡◌, List, [], ◌∷◌, ◌++◌, append_assoc, refl, ap, sym, subst, ◌∙◌, arith}
 use Rattle.std.proofs.lemmas.List.{append-nil}
-use Rattle.ndc_cluster_rounds.specs.Homes.{HomeValue, desk_of}
-use Rattle.ndc_cluster_rounds.specs.Idle.{IsIdle}
+use Rattle.ndc_cluster.specs.Homes.{HomeValue, desk_of}
+use Rattle.ndc_cluster.specs.Idle.{IsIdle}
 use Rattle.ndc_domain.specs.declared.record.DomainRecord.{DomainRecord}
 use Rattle.ndc_model_cells.specs.Cells.{Cell}
 use Rattle.ndc_model_cells.specs.Jobs.{cell_for}

@@ -1,5 +1,5 @@
 use Rattle.std.proofs.Common.{◌-◌, List, ◌++◌}
-use Rattle.ndc_cluster_rounds.specs.Homes.{desk_of}
+use Rattle.ndc_cluster.specs.Homes.{desk_of}
 use Rattle.ndc_model_cells.specs.declared.job.ShardJob.{ShardJob}
 use Rattle.ndc_world_replication.specs.Chosen.{AreChosen}
 use Rattle.ndc_world_replication.proofs.publisher.Publisher.reapply_jobs.Given as goal

@@ -3,8 +3,8 @@ use Rattle.std.proofs.lemmas.List.{length-map}
 use Rattle.ndc_cluster.specs.Clusters.{ClusterValue}
 use Rattle.ndc_cluster_links.specs.Rest.{AreFronts, AreRests}
 use Rattle.std.specs.Prelude.{IfSome}
-use Rattle.ndc_cluster_rounds.specs.Homes.{desk_of}
-use Rattle.ndc_cluster_rounds.specs.Rounds.{AreFresh}
+use Rattle.ndc_cluster.specs.Homes.{desk_of}
+use Rattle.ndc_cluster.specs.Rounds.{AreFresh}
 use Rattle.ndc_model_cells.specs.Cells.{Cell}
 use Rattle.ndc_model_cells.specs.Jobs.{cell_for, cells_after}
 use Rattle.ndc_queue.specs.Queues.{QueueValue}

@@ -1,7 +1,7 @@
 use Rattle.std.proofs.Common.{◌≡◌, ◌<◌, ◌+◌, ◌++◌, ℕ, [], List, length, slice_index_or, map, ap, drop, refl, sym, ◌∙◌, arith}
 use Rattle.std.proofs.lemmas.List.{append-nil, drop_all}
 use Rattle.std.specs.List.{flat_map}
-use Rattle.ndc_cluster_rounds.proofs.EachLemmas.{all_there}
+use Rattle.ndc_cluster.proofs.EachLemmas.{all_there}
 use Rattle.ndc_model.specs.Moves.{arrives, due}
 use Rattle.ndc_model.specs.World.{World}
 use Rattle.ndc_model_cells.specs.Jobs.{cell_for}

@@ -3,7 +3,7 @@ use Rattle.std.proofs.lemmas.List.{length-map}
 use Rattle.std.specs.List.{AllByRecursion}
 use Rattle.std.proofs.lemmas.Result.{on_ok_weaker}
 use Rattle.ndc_model_cells.specs.declared.job.ShardJob.{ShardJob}
-use Rattle.ndc_cluster_rounds.specs.Homes.{HomeValue, desk_of}
+use Rattle.ndc_cluster.specs.Homes.{HomeValue, desk_of}
 use Rattle.ndc_model_cells.specs.Jobs.{cells_after}
 use Rattle.ndc_model.specs.World.{Cluster, World, cluster_at, home_at, with_cells}
 use Rattle.ndc_world_replication.proofs.LinkLemmas.{stands}

@@ -1,5 +1,5 @@
 use Rattle.std.proofs.Common.{sym, subst}
-use Rattle.ndc_cluster_rounds.specs.Homes.{HomeValue, desk_of}
+use Rattle.ndc_cluster.specs.Homes.{HomeValue, desk_of}
 use Rattle.ndc_model.specs.World.{Cluster}
 use Rattle.ndc_world_replication.proofs.LinkLemmas.{cells_many, stands_by}
 use Rattle.ndc_world_replication.specs.Chosen.{AreChosen}

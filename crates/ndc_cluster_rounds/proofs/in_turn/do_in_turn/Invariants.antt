@@ -1,6 +1,0 @@
-use Rattle.std.proofs.Common.{drop}
-use Rattle.ndc_cluster_rounds.proofs.TurnLemmas.{InTurn}
-use Rattle.ndc_cluster_rounds.proofs.in_turn.do_in_turn.Given as goal
-
-abbrev pub invariant-loop-asked : goal.invariant-loop-asked
-invariant-loop-asked g l = InTurn g.C.Cell.allows g.C.Cell.cell l.desk l.jobs (drop l.asked-index l.jobs) l.initial.cells.items l.cells.items l.replies.items

@@ -1,4 +1,0 @@
-pub mod Rounds
-pub mod Each
-pub mod Homes
-pub mod Idle

@@ -1,4 +1,0 @@
-mod BranchLemmas
-mod EndLemmas
-mod GapLemmas
-mod GroupLemmas

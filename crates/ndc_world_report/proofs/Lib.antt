@@ -1,4 +1,0 @@
-pub mod LeftLemmas
-pub mod SeatLemmas
-pub mod CountLemmas
-pub mod Ends

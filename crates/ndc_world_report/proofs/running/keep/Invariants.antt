@@ -1,5 +1,0 @@
-use Rattle.std.proofs.Common.{◌≡◌, ◌++◌}
-use Rattle.ndc_world_report.proofs.running.keep.Given as goal
-
-abbrev pub invariant-loop-one : goal.invariant-loop-one
-invariant-loop-one l = l.told.items ++ l.one-iterator.rest.items ≡ l.fn.told.items ++ l.fn.seen.items

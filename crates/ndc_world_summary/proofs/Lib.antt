@@ -1,5 +1,0 @@
-pub mod BatchLemmas
-mod FoundLemmas
-mod PartLemmas
-mod ShardLemmas
-pub mod TableLemmas
