@@ -1,8 +1,8 @@
 use crate::finding::gaps_at;
 use crate::jobs::{do_job, is_idle};
 use crate::shard::Shard;
-use ndc_cluster_reads::Reads;
 use ndc_cluster::{Cell, Desk, Home};
+use ndc_cluster_reads::Reads;
 use ndc_event::{BatchKey, Name, OutOfMemory};
 use ndc_model_cells::{Job, JobReply, Message, Place};
 use ndc_resend::GapOf;

@@ -5,8 +5,8 @@ ghost use Rattle.ndc_model.specs.Facts.{IsReached};
 ghost use Rattle.ndc_world_replication.specs.Orderly.{IsOrderly};
 
 use crate::given::ListCell;
-use ndc_cluster_reads::Reads;
 use ndc_cluster::Cell;
+use ndc_cluster_reads::Reads;
 use ndc_domain::{ClusterNo, Clusters};
 use ndc_event::{BatchKey, Name, OutOfMemory};
 use ndc_model_cells::{Message, Place};

@@ -7,8 +7,8 @@ ghost use Rattle.ndc_world_queries.specs.Summaries.{cells_of, totals_in, totals_
 
 use crate::parts::{Totals, added, totals_in};
 use crate::tables::have_one_table;
-use ndc_cluster_reads::Reads;
 use ndc_cluster::Cell;
+use ndc_cluster_reads::Reads;
 use ndc_event::OutOfMemory;
 use ndc_script_types::Header;
 use ndc_world_replication::{Publisher, Replication};
