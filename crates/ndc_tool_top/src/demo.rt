@@ -7,8 +7,7 @@ use ndc_event::OutOfMemory;
 use ndc_port::Gate;
 use ndc_script::generate;
 use ndc_shard::Shard;
-use ndc_world::Summary;
-use ndc_world::last_world;
+use ndc_world::{Summary, last_world};
 use std::alloc::Global;
 use std::thread::Threads;
 

@@ -7,8 +7,8 @@ ghost use Rattle.ndc_world_replication.specs.Replications.{links_of, opening_pub
 
 use crate::publisher::{Publisher, home_in};
 use crate::replication::Replication;
-use ndc_cluster_links::Link;
 use ndc_cluster::Cell;
+use ndc_cluster_links::Link;
 use ndc_domain::ClusterNo;
 use ndc_event::OutOfMemory;
 use ndc_script_types::{Header, clusters_below};

@@ -6,9 +6,8 @@ ghost use Rattle.ndc_model_cells.specs.Jobs.{cell_for};
 ghost use Rattle.ndc_queue.specs.Queues.{QueueValue};
 ghost use Rattle.ndc_world_replication.specs.Publishers.{AreRestsBut};
 
-use ndc_cluster::Cluster;
+use ndc_cluster::{Cell, Cluster, Desk, Fresh, Home};
 use ndc_cluster_links::Queues;
-use ndc_cluster::{Cell, Desk, Fresh, Home};
 use ndc_domain::{
     ClusterNo, Clusters, DomainError, DomainTable, FailoverError, JoinError, Members, RetainError,
 };

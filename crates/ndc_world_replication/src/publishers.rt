@@ -10,10 +10,9 @@ ghost use Rattle.ndc_queue.specs.Queues.{queue_len};
 
 use crate::publisher::Publisher;
 use crate::replication::Replication;
-use ndc_cluster::Cluster;
+use ndc_cluster::{Cell, Cluster};
 use ndc_cluster_links::Link;
 use ndc_cluster_reads::Reads;
-use ndc_cluster::Cell;
 use ndc_domain::{ClusterNo, DomainTable};
 use ndc_event::Name;
 use ndc_model_cells::{Message, shard_of};

@@ -6,8 +6,8 @@ ghost use Rattle.ndc_model.specs.World.{is_link, lane_at, link_at};
 ghost use Rattle.ndc_world_replication.specs.Orderly.{IsOrderly};
 
 use crate::replication::Replication;
-use ndc_cluster_links::Link;
 use ndc_cluster::Cell;
+use ndc_cluster_links::Link;
 use ndc_domain::ClusterNo;
 use ndc_event::OutOfMemory;
 use ndc_script_types::Header;

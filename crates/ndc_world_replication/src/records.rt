@@ -12,8 +12,8 @@ ghost use Rattle.ndc_model.specs.World.{cluster_at, with_late, with_table};
 ghost use Rattle.ndc_world_replication.specs.Tables.{table_changed, table_left, with_late_domain};
 
 use crate::replication::Replication;
-use ndc_cluster_links::Link;
 use ndc_cluster::Cell;
+use ndc_cluster_links::Link;
 use ndc_domain::{
     ClusterNo, DomainError, DomainTable, FailoverError, JoinError, Members, RetainError,
 };

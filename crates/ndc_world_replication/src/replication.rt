@@ -1,6 +1,6 @@
 use crate::publisher::Publisher;
-use ndc_cluster_links::Link;
 use ndc_cluster::Cell;
+use ndc_cluster_links::Link;
 use ndc_graceful::Handover;
 use std::marker::Model;
 

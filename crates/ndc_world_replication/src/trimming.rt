@@ -8,8 +8,8 @@ ghost use Rattle.ndc_world_replication.specs.Orderly.{IsOrderly};
 
 use crate::publisher::Publisher;
 use crate::replication::Replication;
-use ndc_cluster_links::Link;
 use ndc_cluster::Cell;
+use ndc_cluster_links::Link;
 use ndc_domain::ClusterNo;
 use ndc_script_types::Header;
 

@@ -14,8 +14,8 @@ ghost use Rattle.ndc_world_steps.specs.Links.{IsBetween, is_handover_to, is_late
 ghost use Rattle.ndc_world_steps.specs.Told.{leaving};
 
 use crate::told::{Told, answered};
-use ndc_cluster_links::Link;
 use ndc_cluster::Cell;
+use ndc_cluster_links::Link;
 use ndc_domain::{ClusterNo, DomainTable};
 use ndc_event::{Name, OutOfMemory};
 use ndc_graceful::{BeginError, Handover, ReadyError};

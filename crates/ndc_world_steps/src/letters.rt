@@ -16,8 +16,8 @@ ghost use Rattle.ndc_world_steps.specs.Told.{leaving};
 
 use crate::moving::{Telling, tell_all};
 use crate::told::{Told, answered};
-use ndc_cluster_reads::Reads;
 use ndc_cluster::Cell;
+use ndc_cluster_reads::Reads;
 use ndc_domain::ClusterNo;
 use ndc_event::{Batch, OutOfMemory};
 use ndc_letters::{Bytes, Letter, Letters, Taken};

@@ -14,8 +14,8 @@ ghost use Rattle.ndc_world_replication.specs.Orderly.{IsOrderly};
 ghost use Rattle.ndc_world_steps.specs.Told.{leaving};
 
 use crate::told::Told;
-use ndc_cluster_reads::Reads;
 use ndc_cluster::Cell;
+use ndc_cluster_reads::Reads;
 use ndc_domain::ClusterNo;
 use ndc_event::OutOfMemory;
 use ndc_index::Seen;
