@@ -1,21 +1,25 @@
 -- What is served lies between the ends of the gap.
-use Rattle.std.proofs.Common.{◌≡◌, ℕ, ◌+◌, ◌<◌, ◌≤◌, Bool, true, false, cond, List, [], ◌∷◌, ◌++◌, nat_lt, ◌&&◌, ◌==◌, if◌then◌else◌, refl, sym, ap, subst, ◌∙◌, arith, true≢false}
+use Rattle.std.proofs.Common.{◌≡◌, ℕ, ◌+◌, ◌<◌, ◌≤◌, Bool, true, false, cond, List, [], ◌∷◌, ◌++◌, Option, Some, None, nat_lt, ◌&&◌, ◌==◌, if◌then◌else◌, refl, sym, ap, subst, ◌∙◌, arith, true≢false}
 use Rattle.std.specs.List.{AllByRecursion, list_all}
 use Rattle.std.proofs.lemmas.Bool.{eqb-true, le-ltb, lt-ltb, ltb-true}
 use Rattle.std.proofs.lemmas.List.Elements.{filter-append}
 use Rattle.ndc_event.specs.Batch.{follow_from}
 use Rattle.ndc_event.specs.declared.batch.Batch.{Batch}
 use Rattle.ndc_event.specs.declared.batch.Event.{Event}
+use Rattle.ndc_event.specs.declared.key.BatchKey.{BatchKey}
 use Rattle.ndc_resend.specs.Gaps.{end_behind, is_between, served}
 use Rattle.ndc_history.specs.Common.{item_or_zero}
 use Rattle.ndc_resend.specs.declared.serving.Gap.{Gap}
+use Rattle.ndc_resend.specs.Serving.{answered, with_carriers}
 use Rattle.ndc_model_sets.specs.Paths.{IsPath, first, below, first_id, last_from, last_id, last_item_of, path_to}
-use Rattle.ndc_model_sets.specs.Sets.{Has}
+use Rattle.ndc_model_sets.specs.Sets.{Has, batch_at}
 use Rattle.ndc_model_sets.specs.Sound.{IsSound}
 use Rattle.ndc_state.specs.Replay.{history_of}
 use Rattle.ndc_model_sets.proofs.FaultLemmas.{passes}
 use Rattle.ndc_model_sets.proofs.PathIds.{ends, ends-last, follow-front, follow-rest, history-append, path-events}
+use Rattle.ndc_model_sets.proofs.NoPaths.{no-path}
 use Rattle.ndc_model_sets.proofs.PathLemmas.{path_is}
+use Rattle.ndc_model_sets.proofs.SetLemmas.{found-key}
 
 -- a batch has an event
 pub record HasEvents (b : Batch) : Type 0 where
@@ -202,3 +206,14 @@ pub end_is_enough : (batches : List Batch) (b : Batch) (gap : Gap) → IsSound b
 end_is_enough batches b gap sound has =
     let is : IsPath batches b (path_to b.key batches) = path_is batches b sound.set sound.closed has in
     end-same gap 0 (path_to b.key batches) (path-has_events batches b (path_to b.key batches) sound is) (path-events batches b (path_to b.key batches) sound.faultless sound.parents is).follow
+
+-- so what is answered is what is served of the whole path, with the carriers above it
+pub answered_of_the_path : (all : List Batch) (gap : Gap) (key : BatchKey) → IsSound all → answered all gap key ≡ with_carriers all (served gap (path_to key all))
+answered_of_the_path all gap key sound = by (batch_at key all) refl
+  where
+    by : (o : Option Batch) → batch_at key all ≡ o → answered all gap key ≡ with_carriers all (served gap (path_to key all))
+    by None none = ap (λ path. with_carriers all (served gap (end_behind gap.after.id path))) (no-path all key none) ∙ ap (λ path. with_carriers all (served gap path)) (sym (no-path all key none))
+    by (Some b) some =
+        let same = found-key all key b some in
+        subst (λ k. answered all gap k ≡ with_carriers all (served gap (path_to k all))) same
+        (ap (with_carriers all) (end_is_enough all b gap sound (subst (λ k. batch_at k all ≡ Some b) (sym same) some)))

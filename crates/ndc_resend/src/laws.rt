@@ -11,7 +11,9 @@ ghost use Rattle.ndc_model_sets.specs.Learned.{IsClosed, IsPart, WaitsFor, has_k
 ghost use Rattle.ndc_model_sets.specs.Paths.{events_to, first_id, last_item_of, path_to, versions_of};
 ghost use Rattle.ndc_model_sets.specs.Sets.{Has, IsSet, batch_at};
 ghost use Rattle.ndc_model_sets.specs.Sound.{IsSound};
+ghost use Rattle.ndc_event.specs.declared.key.BatchKey.{BatchKey as Key};
 ghost use Rattle.ndc_resend.specs.declared.asking.GapOf.{GapOf};
+ghost use Rattle.ndc_resend.specs.declared.serving.Gap.{Gap as Asked};
 ghost use Rattle.ndc_resend.specs.Asked.{HasLearned, IsPutOffIn};
 ghost use Rattle.ndc_resend.specs.Bringing.{IsBehindIn, brought_to};
 ghost use Rattle.ndc_resend.specs.Gaps.{first_item, gap_of, served};
@@ -34,6 +36,15 @@ pub fn what_lies_between_is_served()
     ensures { (batches : List Batch) (b : Batch) (front middle : List Batch) → IsSound batches → Has batches b
         → path_to b.key batches ≡ front ++ (middle ++ b ∷ [])
         → served (record { after = item_or_zero (last_item_of (history_of front)); before = record { id = first_id b.events; version = b.key.version } }) (path_to b.key batches) ≡ middle }
+{}
+
+/// What a cell answers for a gap is what is served of the whole path to the batch that was asked for, after those by which
+/// carriers lead to the first batch of that: of the path it is enough to look at its end that begins after the gap's
+/// first end.
+#[tactic(auto, using(crate::proofs::ServeLemmas::answered_of_the_path))]
+pub fn what_is_answered_is_served_of_the_whole_path()
+    ensures { (all : List Batch) (gap : Asked) (key : Key) → IsSound all
+        → answered all gap key ≡ with_carriers all (served gap (path_to key all)) }
 {}
 
 /// The gap before a batch that a cell has put off begins behind the last event that is learned of its path; behind id 0

@@ -9,4 +9,4 @@ mod serving;
 
 pub use asking::GapOf;
 pub use finding::{first_item, gap};
-pub use serving::{Gap, is_between, serve};
+pub use serving::{Gap, serve, serve_lent};

@@ -1,4 +1,4 @@
-ghost use Rattle.std.specs.Prelude.{◌≡◌, IfOk};
+ghost use Rattle.std.specs.Prelude.{◌≡◌, map, IfOk};
 ghost use Rattle.ndc_resend.specs.Gaps.{is_between, served};
 
 use ndc_event::{Batch, OutOfMemory};
@@ -16,7 +16,7 @@ pub struct Gap {
 }
 
 /// Whether all events of the batch come behind the one end of the gap and before the other. Takes no memory.
-pub fn is_between(gap: &Gap, batch: &Batch) -> bool
+fn is_between(gap: &Gap, batch: &Batch) -> bool
     ensures { result ≡ is_between gap.now batch.now }
 {
     gap.after.id < first_id(batch.events.as_slice())
@@ -28,10 +28,27 @@ pub fn is_between(gap: &Gap, batch: &Batch) -> bool
 pub fn serve(alloc: Global, path: &[Batch], gap: &Gap) -> Result<Vec<Batch>, OutOfMemory>
     ensures { IfOk result (λ list. list.items ≡ served gap.now path.now) }
 {
+    let lent: Vec<&Batch> = path.iter().collect(alloc)?;
+    let between = serve_lent(alloc, lent.as_slice(), gap)?;
+    let mut list = Vec::with_capacity(alloc, between.len())?;
+    for batch in between.as_slice() {
+        list.push(batch.try_copy()?)?;
+    }
+    Ok(list)
+}
+
+/// The batches themselves of which [`serve`] gives copies, of a path whose batches are lent.
+pub fn serve_lent<'p>(
+    alloc: Global,
+    path: &[&'p Batch],
+    gap: &Gap,
+) -> Result<Vec<&'p Batch>, OutOfMemory>
+    ensures { IfOk result (λ list. map (λ b. b.now) list.items ≡ served gap.now (map (λ b. b.now) path.now)) }
+{
     let mut list = Vec::new(alloc);
     for batch in path {
         if is_between(gap, batch) {
-            list.push(batch.try_copy()?)?;
+            list.push(*batch)?;
         }
     }
     Ok(list)

@@ -13,7 +13,7 @@ ghost use Rattle.ndc_resend.specs.Serving.{answered, chain_to, first_carrier, se
 use ndc_event::{Batch, BatchKey, OutOfMemory};
 use ndc_model_cells::Message;
 use ndc_model_sets::{earlier_key, first_id};
-use ndc_resend::{Gap, GapOf, is_between};
+use ndc_resend::{Gap, GapOf, serve_lent};
 use ndc_shard_runs::Runs;
 use ndc_shard_workflows::{Workflows, message_there};
 use std::alloc::Global;
@@ -83,7 +83,7 @@ fn lie_between<'r>(
     ensures { IfOk result (λ list. map (λ b. b.now) list.items ≡ served gap.now (end_behind gap.now.after.id (path_to key runs.now))) }
 {
     let path = path_behind(alloc, runs, gap.after.id, key)?;
-    kept_between(alloc, path.as_slice(), gap)
+    serve_lent(alloc, path.as_slice(), gap)
 }
 
 /// The end of the path to the batch of this key that begins behind an id. In time of its length.
@@ -114,23 +114,6 @@ fn behind(batch: Option<&Batch>, id: u64) -> Option<&Batch>
         Some(one) if id < first_id(one.events.as_slice()) => Some(one),
         _ => None,
     }
-}
-
-/// Those of these batches that lie in the gap.
-fn kept_between<'r>(
-    alloc: Global,
-    path: &[&'r Batch],
-    gap: &Gap,
-) -> Result<Vec<&'r Batch>, OutOfMemory>
-    ensures { IfOk result (λ list. map (λ b. b.now) list.items ≡ served gap.now (map (λ b. b.now) path.now)) }
-{
-    let mut list = Vec::new(alloc);
-    for batch in path {
-        if is_between(gap, batch) {
-            list.push(*batch)?;
-        }
-    }
-    Ok(list)
 }
 
 /// The carrier's key of the first of these batches.

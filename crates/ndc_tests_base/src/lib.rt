@@ -1,5 +1,6 @@
 //! Tests of small parts by hand: bytes in and out with faults, names of domains, version histories, states at a mark, a
-//! restored path, a tree, a run, the current run, reports that are merged, and copies that nothing in the program makes.
+//! restored path, a tree, a run, the current run, what a reset plans, what lies in a gap, reports that are merged, and
+//! copies that nothing in the program makes.
 #![tactic(auto)]
 
 #[cfg(test)]
@@ -8,6 +9,8 @@ mod command;
 mod current;
 #[cfg(test)]
 mod domain;
+#[cfg(test)]
+mod events;
 #[cfg(test)]
 mod given;
 #[cfg(test)]
@@ -18,6 +21,10 @@ mod port;
 mod progress;
 #[cfg(test)]
 mod rebuild;
+#[cfg(test)]
+mod resend;
+#[cfg(test)]
+mod reset;
 #[cfg(test)]
 mod run;
 #[cfg(test)]

@@ -1,6 +1,6 @@
 use Rattle.std.proofs.Common.{◌≡◌, ◌++◌, drop, map}
 use Rattle.ndc_resend.specs.Gaps.{served}
-use Rattle.ndc_shard.proofs.serving.kept_between.Given as goal
+use Rattle.ndc_resend.proofs.serving.serve_lent.Given as goal
 
 -- those gone over that lie in the gap, and those that are left and do, are all
 abbrev pub invariant-loop-batch : goal.invariant-loop-batch
