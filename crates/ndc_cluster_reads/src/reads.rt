@@ -1,18 +1,22 @@
-use ndc_cluster::Cell;
+use ndc_cluster::{Cell, Home};
+use ndc_command::Refusal;
+use ndc_domain::DomainTable;
 use ndc_event::{BatchKey, Name, OutOfMemory};
 use ndc_model_cells::{Message, Place};
 use ndc_resend::GapOf;
 use ndc_shard_runs::Runs;
 use std::alloc::Global;
 
-/// Something that does the jobs of a cell, gives messages of what it has learned and written, tells what has arrived and
-/// what it lacks, and serves what another cell lacks.
+/// Something that does the jobs of a cell, gives messages of what it has learned and written, tells what has arrived, what it
+/// lacks and whether it may write, and serves what another cell lacks.
 pub trait Reads: Cell {
     ghost use Rattle.std.specs.Prelude.{◌≡◌, [], is_some, map, IfSome, IfNone, IfOk};
+    ghost use Rattle.ndc_cluster.specs.Homes.{desk_of};
     ghost use Rattle.ndc_model_cells.specs.Cells.{learned_of, message_at, put_off_in};
     ghost use Rattle.ndc_model_cells.specs.Jobs.{workflows_of};
     ghost use Rattle.ndc_model_cells.specs.Places.{batch_there, place_of};
     ghost use Rattle.ndc_model_cells.specs.Workflow.{workflow_of};
+    ghost use Rattle.ndc_model_cells.specs.Writing.{may_go_on};
     ghost use Rattle.ndc_resend.specs.PutOff.{gaps_in, gaps_of};
     ghost use Rattle.ndc_resend.specs.Serving.{served_for};
 
@@ -21,6 +25,20 @@ pub trait Reads: Cell {
     fn runs(&self, domain: &Name, workflow: &Name) -> Option<&Runs>
         ensures found { IfSome result (λ runs. runs.now ≡ learned_of domain.now workflow.now (Self.cell self.now)) }
         ensures none { IfNone result (learned_of domain.now workflow.now (Self.cell self.now) ≡ []) };
+
+    /// The version with which it may write to a workflow that has begun: that of its cluster's record of the domain. Takes no
+    /// memory. Refused with the first of these that holds: [`Refusal::UnknownDomain`] where there is no record,
+    /// [`Refusal::NotActive`] with the version where another cluster writes with it, or none does, [`Refusal::Behind`] with
+    /// the greatest learned version where that is above it, and [`Refusal::NoWorkflow`] where no run of the workflow is
+    /// learned.
+    fn may_write(
+        &self,
+        home: &Home,
+        table: &DomainTable,
+        domain: &Name,
+        workflow: &Name,
+    ) -> Result<u64, Refusal>
+        ensures { result ≡ may_go_on (desk_of home.now table.now) domain.now workflow.now (Self.cell self.now) };
 
     /// Whether the batch of this key of a workflow has arrived. Takes no memory.
     fn has_arrived(&self, domain: &Name, workflow: &Name, key: BatchKey) -> bool

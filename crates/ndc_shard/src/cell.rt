@@ -3,6 +3,8 @@ use crate::jobs::{do_job, is_idle};
 use crate::shard::Shard;
 use ndc_cluster::{Cell, Desk, Home};
 use ndc_cluster_reads::Reads;
+use ndc_command::Refusal;
+use ndc_domain::DomainTable;
 use ndc_event::{BatchKey, Name, OutOfMemory};
 use ndc_model_cells::{Job, JobReply, Message, Place};
 use ndc_resend::GapOf;
@@ -51,6 +53,16 @@ impl Cell for Shard {
 impl Reads for Shard {
     fn runs(&self, domain: &Name, workflow: &Name) -> Option<&Runs> {
         Shard::runs(self, domain, workflow)
+    }
+
+    fn may_write(
+        &self,
+        home: &Home,
+        table: &DomainTable,
+        domain: &Name,
+        workflow: &Name,
+    ) -> Result<u64, Refusal> {
+        Shard::may_write(self, home, table, domain, workflow)
     }
 
     fn has_arrived(&self, domain: &Name, workflow: &Name, key: BatchKey) -> bool {

@@ -13,4 +13,4 @@ mod writing;
 pub use entry::Entry;
 pub use reapplication::reapplication_entry;
 pub use reset::reset_entries;
-pub use writing::{command_entry, may_write, unless_behind, writes_to};
+pub use writing::{command_entry, unless_behind, writes_to};

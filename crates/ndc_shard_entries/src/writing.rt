@@ -1,6 +1,6 @@
 ghost use Rattle.std.specs.Prelude.{◌≡◌, ◌≤◌, ◌+◌, ◌^◌, ℕ, List, [], ◌∷◌, IfOk, IfSome, length};
 ghost use Rattle.std.specs.Option.{option_copied};
-ghost use Rattle.ndc_model_cells.specs.Writing.{command_entries, entry_below, greatest_task, is_writer, may_write_by, next_key, state_under};
+ghost use Rattle.ndc_model_cells.specs.Writing.{command_entries, entry_below, greatest_task, is_writer, next_key, state_under};
 ghost use Rattle.ndc_shard_entries.specs.Writer.{unless_behind, writes_to};
 ghost use Rattle.ndc_command.specs.declared.refusal.CommandError.TheVariants.{Memory};
 ghost use Rattle.ndc_command.specs.Laws.{begins_run};
@@ -47,22 +47,6 @@ pub fn unless_behind(version: u64, runs: &Runs) -> Result<u64, Refusal>
         return Err(Refusal::Behind { version: greatest });
     }
     Ok(version)
-}
-
-/// The version with which a cluster may write to a workflow of a domain, of which this is learned: as [`writes_to`] and then
-/// [`unless_behind`] answer. Takes no memory.
-pub fn may_write(
-    clusters: &Clusters,
-    me: ClusterNo,
-    domain: Option<&DomainRecord>,
-    runs: &Runs,
-) -> Result<u64, Refusal>
-    ensures { (limit : ℕ) (table : List RecordValue) → result ≡ may_write_by (record { clusters = clusters.now; me = me; limit = limit; table = table }) (option_copied domain.entry) runs.now }
-{
-    match writes_to(clusters, me, domain) {
-        Ok(version) => unless_behind(version, runs),
-        Err(refusal) => Err(refusal),
-    }
 }
 
 /// Whether the writer of a version is this cluster.

@@ -5,14 +5,16 @@ ghost use Rattle.ndc_model.specs.Facts.{IsReached};
 ghost use Rattle.ndc_world_replication.specs.Orderly.{IsOrderly};
 
 use crate::given::ListCell;
-use ndc_cluster::Cell;
+use ndc_cluster::{Cell, Home};
 use ndc_cluster_reads::Reads;
-use ndc_domain::{ClusterNo, Clusters};
+use ndc_command::Refusal;
+use ndc_domain::{ClusterNo, Clusters, DomainTable};
 use ndc_event::{BatchKey, Name, OutOfMemory};
 use ndc_model_cells::{Message, Place};
 use ndc_port::OpenGate;
 use ndc_resend::GapOf;
 use ndc_script_types::Header;
+use ndc_shard_entries::writes_to;
 use ndc_shard_runs::Runs;
 use ndc_world_replication::Replication;
 use std::alloc::Global;
@@ -21,6 +23,20 @@ use std::test::Fail;
 impl Reads for ListCell {
     fn runs(&self, _domain: &Name, _workflow: &Name) -> Option<&Runs> {
         None
+    }
+
+    #[tactic(auto, unfolding(ndc_model_cells::specs::Writing::may_write))]
+    fn may_write(
+        &self,
+        home: &Home,
+        table: &DomainTable,
+        domain: &Name,
+        _workflow: &Name,
+    ) -> Result<u64, Refusal> {
+        match writes_to(home.clusters, home.me, table.find(domain)) {
+            Ok(_) => Err(Refusal::NoWorkflow),
+            Err(why) => Err(why),
+        }
     }
 
     fn has_arrived(&self, _domain: &Name, _workflow: &Name, _key: BatchKey) -> bool {

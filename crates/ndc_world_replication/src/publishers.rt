@@ -1,18 +1,20 @@
 ghost use Rattle.std.specs.Prelude.{◌≡◌, ◌<◌, [], find, length, option_copied, position, slice_index_or};
 ghost use Rattle.ndc_script_types.specs.WellFormed.{IsCluster};
 ghost use Rattle.ndc_model_cells.specs.Jobs.{cell_for};
+ghost use Rattle.ndc_model_cells.specs.Writing.{may_go_on};
 ghost use Rattle.ndc_model.specs.Fair.{IsShaped};
 ghost use Rattle.ndc_model.specs.Reading.{learned_at};
-ghost use Rattle.ndc_model.specs.World.{cluster_at, flight_at, is_link, lane_at, link_at, link_found, queue_at, trimmed_at};
+ghost use Rattle.ndc_model.specs.World.{cell_of as cell_in, cluster_at, flight_at, home_at, is_link, lane_at, link_at, link_found, queue_at, trimmed_at};
 ghost use Rattle.ndc_world_replication.specs.Found.{batches_or_none};
 ghost use Rattle.ndc_world_replication.specs.Publishers.{cluster_alone};
 ghost use Rattle.ndc_queue.specs.Queues.{queue_len};
 
-use crate::publisher::Publisher;
+use crate::publisher::{Publisher, home_in};
 use crate::replication::Replication;
 use ndc_cluster::{Cell, Cluster};
 use ndc_cluster_links::Link;
 use ndc_cluster_reads::Reads;
+use ndc_command::Refusal;
 use ndc_domain::{ClusterNo, DomainTable};
 use ndc_event::Name;
 use ndc_model_cells::{Message, shard_of};
@@ -151,4 +153,25 @@ pub fn runs_of<'a, C: Reads + Drop>(
 {
     let shard = shard_of(domain, workflow, header.shards);
     cell_of(replication, cluster, shard).runs(domain, workflow)
+}
+
+/// The version with which a cluster may write to a workflow that has begun. Takes no memory. Refused as
+/// [`Reads::may_write`] refuses it.
+pub fn may_write<C: Reads + Drop>(
+    replication: &Replication<C>,
+    header: &Header,
+    cluster: ClusterNo,
+    domain: &Name,
+    workflow: &Name,
+) -> Result<u64, Refusal>
+    requires shards { 0 < header.now.shards }
+    requires cluster { IsCluster header.now cluster }
+    requires shaped { IsShaped header.now replication.now }
+    ensures { result ≡ may_go_on (home_at header.now cluster replication.now) domain.now workflow.now
+        (cell_in header.now cluster domain.now workflow.now replication.now) }
+{
+    let home = home_in(header, cluster);
+    let shard = shard_of(domain, workflow, header.shards);
+    let cell = cell_of(replication, cluster, shard);
+    cell.may_write(&home, table_of(replication, cluster), domain, workflow)
 }

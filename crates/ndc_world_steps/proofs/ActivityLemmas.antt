@@ -7,20 +7,21 @@ use Rattle.ndc_script_types.specs.declared.script.Header.{Header}
 use Rattle.ndc_laws_jobs.proofs.StandLemmas.{beat-left}
 use Rattle.ndc_model.specs.Reporting.{told_at, told_by}
 use Rattle.ndc_model.specs.Standing.{IsLeftBy, StandFor}
-use Rattle.ndc_model_cells.specs.Writing.{may_write, state_under}
+use Rattle.ndc_model_cells.specs.Writing.{as_command_error, may_go_on, may_write, state_under, where_begun}
 use Rattle.ndc_command.specs.declared.refusal.CommandError.{CommandError}
+use Rattle.ndc_command.specs.declared.refusal.Refusal.{Refusal}
+use Rattle.ndc_event.specs.Outcome.{◌>>=◌}
 use Rattle.ndc_domain.specs.declared.clusters.ClusterNo.{ClusterNo}
-use Rattle.ndc_domain.specs.declared.record.DomainRecord.{DomainRecord}
 use Rattle.ndc_model_sets.proofs.NoPaths.{no-path}
 use Rattle.ndc_event.specs.declared.batch.Batch.{Batch}
 use Rattle.ndc_event.specs.declared.batch.Event.{Event}
 use Rattle.ndc_event.specs.declared.key.BatchKey.{BatchKey}
 use Rattle.ndc_event.specs.declared.name.Name.{Name}
 use Rattle.ndc_index.specs.declared.seen.Seen.{Seen}
-use Rattle.ndc_model.specs.Progress.{beat_step, version_of_event}
+use Rattle.ndc_model.specs.Progress.{beat_step, started_activity, version_of_event}
 use Rattle.ndc_model.specs.Reading.{learned_at}
 use Rattle.ndc_model.specs.Steps.{Stepped, error_answer}
-use Rattle.ndc_model.specs.World.{World, cluster_at}
+use Rattle.ndc_model.specs.World.{World, cell_of, home_at}
 use Rattle.ndc_progress.specs.Reports.{greater_report, held, report_lt, same_activity, stale_by}
 use Rattle.ndc_progress.specs.declared.report.ActivityRef.{ActivityRef}
 use Rattle.ndc_progress.specs.declared.report.Report.{Report}
@@ -188,11 +189,21 @@ put-back [] i = refl
 put-back (x ∷ xs) zero = refl
 put-back (x ∷ xs) (suc i) = ap (λ l. x ∷ l) (put-back xs i)
 
--- what may be told, by what is learned
-pub told_same : (header : Header) (cluster : ClusterNo) (domain workflow id : Name) (w : World) (batches : List Batch) (table : List DomainRecord) → table ≡ (cluster_at cluster w).table → batches ≡ learned_at header cluster domain workflow w
-    → told_from (record { clusters = header.clusters; me = cluster; limit = header.limit; table = table }) domain workflow id batches ≡ told_at header cluster domain workflow id w
-unfolding may_write
-told_same header cluster domain workflow id w batches table e f = λ i. told_from (record { clusters = header.clusters; me = cluster; limit = header.limit; table = e i }) domain workflow id (f i)
+-- where no run is learned there is no activity, so that a run is learned need not be asked before
+begun : (domain workflow id : Name) (batches : List Batch) (may : Result ℕ Refusal) (tip : Option Batch)
+    → (as_command_error (may >>= where_begun tip) >>= λ version. started_activity domain workflow id batches tip >>= λ activity. Ok (version, activity))
+    ≡ (as_command_error may >>= λ version. started_activity domain workflow id batches tip >>= λ activity. Ok (version, activity))
+begun domain workflow id batches (Err why) tip = refl
+begun domain workflow id batches (Ok version) None = refl
+begun domain workflow id batches (Ok version) (Some tip) = refl
+
+-- what may be told, by what is learned and the version with which the cell may write
+pub told_same : (header : Header) (cluster : ClusterNo) (domain workflow id : Name) (w : World) (batches : List Batch) (may : Result ℕ Refusal)
+    → may ≡ may_go_on (home_at header cluster w) domain workflow (cell_of header cluster domain workflow w) → batches ≡ learned_at header cluster domain workflow w
+    → told_from may domain workflow id batches ≡ told_at header cluster domain workflow id w
+told_same header cluster domain workflow id w batches may e f =
+    (λ i. told_from (e i) domain workflow id (f i))
+    ∙ begun domain workflow id (learned_at header cluster domain workflow w) (may_write (home_at header cluster w) domain workflow (cell_of header cluster domain workflow w)) (workflow_tip (learned_at header cluster domain workflow w))
 
 module _ (v : World) (reports : List (List Report)) (w : World) (stand : StandFor v reports w) (header : Header) (cluster : ClusterNo) (domain workflow id details : Name) where
   -- what is told by what may be told

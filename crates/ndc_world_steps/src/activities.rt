@@ -1,9 +1,8 @@
 ghost use Rattle.std.specs.Prelude.{◌≡◌, not, Some, IfOk};
-ghost use Rattle.ndc_model_cells.specs.Writing.{as_command_error, may_write_by};
+ghost use Rattle.ndc_model_cells.specs.Writing.{as_command_error};
 ghost use Rattle.ndc_command.specs.Stage.{needs_started, refuse, stage_of};
 ghost use Rattle.ndc_command.specs.declared.refusal.CommandError.TheVariants.{Memory};
 ghost use Rattle.ndc_command.specs.declared.refusal.Refusal.TheVariants as refusal;
-ghost use Rattle.ndc_domain.specs.Records.{record_of};
 ghost use Rattle.ndc_event.specs.Outcome.{Gives};
 ghost use Rattle.ndc_model.specs.Progress.{pending_activity, started_activity, version_of_event};
 ghost use Rattle.ndc_model_sets.specs.Branches.{workflow_tip};
@@ -13,12 +12,9 @@ ghost use Rattle.ndc_model_sets.specs.Sound.{IsSound};
 ghost use Rattle.ndc_world_steps.specs.Versions.{told_from, version_in};
 
 use ndc_command::{CommandError, Refusal};
-use ndc_domain::{ClusterNo, DomainTable};
 use ndc_event::{Batch, BatchKey, Name, OutOfMemory};
 use ndc_history::Item;
 use ndc_progress::ActivityRef;
-use ndc_script_types::Header;
-use ndc_shard_entries::may_write;
 use ndc_shard_runs::Runs;
 use ndc_state::{Pending, State};
 use std::alloc::Global;
@@ -142,37 +138,30 @@ fn started_activity(
     started_below(alloc, domain, workflow, id, runs, tip, state)
 }
 
-/// The version with which a cluster may write to a workflow of which this is learned.
-fn version_for(
-    header: &Header,
-    cluster: ClusterNo,
-    table: &DomainTable,
-    domain: &Name,
-    runs: &Runs,
-) -> Result<u64, CommandError>
-    ensures { result ≡ as_command_error (may_write_by (record { clusters = header.now.clusters; me = cluster; limit = header.now.limit; table = table.now }) (record_of table.now domain.now) runs.now) }
+/// A refusal to write as that of a command.
+fn as_command_error(may: Result<u64, Refusal>) -> Result<u64, CommandError>
+    ensures { result ≡ as_command_error may }
 {
-    match may_write(&header.clusters, cluster, table.find(domain), runs) {
+    match may {
         Ok(version) => Ok(version),
         Err(why) => Err(CommandError::Refused(why)),
     }
 }
 
-/// The version with which a cluster may tell of an activity, and the activity, where this is learned of its workflow.
+/// The version with which a cluster may tell of an activity, which is that with which it may write to the workflow, and the
+/// activity, where this is learned of its workflow.
 pub(crate) fn told_of(
     alloc: Global,
-    header: &Header,
-    cluster: ClusterNo,
-    table: &DomainTable,
     domain: &Name,
     workflow: &Name,
     id: &Name,
+    may: Result<u64, Refusal>,
     runs: &Runs,
 ) -> Result<(u64, ActivityRef), CommandError>
     requires { IsSound runs.now }
-    ensures { Gives Memory (λ told. told) result (told_from (record { clusters = header.now.clusters; me = cluster; limit = header.now.limit; table = table.now }) domain.now workflow.now id.now runs.now) }
+    ensures { Gives Memory (λ told. told) result (told_from may domain.now workflow.now id.now runs.now) }
 {
-    let version = version_for(header, cluster, table, domain, runs)?;
+    let version = as_command_error(may)?;
     let activity = started_activity(alloc, domain, workflow, id, runs)?;
     Ok((version, activity))
 }

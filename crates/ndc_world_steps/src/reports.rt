@@ -26,7 +26,7 @@ use ndc_script_types::Header;
 use ndc_shard_runs::Runs;
 use ndc_world_answers::AnswerText;
 use ndc_world_replication::Replication;
-use ndc_world_replication::publishers::{runs_of, table_of};
+use ndc_world_replication::publishers::{may_write, runs_of};
 use std::alloc::{AllocError, Global};
 
 /// The version of a held report that is above another one.
@@ -71,13 +71,15 @@ fn told_with<C: Reads + Drop>(
     id: &Name,
     runs: &Runs,
 ) -> Result<(u64, ActivityRef), CommandError>
-    requires there { cluster.number < length replication.now.clusters }
+    requires shards { 0 < header.now.shards }
+    requires cluster { IsCluster header.now cluster }
+    requires shaped { IsShaped header.now replication.now }
     requires runs { runs.now ≡ learned_at header.now cluster domain.now workflow.now replication.now }
     requires sound { IsSound runs.now }
     ensures { Gives Memory (λ told. told) result (told_at header.now cluster domain.now workflow.now id.now replication.now) }
 {
-    let table = table_of(replication, cluster);
-    told_of(alloc, header, cluster, table, domain, workflow, id, runs)
+    let may = may_write(replication, header, cluster, domain, workflow);
+    told_of(alloc, domain, workflow, id, may, runs)
 }
 
 /// The version with which a cluster may tell of an activity of a workflow, and the activity.
