@@ -11,11 +11,12 @@ pub(crate) fn name(alloc: Global, text: &str) -> Result<Name, OutOfMemory> {
     Name::new(alloc, text.as_bytes()).map_err(|_| AllocError)
 }
 
-/// A cell that has written some messages and learned nothing. It has nothing to apply again, and finds no memory for any
-/// other job.
+/// A cell that has written some messages and learned nothing. That of the first cluster has nothing to apply again, and finds
+/// no memory for any other job; that of another cluster finds none for any job.
 #[derive(Drop)]
 pub(crate) struct ListCell {
-    pub(crate) written: Vec<Message>,
+    written: Vec<Message>,
+    is_scarce: bool,
 }
 
 impl Cell for ListCell {
@@ -27,15 +28,16 @@ impl Cell for ListCell {
 
     ghost may = { λ _ _ _ _. tt };
 
-    fn new(alloc: Global, _home: &Home) -> Result<ListCell, OutOfMemory> {
+    fn new(alloc: Global, home: &Home) -> Result<ListCell, OutOfMemory> {
         Ok(ListCell {
             written: Vec::new(alloc),
+            is_scarce: home.me.number > 0,
         })
     }
 
     fn do_job(&mut self, _desk: &Desk, job: &Job) -> Result<JobReply, OutOfMemory> {
         match job {
-            Job::Reapply => Ok(JobReply {
+            Job::Reapply if !self.is_scarce => Ok(JobReply {
                 outcome: Outcome::Reapplied { count: 0 },
                 learned: Batches::new(Vec::new(*self.written.allocator())),
             }),
