@@ -73,6 +73,33 @@ pub(crate) fn write(
     }
 }
 
+/// A new run of a cell's workflow repeats the current one up to an event, or the cell refuses it.
+pub(crate) fn reset(
+    mine: &mut Shard,
+    theirs: &Shard,
+    shared: &Shared,
+    table: &DomainTable,
+    event: u64,
+) -> Result<Result<Written, Refusal>, OutOfMemory>
+    requires { AreShared shared.now.clusters.now shared.now.me shared.now.them shared.now.most shared.now.domain.now shared.now.workflow.now mine.old theirs.now }
+{
+    let home = home_of(shared.clusters, shared.me);
+    let mut steps: Steps<Replay> = Steps::new();
+    let written = mine.reset(
+        &home,
+        table,
+        shared.domain,
+        shared.workflow,
+        event,
+        &mut steps,
+    );
+    match written {
+        Ok(written) => Ok(Ok(written)),
+        Err(ShardError::Refused(refusal)) => Ok(Err(refusal)),
+        Err(ShardError::Memory) => Err(AllocError),
+    }
+}
+
 /// A message of what one cell has learned comes to the other.
 fn hear(
     mine: &Shard,

@@ -98,6 +98,13 @@ impl<'a> Pair<'a> {
         Ok(here.as_slice() == there.as_slice())
     }
 
+    /// With which version the cell in hand may write to the workflow, or why it may not.
+    pub(crate) fn may_write(&self, table: &DomainTable) -> Result<u64, Refusal> {
+        let home = home_of(self.shared.clusters, self.shared.me);
+        let (domain, workflow) = (self.shared.domain, self.shared.workflow);
+        self.mine.may_write(&home, table, domain, workflow)
+    }
+
     /// The cell in hand takes a command: what it writes, or why it does not. Refused with [`StoryError::Spent`] where the pair
     /// is spent or the workflow has grown too great.
     pub(crate) fn write(
@@ -144,6 +151,21 @@ impl<'a> Pair<'a> {
         }
         let copy = engine::remake(alloc, &self.mine, &self.theirs, &self.shared)?;
         Ok(copy)
+    }
+
+    /// A new run repeats the current one in the cell in hand up to an event: what is written, or why it is not. The pair is
+    /// spent by it.
+    pub(crate) fn reset(
+        &mut self,
+        table: &DomainTable,
+        event: u64,
+    ) -> Result<Result<Written, Refusal>, StoryError> {
+        if self.spent {
+            return Err(StoryError::Spent);
+        }
+        self.spent = true;
+        let written = engine::reset(&mut self.mine, &self.theirs, &self.shared, table, event)?;
+        Ok(written)
     }
 
     /// The cell in hand applies signals again that its current run has not seen: how many batches it writes. The pair is spent

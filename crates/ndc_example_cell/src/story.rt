@@ -4,8 +4,8 @@ ghost use Rattle.ndc_domain.specs.Clusters.{count_of};
 
 use crate::error::StoryError;
 use crate::pair::{A, B, Pair};
-use crate::telling::{tell_alike, tell_arrived, tell_count, tell_written};
-use ndc_command::Command;
+use crate::telling::{tell_alike, tell_arrived, tell_count, tell_may, tell_written};
+use ndc_command::{Actions, Command};
 use ndc_domain::{Clusters, DomainTable, Members};
 use ndc_event::{BatchKey, Name};
 use std::alloc::Global;
@@ -26,6 +26,8 @@ impl Drop for Asked {
 struct Scene {
     start: Asked,
     signal: Asked,
+    decide: Asked,
+    respond: Asked,
     records: DomainTable,
     moved: DomainTable,
 }
@@ -35,6 +37,8 @@ impl Drop for Scene {
         let Scene {
             start: _start,
             signal: _signal,
+            decide: _decide,
+            respond: _respond,
             records: _records,
             moved: _moved,
         } = self;
@@ -76,7 +80,7 @@ fn moved(
     Ok(table)
 }
 
-/// A start and a signal, and the records.
+/// A start, a signal, a decision that is started and then completed, and the records.
 fn scene_of(alloc: Global, clusters: &Clusters, domain: &Name) -> Result<Scene, StoryError>
     requires { 2 ≤ count_of clusters.now }
 {
@@ -91,6 +95,14 @@ fn scene_of(alloc: Global, clusters: &Clusters, domain: &Name) -> Result<Scene, 
         },
         signal: Asked {
             command: Command::Signal { name, input },
+        },
+        decide: Asked {
+            command: Command::Decide,
+        },
+        respond: Asked {
+            command: Command::Respond {
+                actions: Actions::new(Vec::new(alloc)),
+            },
         },
         records,
         moved,
@@ -155,6 +167,7 @@ fn fail_over(
 ) -> Result<(), StoryError> {
     pair.turn();
     write(pair, b"B", &scene.records, &scene.signal, text)?;
+    tell_may(text, b"B", pair.may_write(&scene.moved))?;
     write(pair, b"B", &scene.moved, &scene.signal, text)?;
     pair.turn();
     write(pair, b"A", &scene.records, &scene.signal, text)?;
@@ -173,10 +186,33 @@ fn make_anew(
 ) -> Result<(), StoryError> {
     let copy = pair.remake(alloc)?;
     text.extend_from_slice(b"A is made anew\n")?;
+    tell_count(
+        text,
+        b"workflows that it has learned: ",
+        copy.workflows()?.len(),
+    )?;
     let alike = pair.shows_as(alloc, &copy)?;
     tell_alike(text, alike)?;
     let count = pair.reapply(&scene.moved)?;
     tell_count(text, b"batches that B applies again: ", count)?;
+    Ok(())
+}
+
+/// A starts another workflow and makes a decision, and a reset goes on from before that decision in a new run.
+fn go_back(
+    alloc: Global,
+    clusters: &Clusters,
+    domain: &Name,
+    scene: &Scene,
+    text: &mut Vec<u8>,
+) -> Result<(), StoryError> {
+    let workflow = Name::new(alloc, b"w2")?;
+    let mut pair = Pair::new(alloc, clusters, domain, &workflow)?;
+    write(&mut pair, b"A", &scene.records, &scene.start, text)?;
+    write(&mut pair, b"A", &scene.records, &scene.decide, text)?;
+    write(&mut pair, b"A", &scene.records, &scene.respond, text)?;
+    let written = pair.reset(&scene.records, 4)?;
+    tell_written(text, b"A goes back and", &written)?;
     Ok(())
 }
 
@@ -192,7 +228,8 @@ fn play_scene(
     let mut pair = Pair::new(alloc, clusters, domain, &workflow)?;
     lose_and_serve(alloc, &mut pair, scene, text)?;
     fail_over(alloc, &mut pair, scene, text)?;
-    make_anew(alloc, &mut pair, scene, text)
+    make_anew(alloc, &mut pair, scene, text)?;
+    go_back(alloc, clusters, domain, scene, text)
 }
 
 /// Makes the clusters and the records, lets all of it happen, and gives the lines that tell of it.

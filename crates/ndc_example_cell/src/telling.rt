@@ -35,13 +35,40 @@ pub(crate) fn tell_written(
 ) -> Result<(), OutOfMemory> {
     text.extend_from_slice(who)?;
     match written {
-        Ok(written) => end_with_key(text, b" writes ", written.key),
+        Ok(written) => {
+            text.extend_from_slice(b" writes ")?;
+            push_key(text, written.key)?;
+            match written.second {
+                Some(second) => end_with_key(text, b" and ", second),
+                None => text.extend_from_slice(b"\n"),
+            }
+        }
         Err(refusal) => {
             text.extend_from_slice(b" refuses: ")?;
             text.extend_from_slice(reason_of(*refusal))?;
             text.extend_from_slice(b"\n")
         }
     }
+}
+
+/// Tells with which version a cell may write, or why it may not.
+pub(crate) fn tell_may(
+    text: &mut Vec<u8>,
+    who: &[u8],
+    version: Result<u64, Refusal>,
+) -> Result<(), OutOfMemory> {
+    text.extend_from_slice(who)?;
+    match version {
+        Ok(version) => {
+            text.extend_from_slice(b" may write with version ")?;
+            push_number(text, version)?;
+        }
+        Err(refusal) => {
+            text.extend_from_slice(b" may not write: ")?;
+            text.extend_from_slice(reason_of(refusal))?;
+        }
+    }
+    text.extend_from_slice(b"\n")
 }
 
 /// Tells what came of a message.

@@ -30,11 +30,7 @@ pub fn serve(alloc: Global, path: &[Batch], gap: &Gap) -> Result<Vec<Batch>, Out
 {
     let lent: Vec<&Batch> = path.iter().collect(alloc)?;
     let between = serve_lent(alloc, lent.as_slice(), gap)?;
-    let mut list = Vec::with_capacity(alloc, between.len())?;
-    for batch in between.as_slice() {
-        list.push(batch.try_copy()?)?;
-    }
-    Ok(list)
+    copies_of(alloc, between.as_slice())
 }
 
 /// The batches themselves of which [`serve`] gives copies, of a path whose batches are lent.
@@ -50,6 +46,17 @@ pub fn serve_lent<'p>(
         if is_between(gap, batch) {
             list.push(*batch)?;
         }
+    }
+    Ok(list)
+}
+
+/// Copies of batches, in order.
+fn copies_of(alloc: Global, batches: &[&Batch]) -> Result<Vec<Batch>, OutOfMemory>
+    ensures { IfOk result (λ list. list.items ≡ map (λ b. b.now) batches.now) }
+{
+    let mut list = Vec::with_capacity(alloc, batches.len())?;
+    for batch in batches {
+        list.push(batch.try_copy()?)?;
     }
     Ok(list)
 }

@@ -1,6 +1,0 @@
-use Rattle.std.proofs.Common.{◌≡◌, ◌++◌, drop, map}
-use Rattle.ndc_resend.proofs.serving.serve.Given as goal
-
--- the copies so far, and what is left to be copied, are all that lies in the gap
-abbrev pub invariant-loop-batch : goal.invariant-loop-batch
-invariant-loop-batch l = l.list.items ++ map (λ b. b.now) (drop l.batch-index l.between.items) ≡ map (λ b. b.now) l.between.items
