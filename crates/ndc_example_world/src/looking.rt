@@ -10,7 +10,7 @@ use ndc_script_types::Header;
 use ndc_shard::{Shard, shard_of};
 use ndc_state::Steps;
 use ndc_text::line::push_key;
-use ndc_world::World;
+use ndc_world::ShardWorld;
 use std::alloc::Global;
 
 /// Marks the counters of steps of this program.
@@ -18,7 +18,7 @@ struct Looking;
 
 /// The cell of a workflow at a cluster.
 pub(crate) fn cell<'w, 'h>(
-    world: &'w World<'h, Shard>,
+    world: &'w ShardWorld<'h>,
     header: &Header,
     at: ClusterNo,
     domain: &Name,
@@ -36,7 +36,7 @@ pub(crate) fn cell<'w, 'h>(
 /// Tells the version that a cluster's record of a domain has.
 pub(crate) fn tell_record(
     text: &mut Vec<u8>,
-    world: &World<Shard>,
+    world: &ShardWorld,
     header: &Header,
     at: ClusterNo,
     domain: &Name,

@@ -7,8 +7,7 @@ use crate::telling::settled_line;
 use ndc_port::OpenGate;
 use ndc_script_read::read_lines;
 use ndc_script_types::{Header, Line};
-use ndc_shard::Shard;
-use ndc_world::World;
+use ndc_world::ShardWorld;
 use std::alloc::Global;
 use std::thread::Threads;
 
@@ -16,14 +15,14 @@ use std::thread::Threads;
 pub(crate) fn run_line<R: Threads + Sync>(
     rt: &R,
     alloc: Global,
-    world: &mut World<Shard>,
+    world: &mut ShardWorld,
     line: &Line,
     text: &mut Vec<u8>,
 ) -> Result<(), StoryError>
     requires unspent { world.old.spent ≡ false }
     requires act { IsWellFormedAct world.old.header line.now.act }
     ensures unspent { OnOk result (world.new.spent ≡ false) }
-    ensures header { OnOk result (world.new.header ≡ world.old.header) }
+    ensures header { world.new.spent ≡ false → world.new.header ≡ world.old.header }
 {
     if !world.has_room(line) {
         return Err(StoryError::Full);
@@ -38,7 +37,7 @@ pub(crate) fn run_text<R: Threads + Sync>(
     rt: &R,
     alloc: Global,
     header: &Header,
-    world: &mut World<Shard>,
+    world: &mut ShardWorld,
     number: u64,
     bytes: &[u8],
     text: &mut Vec<u8>,
@@ -47,7 +46,7 @@ pub(crate) fn run_text<R: Threads + Sync>(
     requires unspent { world.old.spent ≡ false }
     requires header { world.old.header ≡ header.now }
     ensures unspent { OnOk result (world.new.spent ≡ false) }
-    ensures header { OnOk result (world.new.header ≡ header.now) }
+    ensures header { world.new.spent ≡ false → world.new.header ≡ header.now }
 {
     let lines = read_lines(alloc, header, number, bytes)?;
     for line in lines.as_slice() {
@@ -60,12 +59,12 @@ pub(crate) fn run_text<R: Threads + Sync>(
 pub(crate) fn settle<R: Threads + Sync>(
     rt: &R,
     alloc: Global,
-    world: &mut World<Shard>,
+    world: &mut ShardWorld,
     text: &mut Vec<u8>,
 ) -> Result<(), StoryError>
     requires { world.old.spent ≡ false }
     ensures unspent { OnOk result (world.new.spent ≡ false) }
-    ensures header { OnOk result (world.new.header ≡ world.old.header) }
+    ensures header { world.new.spent ≡ false → world.new.header ≡ world.old.header }
 {
     if world.lines() >= 100_000 {
         return Err(StoryError::Full);

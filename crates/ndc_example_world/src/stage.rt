@@ -9,7 +9,7 @@ use crate::running;
 use ndc_event::{BatchKey, Name, OutOfMemory};
 use ndc_script_types::Header;
 use ndc_shard::Shard;
-use ndc_world::{Summary, World};
+use ndc_world::{ShardWorld, Summary};
 use std::alloc::Global;
 use std::marker::Model;
 use std::thread::Threads;
@@ -19,8 +19,7 @@ pub(crate) struct Stage<'a> {
     header: &'a Header,
     domain: &'a Name,
     workflow: &'a Name,
-    world: World<'a, Shard>,
-    spent: bool,
+    world: ShardWorld<'a>,
 }
 
 impl<'a> Model for Stage<'a> {
@@ -29,9 +28,9 @@ impl<'a> Model for Stage<'a> {
 
     ghost Value = { Bool };
 
-    ghost view = { λ stage. stage.spent };
+    ghost view = { λ stage. stage.world.spent };
 
-    ghost invariant = { λ stage. stage.spent ≡ false → IsStanding stage.header.now stage.world };
+    ghost invariant = { λ stage. stage.world.spent ≡ false → IsStanding stage.header.now stage.world };
 }
 
 impl<'a> Drop for Stage<'a> {
@@ -41,7 +40,6 @@ impl<'a> Drop for Stage<'a> {
             domain: _domain,
             workflow: _workflow,
             world: _world,
-            spent: _spent,
         } = self;
     }
 }
@@ -58,13 +56,12 @@ impl<'a> Stage<'a> {
     ) -> Result<Stage<'a>, OutOfMemory>
         requires { IsWellFormedHeader header.now }
     {
-        let world = World::<Shard>::build(alloc, header)?;
+        let world = ShardWorld::build(alloc, header)?;
         Ok(Stage {
             header,
             domain,
             workflow,
             world,
-            spent: false,
         })
     }
 
@@ -77,12 +74,10 @@ impl<'a> Stage<'a> {
         bytes: &[u8],
         text: &mut Vec<u8>,
     ) -> Result<(), StoryError> {
-        if self.spent {
+        if self.world.is_spent() {
             return Err(StoryError::Spent);
         }
-        self.spent = true;
         running::run_text(rt, alloc, self.header, &mut self.world, number, bytes, text)?;
-        self.spent = false;
         Ok(())
     }
 
@@ -95,7 +90,7 @@ impl<'a> Stage<'a> {
         at: &[u8],
         text: &mut Vec<u8>,
     ) -> Result<(), StoryError> {
-        if self.spent {
+        if self.world.is_spent() {
             return Err(StoryError::Spent);
         }
         let at = cluster(self.header, at)?;
@@ -104,9 +99,7 @@ impl<'a> Stage<'a> {
         let made = Made {
             line: command_line(self.header, number, at, domain, workflow, order),
         };
-        self.spent = true;
         running::run_line(rt, alloc, &mut self.world, &made.line, text)?;
-        self.spent = false;
         Ok(())
     }
 
@@ -117,18 +110,16 @@ impl<'a> Stage<'a> {
         alloc: Global,
         text: &mut Vec<u8>,
     ) -> Result<(), StoryError> {
-        if self.spent {
+        if self.world.is_spent() {
             return Err(StoryError::Spent);
         }
-        self.spent = true;
         running::settle(rt, alloc, &mut self.world, text)?;
-        self.spent = false;
         Ok(())
     }
 
     /// Tells the version that a cluster's record of the domain has.
     pub(crate) fn tell_record(&self, at: &[u8], text: &mut Vec<u8>) -> Result<(), StoryError> {
-        if self.spent {
+        if self.world.is_spent() {
             return Err(StoryError::Spent);
         }
         let at = cluster(self.header, at)?;
@@ -163,7 +154,7 @@ impl<'a> Stage<'a> {
 
     /// What the world comes to, in numbers.
     pub(crate) fn summary(&self, alloc: Global) -> Result<Summary, StoryError> {
-        if self.spent {
+        if self.world.is_spent() {
             return Err(StoryError::Spent);
         }
         let summary = self.world.summary(alloc)?;
@@ -172,7 +163,7 @@ impl<'a> Stage<'a> {
 
     /// The cell of the workflow at a cluster.
     fn cell(&self, at: &[u8]) -> Result<&Shard, StoryError> {
-        if self.spent {
+        if self.world.is_spent() {
             return Err(StoryError::Spent);
         }
         let at = cluster(self.header, at)?;

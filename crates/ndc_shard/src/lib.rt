@@ -20,3 +20,6 @@ pub use ndc_model_cells::{Arrived, Job, JobReply, Keys, Outcome, ShardJob, Writt
 pub use ndc_model_sets::{Batches, BranchView, BranchViews, RunStatus, RunView, RunViews, View};
 pub use ndc_resend::GapOf;
 pub use shard::Shard;
+
+/// A cluster whose cells are shards.
+pub type ShardCluster = ndc_cluster::Cluster<Shard>;

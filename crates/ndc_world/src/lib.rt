@@ -21,3 +21,6 @@ pub use script::run_script;
 pub use settled::Settled;
 pub use summary::Summary;
 pub use world::World;
+
+/// A world whose cells are shards.
+pub type ShardWorld<'a> = World<'a, ndc_shard::Shard>;

@@ -102,6 +102,13 @@ impl<'a, C: Reads + Drop> World<'a, C> {
         self.lines
     }
 
+    /// Whether it is spent: memory was wanting in a line or a settlement. Takes no memory.
+    pub fn is_spent(&self) -> bool
+        ensures { result ≡ self.now.spent }
+    {
+        self.spent
+    }
+
     /// Whether it may still run a line: it runs at most 100,000, and each line in a burst counts as one. Takes no memory.
     pub fn has_room(&self, line: &Line) -> bool
         ensures { IsTrue result → self.now.lines + length (lines_of_act line.now.number line.now.act) ≤ 100000 }
