@@ -20,7 +20,7 @@ pub worlds_reached : (script : Script) → IsWellFormed script → AllByRecursio
 worlds_reached script fit = worlds_kept script fit (λ lines below. writing_keeps script.header lines fit.header below)
 
 -- a reached world is as promised
-world-promised : (header : Header) (lines : ℕ) (w : World) → IsWellFormedHeader header → IsReached header lines w → IsAsPromised header w
+pub world-promised : (header : Header) (lines : ℕ) (w : World) → IsWellFormedHeader header → IsReached header lines w → IsAsPromised header w
 world-promised header lines w fit is = record {
   alike = λ one two domain workflow first second. answers-alike header lines w fit is one two domain workflow first second;
   compare = λ one two domain workflow first second. compares-same header lines w fit is one two domain workflow first second;

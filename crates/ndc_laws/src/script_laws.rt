@@ -38,6 +38,12 @@ pub fn every_line_of_a_script_runs_in_a_reached_world()
     ensures { (header : Head) (front back : List ScriptLine) (line : ScriptLine) → IsWellFormed (script_of header (front ++ line ∷ back)) → RunsReached header front line.act }
 {}
 
+/// Every world that lines lead to is as promised.
+pub fn every_world_that_lines_lead_to_is_as_promised()
+    ensures { (header : Head) (lines : ℕ) (w : World) → IsWellFormedHeader header → IsReached header lines w
+        → IsAsPromised header w }
+{}
+
 /// In every world of a well-formed script clusters that learned the same batches of a workflow answer alike about it, and
 /// `compare` answers `same` exactly then; each run that is learned has one branch of greatest last version, the current
 /// one; each shown state replays its branch, on which no signal stands twice; and a batch waits exactly while an

@@ -30,6 +30,7 @@ use Rattle.ndc_model.specs.Laws.{script_of}
 use Rattle.ndc_model.specs.Lines.{act_step}
 use Rattle.ndc_model.specs.Moves.{from_world}
 use Rattle.ndc_model.specs.World.{World}
+use Rattle.ndc_model.proofs.StepLemmas.{overtaken_ends, refused_changes_nothing}
 use Rattle.ndc_model_sets.proofs.Lists.{find-among}
 
 -- a line that runs in a reached world, with a line to spare
@@ -91,6 +92,8 @@ keeps-behind-lines script fit = record {
   damaged = λ reader source shard place cut. at-each script fit (act.Damage reader source shard place cut) (SetsAsideWhereCut script.header reader source shard place cut) (λ front back number is. damage-line script.header front back number reader source shard place cut is);
   merged = λ cluster. at-each script fit (act.MergeLetters cluster) (BringsLetters script.header cluster) (λ front back number is. merge-line script.header front back number cluster is);
   purged = λ cluster front back number parts. purge-alone script.header (world_before script.header front) cluster;
+  refused = λ asked front back number parts. refused_changes_nothing script.header asked (world_before script.header front);
+  overtaken = λ at domain front back number parts. overtaken_ends script.header at domain (world_before script.header front);
   listed = λ cluster front back number parts. letters-alone script.header (world_before script.header front) cluster;
 }
 

@@ -19,6 +19,7 @@ use Rattle.ndc_model.specs.Facts.{IsReached}
 use Rattle.ndc_model.specs.Lines.{worlds_of}
 use Rattle.ndc_model.specs.World.{World}
 use Rattle.ndc_model.proofs.ListLemmas.{all-weaker}
+use Rattle.ndc_model_sets.proofs.CurrentLaws.{runs_apart}
 
 -- in a reached world
 module _ (header : Header) (lines : ℕ) (w : World) (is : IsReached header lines w) where
@@ -30,7 +31,8 @@ module _ (header : Header) (lines : ℕ) (w : World) (is : IsReached header line
   }
 
   parts-current : ClosedPartsHaveOneCurrent header w
-  parts-current domain workflow part = one_current header lines w domain workflow part is
+  parts-current domain workflow part set closed within =
+      (one_current header lines w domain workflow part is set closed within, λ one two tip other first second. runs_apart part one two tip other set first second)
 
   answers-arrivals : AnswersArrivals header w
   answers-arrivals = record {

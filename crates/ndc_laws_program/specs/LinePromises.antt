@@ -1,5 +1,5 @@
 -- What is promised behind each kind of line, of the world in which it runs.
-use Rattle.std.specs.Prelude.{◌≡◌, ◌≢◌, ◌⊎◌, ℕ, ◌<◌, ◌≤◌, List, [], ◌∷◌, ◌++◌, codes, length, slice_get, Some, Ok}
+use Rattle.std.specs.Prelude.{◌≡◌, ◌≢◌, ◌⊎◌, ℕ, ◌<◌, ◌≤◌, true, false, List, [], ◌∷◌, ◌++◌, codes, length, slice_get, Some, Ok}
 use Rattle.std.specs.List.{AllByRecursion}
 use Rattle.ndc_script_types.specs.declared.script.Act.{Act}
 use Rattle.ndc_script_types.specs.declared.script.Act.TheVariants as act
@@ -16,7 +16,8 @@ use Rattle.ndc_laws_program.specs.Dumps.{HoldsDump}
 use Rattle.ndc_laws_reached.specs.Trimmed.{IsLearnedWhereAddressed, trimmed_of}
 use Rattle.ndc_letters.specs.Letters.{letter_of}
 use Rattle.ndc_model.specs.Fair.{written_of}
-use Rattle.ndc_model.specs.Handovers.{handover_to, ready_in}
+use Rattle.ndc_model.specs.Handovers.{handover_to, ready_in, without_handover}
+use Rattle.ndc_model.specs.Laws.{ChangesNothing, is_overtaken, is_refusal}
 use Rattle.ndc_model.specs.Letters.{with_letters}
 use Rattle.ndc_model.specs.Lines.{act_step}
 use Rattle.ndc_model.specs.Reading.{learned_at}
@@ -85,3 +86,13 @@ SetsAsideWhereCut header reader source shard place cut w =
 -- `mergeletters`: the batch of each letter that the cluster had has arrived there
 abbrev pub BringsLetters : Header → ClusterNo → World → Type 0
 BringsLetters header cluster w = AllByRecursion (HasArrivedFor header cluster (behind header (act.MergeLetters cluster) w)) (cluster_at cluster w).letters
+
+-- a refused line changes nothing and makes nothing learned, but a `complete` whose handover was overtaken
+abbrev pub RefusedChangesNothing : Header → Act → World → Type 0
+RefusedChangesNothing header asked w =
+    is_refusal (act_step header asked w).answer ≡ true → is_overtaken (act_step header asked w).answer ≡ false → ChangesNothing w (act_step header asked w)
+
+-- that one ends the handover, and changes nothing else
+abbrev pub OvertakenEndsAlone : Header → ClusterNo → Name → World → Type 0
+OvertakenEndsAlone header at domain w =
+    is_overtaken (act_step header (act.Complete at domain) w).answer ≡ true → ChangesNothing (without_handover domain w) (act_step header (act.Complete at domain) w)

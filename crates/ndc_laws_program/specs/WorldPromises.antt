@@ -6,7 +6,7 @@ use Rattle.ndc_script_types.specs.declared.script.Header.{Header}
 use Rattle.ndc_domain.specs.declared.clusters.ClusterNo.{ClusterNo}
 use Rattle.ndc_event.specs.declared.batch.Batch.{Batch}
 use Rattle.ndc_event.specs.declared.name.Name.{Name}
-use Rattle.ndc_laws.specs.Promised.{HaveTheSameReports}
+use Rattle.ndc_laws.specs.Promised.{HaveTheSameReports, TipsDiffer}
 use Rattle.ndc_laws.specs.TakenOver.{HaveTheSameClusters, synced}
 use Rattle.ndc_laws_reached.specs.OneWriter.{EachHasOneCurrent}
 use Rattle.ndc_laws_cells.specs.Past.{EventsAreOne}
@@ -28,10 +28,11 @@ pub record HasOneWriters (header : Header) (w : World) : Type 0 where
   pub events : (domain workflow : Name) → EventsAreOne (written_of header domain workflow w)
   pub trimmed : (reader source : ClusterNo) (shard : ℕ) → AreTwoClusters header reader source → shard < header.shards → AllByRecursion (IsLearnedOrLate reader source shard w) (trimmed_of source shard w)
 
--- in each closed part of what was written of a workflow each run has one branch of greatest last version, and it is the current one
+-- in each closed part of what was written of a workflow each run has one branch of greatest last version, and it is the current one; and the current
+-- branches of no two runs share a tip
 abbrev pub ClosedPartsHaveOneCurrent : Header → World → Type 0
 ClosedPartsHaveOneCurrent header w =
-    (domain workflow : Name) (part : List Batch) → IsSet part → IsClosed part → IsPart part (written_of header domain workflow w) → EachHasOneCurrent part
+    (domain workflow : Name) (part : List Batch) → IsSet part → IsClosed part → IsPart part (written_of header domain workflow w) → EachHasOneCurrent part × TipsDiffer part
 
 -- progress reports: two of one activity, version and beat are one, and each stands in the list of the cluster that writes with its version;
 -- clusters that have the same hold the same; and what is held behind taking over those of others does not depend on their order or number

@@ -18,20 +18,23 @@ use Rattle.ndc_laws_jobs.proofs.StandLemmas.{all-held, as-many, line-left, lines
 use Rattle.ndc_domain.specs.Clusters.{count_of}
 use Rattle.ndc_domain.specs.declared.clusters.ClusterNo.{ClusterNo}
 use Rattle.ndc_index.specs.declared.seen.Seen.{Seen}
+use Rattle.ndc_laws.proofs.ReachedLemmas.{world-promised}
+use Rattle.ndc_laws.proofs.SettlementLemmas.{settled-world}
 use Rattle.ndc_laws_reached.proofs.ReachedLemmas.{line_reached}
 use Rattle.ndc_model.specs.Facts.{IsReached}
-use Rattle.ndc_model.specs.Laws.{is_refusal}
+use Rattle.ndc_model.specs.Laws.{is_overtaken, is_refusal}
 use Rattle.ndc_model.specs.Lines.{act_step, job_line, lines_of_act, ran_from, world_behind}
 use Rattle.ndc_model.specs.Moves.{Trace, after_settlement}
 use Rattle.ndc_model.specs.Steps.{applied_by, learned_by, seen_of}
 use Rattle.ndc_model.specs.World.{Cluster, World, all_clusters, cluster_at, new_cluster, opening_world}
 use Rattle.ndc_model.proofs.FairLemmas.{opening_reached}
 use Rattle.ndc_model.proofs.ListLemmas.{all-weaker}
+use Rattle.ndc_model.proofs.StepLemmas.{refused_changes_nothing}
 use Rattle.ndc_progress.specs.Reports.{greatest_of}
 use Rattle.ndc_progress.specs.declared.report.Report.{Report}
 use Rattle.ndc_world.specs.Counts.{one_if, refused_in}
 use Rattle.ndc_world.specs.Running.{HaveRun}
-use Rattle.ndc_world.specs.Standing.{IsBehind, IsBehindSettlement, IsStanding, IsUnspent, WorldValue}
+use Rattle.ndc_world.specs.Standing.{IsBehind, IsBehindSettlement, IsReachedWorld, IsSettledWorld, IsStanding, IsUnspent, WorldValue}
 use Rattle.ndc_world.proofs.BurstLemmas.{burst_runs}
 use Rattle.ndc_world.proofs.RunLemmas.{one_run}
 
@@ -225,3 +228,31 @@ unspent_settled before is u learned applied shown below does = record {
   answers_most = omega (arith, is.answers_most);
   refused_most = is.refused_most;
 }
+
+-- a world that is not spent is one that its lines lead to
+pub reached_world : (value : WorldValue) → IsUnspent value → IsReachedWorld value
+reached_world value is =
+    let s = is.standing in
+    record { whole = s.whole; stands = s.stands; reached = s.reached; promised = world-promised value.header value.lines s.whole s.fit s.reached }
+
+-- and a settlement leaves one that is settled
+pub settled_world : (before : WorldValue) (is : IsUnspent before) (u : World) (learned applied : ℕ) (shown : List Seen) → before.lines < 100000
+    → ((w : World) → StandFor before.world before.reports w → IsBehindSettlement before.header w u before.reports learned applied shown)
+    → IsSettledWorld (record { spent = false; header = before.header; lines = before.lines + 1; answers = before.answers; refused = before.refused; world = u; reports = before.reports })
+settled_world before is u learned applied shown below does = record {
+  is = reached_world (record { spent = false; header = before.header; lines = before.lines + 1; answers = before.answers; refused = before.refused; world = u; reports = before.reports })
+      (unspent_settled before is u learned applied shown below does);
+  settled = settled-world before.header before.lines is.standing.whole is.standing.fit below is.standing.reached;
+}
+
+-- what stands for a world stands for no other, so where a line is refused all is as it was
+pub refused_leaves_all : (before : WorldValue) (line : Line) (u : World) (held : List (List Report)) (told : List ℕ) (shown : List Seen) (count : ℕ)
+    → ((w : World) → StandFor before.world before.reports w → IsBehind before.header line w u held told shown count)
+    → (w : World) → StandFor before.world before.reports w → lines_of_act line.number line.act ≡ line ∷ []
+    → is_refusal (act_step before.header line.act w).answer ≡ true → is_overtaken (act_step before.header line.act w).answer ≡ false
+    → (u ≡ before.world) × (held ≡ before.reports)
+refused_leaves_all before line u held told shown count does w stand one refused other =
+    let left = subst (λ (lines : List Line). StandFor u held (world_behind w (ran_from before.header w lines))) one (does w stand).stands in
+    let same = (refused_changes_nothing before.header line.act w refused other).world in
+    let still = subst (StandFor u held) same left in
+    (still.clusters ∙ sym stand.clusters, still.reports ∙ sym stand.reports)

@@ -1,12 +1,15 @@
 -- The world of a script that runs: its clusters, and beside them the progress reports that each of them holds.
-use Rattle.std.specs.Prelude.{◌≡◌, ℕ, ◌+◌, ◌≤◌, Bool, false, List, length, map, sum}
+use Rattle.std.specs.Prelude.{◌≡◌, ℕ, ◌+◌, ◌≤◌, Bool, true, false, List, [], ◌∷◌, length, map, sum}
 use Rattle.ndc_script_types.specs.WellFormed.{IsWellFormedHeader}
 use Rattle.ndc_script_types.specs.declared.script.Header.{Header}
 use Rattle.ndc_script_types.specs.declared.script.Line.{Line}
 use Rattle.ndc_model.specs.Standing.{StandFor}
 use Rattle.ndc_index.specs.declared.seen.Seen.{Seen}
+use Rattle.ndc_laws.specs.Promised.{IsAsPromised}
+use Rattle.ndc_laws_reached.specs.Settled.{IsSettled}
 use Rattle.ndc_model.specs.Facts.{IsReached}
-use Rattle.ndc_model.specs.Lines.{answers_of, lines_of_act, ran_from, seen_in, world_behind}
+use Rattle.ndc_model.specs.Laws.{is_overtaken, is_refusal}
+use Rattle.ndc_model.specs.Lines.{act_step, answers_of, lines_of_act, ran_from, seen_in, world_behind}
 use Rattle.ndc_model.specs.Moves.{after_settlement}
 use Rattle.ndc_model.specs.Steps.{applied_by, learned_by, seen_of}
 use Rattle.ndc_model.specs.World.{World}
@@ -37,6 +40,18 @@ pub record IsUnspent (value : WorldValue) : Type 0 where
   pub answers_most : value.answers ≤ value.lines
   pub refused_most : value.refused ≤ value.answers
 
+-- a world that its lines lead to, for which clusters and reports stand: it is as it should be after so many lines, and as promised
+pub record IsReachedWorld (value : WorldValue) : Type 0 where
+  pub whole : World
+  pub stands : StandFor value.world value.reports whole
+  pub reached : IsReached value.header value.lines whole
+  pub promised : IsAsPromised value.header whole
+
+-- such a world, which is settled
+pub record IsSettledWorld (value : WorldValue) : Type 0 where
+  pub is : IsReachedWorld value
+  pub settled : IsSettled value.header is.whole
+
 -- they stand for the world that a line of the text leaves, and what was told is what it tells: each answer behind the number of its line,
 -- what became learned, and how many of the answers are refusals
 pub record IsBehind (header : Header) (line : Line) (w v : World) (reports : List (List Report)) (told : List ℕ) (shown : List Seen) (count : ℕ) : Type 0 where
@@ -44,6 +59,13 @@ pub record IsBehind (header : Header) (line : Line) (w v : World) (reports : Lis
   pub answers : told ≡ answers_of (ran_from header w (lines_of_act line.number line.act))
   pub seen : shown ≡ seen_in (ran_from header w (lines_of_act line.number line.act))
   pub refused : count ≡ refused_in (ran_from header w (lines_of_act line.number line.act))
+
+-- a line of the text that is refused by itself, and not for a handover that was overtaken, leaves clusters and reports as they were
+abbrev pub LeavesAllWhereRefused : WorldValue → Line → WorldValue → Type 0
+LeavesAllWhereRefused before line after =
+    (w : World) → StandFor before.world before.reports w → lines_of_act line.number line.act ≡ line ∷ []
+    → is_refusal (act_step before.header line.act w).answer ≡ true → is_overtaken (act_step before.header line.act w).answer ≡ false
+    → (after.world ≡ before.world) × (after.reports ≡ before.reports)
 
 -- a line of the text was run: it is counted, each line in a burst as one, with its answers and its refusals, and in each world for which
 -- the clusters stood before it, they stand for what it leaves, and this was told

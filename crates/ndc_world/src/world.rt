@@ -62,13 +62,13 @@ impl<'a, C: Reads + Drop> Drop for World<'a, C> {
 }
 
 impl<'a, C: Reads + Drop> World<'a, C> {
-    ghost use Rattle.std.specs.Prelude.{◌≡◌, ◌<◌, ◌+◌, ◌≤◌, false, length, true, IfOk, IsTrue, OnErr};
+    ghost use Rattle.std.specs.Prelude.{◌≡◌, ◌<◌, ◌+◌, ◌≤◌, false, length, true, IfOk, IsTrue, OnOk, OnErr};
     ghost use Rattle.ndc_script_types.specs.WellFormed.{IsWellFormedAct, IsWellFormedHeader};
     ghost use Rattle.ndc_domain.specs.Clusters.{cluster_no, count_of};
     ghost use Rattle.ndc_model.specs.Standing.{StandFor};
     ghost use Rattle.ndc_model.specs.Lines.{lines_of_act};
     ghost use Rattle.ndc_model.specs.World.{cluster_at, opening_world};
-    ghost use Rattle.ndc_world.specs.Standing.{IsSettledBy, IsStepped};
+    ghost use Rattle.ndc_world.specs.Standing.{IsReachedWorld, IsSettledBy, IsSettledWorld, IsStepped, LeavesAllWhereRefused};
     ghost use Rattle.ndc_world.specs.Summary.{summary_of};
     ghost use Rattle.ndc_world_replication.specs.Publishers.{cluster_alone};
 
@@ -93,6 +93,16 @@ impl<'a, C: Reads + Drop> World<'a, C> {
             refused: 0,
             spent: false,
         })
+    }
+
+    /// It stands for a world that its lines lead to: one that is as it should be after so many lines, in which what is
+    /// promised of clusters holds. Takes no time.
+    pub fn is_reached(&self)
+        requires { self.now.spent ≡ false }
+        ensures { IsReachedWorld self.now }
+    {
+        // What holds of it is known here: it is not spent.
+        let _lines = self.lines;
     }
 
     /// How many lines were run: each line in a burst counts as one, and so does a settlement. Takes no memory.
@@ -143,6 +153,8 @@ impl<'a, C: Reads + Drop> World<'a, C> {
         requires workers { 0 < workers }
         requires act { IsWellFormedAct self.old.header line.now.act }
         requires lines { self.old.lines + length (lines_of_act line.now.number line.now.act) ≤ 100000 }
+        ensures reached { OnOk result (IsReachedWorld self.new) }
+        ensures unchanged { OnOk result (LeavesAllWhereRefused self.old line.now self.new) }
         ensures steps { IfOk result (λ answer. IsStepped self.old line.now self.new answer.text answer.seen) }
         ensures spent { OnErr result (self.new.spent ≡ true) }
     {
@@ -180,6 +192,7 @@ impl<'a, C: Reads + Drop> World<'a, C> {
         requires unspent { self.old.spent ≡ false }
         requires workers { 0 < workers }
         requires lines { self.old.lines < 100000 }
+        ensures reached { OnOk result (IsSettledWorld self.new) }
         ensures settled { IfOk result (λ settled. IsSettledBy self.old self.new settled.learned settled.reapplied settled.seen.items) }
         ensures spent { OnErr result (self.new.spent ≡ true) }
     {

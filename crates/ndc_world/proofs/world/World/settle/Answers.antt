@@ -3,7 +3,7 @@ use Rattle.ndc_world_answers.specs.declared.tally.Tally.{Tally}
 use Rattle.ndc_world.specs.Standing.{IsSettledBy, WorldValue}
 use Rattle.ndc_world.proofs.ReachedLemmas.{orderly}
 use Rattle.ndc_world.proofs.RunLemmas.{may_settle}
-use Rattle.ndc_world.proofs.StandingLemmas.{behind_settlement, clusters_reached, unspent_settled}
+use Rattle.ndc_world.proofs.StandingLemmas.{behind_settlement, clusters_reached, settled_world, unspent_settled}
 use Rattle.ndc_world.proofs.world.World.settle.Goals as goal
 
 pub settlement-requires-clause-orderly : goal.settlement-requires-clause-orderly
@@ -38,3 +38,11 @@ returns-clause-settled g c =
       behind = λ w stand. behind_settlement own.header own.world c.settlement.new.replication own.reports w c.in_ok-tally.field-0.tally.learned c.in_ok-tally.field-0.tally.applied c.in_ok-tally.field-0.seen.items stand
           c.in_ok-tally.ensures.world (ap (λ (t : Tally). t.learned) c.in_ok-tally.ensures.tally) (ap (λ (t : Tally). t.applied) c.in_ok-tally.ensures.tally) c.in_ok-tally.ensures.seen;
     })
+
+pub returns-clause-reached : goal.returns-clause-reached
+returns-clause-reached g c =
+    let own : WorldValue = record { spent = c.self.inside.spent; header = c.self.inside.header.now; lines = c.self.inside.lines; answers = c.self.inside.answers; refused = c.self.inside.refused; world = c.self.inside.replication; reports = c.self.inside.reports } in
+    let is = c.self.invariant (ap (λ (v : WorldValue). v.spent) c.self.view_is ∙ c.requires.unspent) in
+    settled_world own is c.settlement.new.replication c.in_ok-tally.field-0.tally.learned c.in_ok-tally.field-0.tally.applied c.in_ok-tally.field-0.seen.items (subst (λ (v : WorldValue). v.lines < 100000) (sym c.self.view_is) c.requires.lines)
+    (λ w stand. behind_settlement own.header own.world c.settlement.new.replication own.reports w c.in_ok-tally.field-0.tally.learned c.in_ok-tally.field-0.tally.applied c.in_ok-tally.field-0.seen.items stand
+    c.in_ok-tally.ensures.world (ap (λ (t : Tally). t.learned) c.in_ok-tally.ensures.tally) (ap (λ (t : Tally). t.applied) c.in_ok-tally.ensures.tally) c.in_ok-tally.ensures.seen)
