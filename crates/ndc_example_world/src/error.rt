@@ -14,6 +14,8 @@ pub(crate) enum StoryError {
     Dump,
     /// The header has no cluster of a name.
     NoCluster,
+    /// A cluster is no member of the domain.
+    NoMember,
     /// The world has run as many lines as it may.
     Full,
     /// The world is spent.
@@ -30,6 +32,7 @@ impl StoryError {
             StoryError::Name => "a name is none",
             StoryError::Dump => "what was printed is no dump",
             StoryError::NoCluster => "the header has no such cluster",
+            StoryError::NoMember => "a cluster is no member of the domain",
             StoryError::Full => "the world has run as many lines as it may",
             StoryError::Spent => "the world is spent",
             StoryError::Memory => "out of memory",

@@ -1,5 +1,9 @@
 //! What clusters are asked between lines.
-ghost use Rattle.std.specs.Prelude.{◌≡◌, false};
+ghost use Rattle.std.specs.Prelude.{◌≡◌, true, false, IfOk};
+ghost use Rattle.ndc_example_world.specs.Shown.{is_member, shown_of};
+ghost use Rattle.ndc_laws.specs.Promised.{LearnedTheSame};
+ghost use Rattle.ndc_model.specs.World.{cell_of};
+ghost use Rattle.ndc_model_cells.specs.Cells.{learned_of};
 ghost use Rattle.ndc_script_types.specs.WellFormed.{IsCluster, IsWellFormedHeader};
 
 use crate::telling::{push_answer, push_count};
@@ -28,6 +32,7 @@ pub(crate) fn cell<'w, 'h>(
     requires header { world.now.header ≡ header.now }
     requires fit { IsWellFormedHeader header.now }
     requires at { IsCluster header.now at }
+    ensures { result.now ≡ cell_of header.now at domain.now workflow.now world.now.world }
 {
     let shard = shard_of(domain, workflow, header.shards);
     world.cluster(at.number).shard(shard)
@@ -68,13 +73,64 @@ pub(crate) fn tell_learned(
     push_answer(text, b": ", is)
 }
 
+/// Whether a cluster's record of a domain names it as a member.
+pub(crate) fn is_member(world: &ShardWorld, header: &Header, at: ClusterNo, domain: &Name) -> bool
+    requires unspent { world.now.spent ≡ false }
+    requires header { world.now.header ≡ header.now }
+    requires at { IsCluster header.now at }
+    ensures { result ≡ is_member at domain.now world.now.world }
+{
+    match world.cluster(at.number).records().find(domain) {
+        Some(record) => record.members.has(at),
+        None => false,
+    }
+}
+
+/// Whether two clusters show the same of a workflow. They do where they have learned the same batches of it, whatever led
+/// there.
+pub(crate) fn show_the_same(
+    alloc: Global,
+    world: &ShardWorld,
+    header: &Header,
+    one: ClusterNo,
+    two: ClusterNo,
+    domain: &Name,
+    workflow: &Name,
+) -> Result<bool, OutOfMemory>
+    requires unspent { world.now.spent ≡ false }
+    requires header { world.now.header ≡ header.now }
+    requires fit { IsWellFormedHeader header.now }
+    requires one { IsCluster header.now one }
+    requires two { IsCluster header.now two }
+    ensures { IfOk result (λ same.
+        LearnedTheSame header.now one two domain.now workflow.now world.now.world → same ≡ true) }
+{
+    world.is_reached();
+    let here = shown(
+        alloc,
+        cell(world, header, one, domain, workflow),
+        domain,
+        workflow,
+    )?;
+    let there = shown(
+        alloc,
+        cell(world, header, two, domain, workflow),
+        domain,
+        workflow,
+    )?;
+    Ok(here.as_slice() == there.as_slice())
+}
+
 /// The dump of what a cell shows of a workflow; nothing where it has learned nothing of it.
 pub(crate) fn shown(
     alloc: Global,
     cell: &Shard,
     domain: &Name,
     workflow: &Name,
-) -> Result<Vec<u8>, OutOfMemory> {
+) -> Result<Vec<u8>, OutOfMemory>
+    ensures { IfOk result (λ text. text.items ≡
+        shown_of domain.now workflow.now (learned_of domain.now workflow.now cell.now)) }
+{
     let mut steps: Steps<Looking> = Steps::new();
     match cell.view(domain, workflow, &mut steps)? {
         Some(view) => dump_text(alloc, domain, workflow, &view),

@@ -1,5 +1,6 @@
 //! Lines that the world runs.
 ghost use Rattle.std.specs.Prelude.{◌≡◌, false, OnOk};
+ghost use Rattle.ndc_world.specs.Standing.{IsSettledWorld};
 ghost use Rattle.ndc_script_types.specs.WellFormed.{IsWellFormedAct, IsWellFormedHeader};
 
 use crate::error::StoryError;
@@ -65,6 +66,7 @@ pub(crate) fn settle<R: Threads + Sync>(
     requires { world.old.spent ≡ false }
     ensures unspent { OnOk result (world.new.spent ≡ false) }
     ensures header { world.new.spent ≡ false → world.new.header ≡ world.old.header }
+    ensures settled { OnOk result (IsSettledWorld world.new) }
 {
     if world.lines() >= 100_000 {
         return Err(StoryError::Full);

@@ -1,9 +1,9 @@
 //! A world with the header that it was made of: who uses it owes nothing.
-ghost use Rattle.std.specs.Prelude.{◌≡◌};
+ghost use Rattle.std.specs.Prelude.{◌≡◌, true, IfOk};
 
 use crate::dumping::read_again;
 use crate::error::StoryError;
-use crate::looking::{self, cell, shown};
+use crate::looking::{self, cell, is_member, show_the_same, shown};
 use crate::making::{Made, cluster, command_line, start_of};
 use crate::running;
 use ndc_event::{BatchKey, Name, OutOfMemory};
@@ -45,6 +45,7 @@ impl<'a> Drop for Stage<'a> {
 }
 
 impl<'a> Stage<'a> {
+    ghost use Rattle.std.specs.Prelude.{◌≡◌, true, IfOk};
     ghost use Rattle.ndc_script_types.specs.WellFormed.{IsWellFormedHeader};
 
     /// The world of a header, in which nothing has happened.
@@ -103,18 +104,31 @@ impl<'a> Stage<'a> {
         Ok(())
     }
 
-    /// Lets all clusters come to the same state, and tells what that came to.
+    /// Lets all clusters come to the same state, and tells what that came to; and whether two of them then show the same of the
+    /// workflow. Where both are members of the domain, they do: that is promised, and proved here. Where one is not,
+    /// [`StoryError::NoMember`].
     pub(crate) fn settle<R: Threads + Sync>(
         &mut self,
         rt: &R,
         alloc: Global,
+        one: &[u8],
+        two: &[u8],
         text: &mut Vec<u8>,
-    ) -> Result<(), StoryError> {
+    ) -> Result<bool, StoryError>
+        ensures { IfOk result (λ same. same ≡ true) }
+    {
         if self.world.is_spent() {
             return Err(StoryError::Spent);
         }
+        let (one, two) = (cluster(self.header, one)?, cluster(self.header, two)?);
         running::settle(rt, alloc, &mut self.world, text)?;
-        Ok(())
+        let (world, header) = (&self.world, self.header);
+        let (domain, workflow) = (self.domain, self.workflow);
+        if !is_member(world, header, one, domain) || !is_member(world, header, two, domain) {
+            return Err(StoryError::NoMember);
+        }
+        let same = show_the_same(alloc, world, header, one, two, domain, workflow)?;
+        Ok(same)
     }
 
     /// Tells the version that a cluster's record of the domain has.

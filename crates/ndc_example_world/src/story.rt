@@ -51,12 +51,17 @@ fn fail_over<R: Threads + Sync>(
     stage.tell_record(b"B", text)
 }
 
-/// Tells whether both clusters show the same of the workflow, and whether that is what is read of the batches alone.
-fn compare(alloc: Global, stage: &Stage, text: &mut Vec<u8>) -> Result<(), StoryError> {
-    let here = stage.shown(alloc, b"A")?;
-    let there = stage.shown(alloc, b"B")?;
-    let is_same = here.as_slice() == there.as_slice();
+/// Settles the world, and tells whether both clusters show the same of the workflow then, and whether that is what is read
+/// of the batches alone.
+fn settle<R: Threads + Sync>(
+    rt: &R,
+    alloc: Global,
+    stage: &mut Stage,
+    text: &mut Vec<u8>,
+) -> Result<(), StoryError> {
+    let is_same = stage.settle(rt, alloc, b"A", b"B", text)?;
     push_answer(text, b"both show the same: ", is_same)?;
+    let here = stage.shown(alloc, b"A")?;
     let again = stage.read_again(alloc, b"A")?;
     let is_same = again.as_slice() == here.as_slice();
     push_answer(text, b"and so do the batches alone: ", is_same)?;
@@ -74,8 +79,7 @@ fn play_in<R: Threads + Sync>(
     stage.start(rt, alloc, 9, b"A", text)?;
     replicate(rt, alloc, stage, text)?;
     fail_over(rt, alloc, stage, text)?;
-    stage.settle(rt, alloc, text)?;
-    compare(alloc, stage, text)?;
+    settle(rt, alloc, stage, text)?;
     let summary = stage.summary(alloc)?;
     summary_line(text, &summary)?;
     Ok(())

@@ -20,6 +20,7 @@ use Rattle.ndc_domain.specs.declared.clusters.ClusterNo.{ClusterNo}
 use Rattle.ndc_index.specs.declared.seen.Seen.{Seen}
 use Rattle.ndc_laws.proofs.ReachedLemmas.{world-promised}
 use Rattle.ndc_laws.proofs.SettlementLemmas.{settled-world}
+use Rattle.ndc_laws_reached.specs.Settled.{IsSettled}
 use Rattle.ndc_laws_reached.proofs.ReachedLemmas.{line_reached}
 use Rattle.ndc_model.specs.Facts.{IsReached}
 use Rattle.ndc_model.specs.Laws.{is_overtaken, is_refusal}
@@ -233,16 +234,19 @@ unspent_settled before is u learned applied shown below does = record {
 pub reached_world : (value : WorldValue) → IsUnspent value → IsReachedWorld value
 reached_world value is =
     let s = is.standing in
-    record { whole = s.whole; stands = s.stands; reached = s.reached; promised = world-promised value.header value.lines s.whole s.fit s.reached }
+    let clusters = clusters_reached value.header value.lines value.world value.reports s in
+    record { whole = s.whole; stands = s.stands; reached = s.reached; clusters = clusters; promised = world-promised value.header value.lines value.world s.fit clusters }
 
 -- and a settlement leaves one that is settled
 pub settled_world : (before : WorldValue) (is : IsUnspent before) (u : World) (learned applied : ℕ) (shown : List Seen) → before.lines < 100000
     → ((w : World) → StandFor before.world before.reports w → IsBehindSettlement before.header w u before.reports learned applied shown)
+    → u ≡ (after_settlement before.header before.world).world
     → IsSettledWorld (record { spent = false; header = before.header; lines = before.lines + 1; answers = before.answers; refused = before.refused; world = u; reports = before.reports })
-settled_world before is u learned applied shown below does = record {
+settled_world before is u learned applied shown below does left = record {
   is = reached_world (record { spent = false; header = before.header; lines = before.lines + 1; answers = before.answers; refused = before.refused; world = u; reports = before.reports })
       (unspent_settled before is u learned applied shown below does);
-  settled = settled-world before.header before.lines is.standing.whole is.standing.fit below is.standing.reached;
+  settled = subst (IsSettled before.header) (sym left)
+      (settled-world before.header before.lines before.world is.standing.fit below (clusters_reached before.header before.lines before.world before.reports is.standing));
 }
 
 -- what stands for a world stands for no other, so where a line is refused all is as it was

@@ -40,17 +40,18 @@ pub record IsUnspent (value : WorldValue) : Type 0 where
   pub answers_most : value.answers ≤ value.lines
   pub refused_most : value.refused ≤ value.answers
 
--- a world that its lines lead to, for which clusters and reports stand: it is as it should be after so many lines, and as promised
+-- clusters and reports stand for a world that is as it should be after so many lines; and so are the clusters by themselves, which are as promised
 pub record IsReachedWorld (value : WorldValue) : Type 0 where
   pub whole : World
   pub stands : StandFor value.world value.reports whole
   pub reached : IsReached value.header value.lines whole
-  pub promised : IsAsPromised value.header whole
+  pub clusters : IsReached value.header value.lines value.world
+  pub promised : IsAsPromised value.header value.world
 
--- such a world, which is settled
+-- and the clusters are settled
 pub record IsSettledWorld (value : WorldValue) : Type 0 where
   pub is : IsReachedWorld value
-  pub settled : IsSettled value.header is.whole
+  pub settled : IsSettled value.header value.world
 
 -- they stand for the world that a line of the text leaves, and what was told is what it tells: each answer behind the number of its line,
 -- what became learned, and how many of the answers are refusals

@@ -46,3 +46,4 @@ returns-clause-reached g c =
     settled_world own is c.settlement.new.replication c.in_ok-tally.field-0.tally.learned c.in_ok-tally.field-0.tally.applied c.in_ok-tally.field-0.seen.items (subst (λ (v : WorldValue). v.lines < 100000) (sym c.self.view_is) c.requires.lines)
     (λ w stand. behind_settlement own.header own.world c.settlement.new.replication own.reports w c.in_ok-tally.field-0.tally.learned c.in_ok-tally.field-0.tally.applied c.in_ok-tally.field-0.seen.items stand
     c.in_ok-tally.ensures.world (ap (λ (t : Tally). t.learned) c.in_ok-tally.ensures.tally) (ap (λ (t : Tally). t.applied) c.in_ok-tally.ensures.tally) c.in_ok-tally.ensures.seen)
+    c.in_ok-tally.ensures.world
