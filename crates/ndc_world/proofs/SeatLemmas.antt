@@ -1,6 +1,6 @@
 -- What the lines of indexers are behind a script, by what was asked for.
 use Rattle.std.proofs.Common.{◌≡◌, ◌≢◌, ℕ, Bool, true, false, List, [], ◌∷◌, ◌++◌, length, map, drop, get_or, Option, Some, None, refl, ap, sym, subst, ◌∙◌, arith}
-use Rattle.std.specs.Prelude.{AllPairs, is_some}
+use Rattle.std.specs.Prelude.{AllPairs, ◌||◌, codes, decimal, if◌then◌else◌, is_some}
 use Rattle.std.specs.List.{flat_map}
 use Rattle.std.specs.Str.{bytes_eq}
 use Rattle.std.proofs.lemmas.Bool.{and_parts, false≢true}
@@ -8,7 +8,8 @@ use Rattle.std.proofs.lemmas.List.{append_assoc, append-nil}
 use Rattle.std.proofs.lemmas.Slice.Eq.{bytes_eq-Decides}
 use Rattle.ndc_script_types.specs.declared.script.Script.{Script}
 use Rattle.ndc_event.specs.declared.name.Name.{Name}
-use Rattle.ndc_index.specs.Lines.{index_line, index_lines}
+use Rattle.ndc_index.specs.Lines.{calls_well, index_line, index_lines, is_dropped}
+use Rattle.ndc_index.specs.Texts.{events_told, kinds_text, open_text, signals_text}
 use Rattle.ndc_index.specs.Seats.{Chosen, IndexerValue, SeatValue, after_all, all_known, chosen, chosen_of, indexer_of, new_seat, seat_in, seat_line, seat_of, seats_known, shown}
 use Rattle.ndc_index.specs.declared.seen.Seen.{Seen}
 use Rattle.ndc_index.proofs.LawLemmas.{first_chosen, lines_are_index_lines}
@@ -18,7 +19,7 @@ use Rattle.ndc_port.specs.Bytes.{Appends, AppendsFront, Sent}
 use Rattle.ndc_port.proofs.Steps.{Sent_end, Sent_part, Sent_piece}
 use Rattle.ndc_world.specs.Rest.{kept_where}
 use Rattle.ndc_world.proofs.LeftLemmas.{kept_serves}
-use Rattle.ndc_world.specs.Seats.{AreNew, Reports, ReportsFront, WritesAll, WritesFront, all_asked, asked_for, failing_of, seat_lines, told_text}
+use Rattle.ndc_world.specs.Seats.{AreNew, AreShipped, Reports, ReportsFront, WritesAll, WritesFront, all_asked, asked_for, failing_of, is_shipped, seat_lines, told_text}
 
 -- the seat of a name is that of an indexer of the name that was told nothing
 abbrev IsNew : List IndexerValue → Name → Type 0
@@ -123,6 +124,25 @@ unknown_chosen all names late differ is = by (all_known all (names ++ late)) ref
         absurd (false≢true (sym (ap (λ (o : Option Chosen). is_some o) found)))
     by false e = e
 
+-- what an indexer that ships shows has nothing of its own in it
+own-aside : (kinds open signals : Bool) (a b c own : List ℕ) → (kinds || (open || signals)) ≡ true → (if kinds then a else if open then b else if signals then c else own) ≡ (if kinds then a else if open then b else if signals then c else [])
+own-aside true open signals a b c own is = refl
+own-aside false true signals a b c own is = refl
+own-aside false false true a b c own is = refl
+own-aside false false false a b c own is = absurd (false≢true is)
+
+line-alone : (seen : List Seen) (all : List IndexerValue) (name : Name) (own : List ℕ) → is_shipped name ≡ true → index_line seen (asked_for all name own) ≡ index_line seen (asked_for all name [])
+line-alone seen all name own is =
+    ap
+    (λ (text : List ℕ). codes "index " ++ name ++ codes " " ++ (if is_dropped (asked_for all name []) seen then codes "failed after " ++ decimal (calls_well (failing_of (indexer_of name all)) 1 seen) else text) ++ codes "\n")
+    (own-aside (bytes_eq name (codes "kinds")) (bytes_eq name (codes "open")) (bytes_eq name (codes "signals")) (kinds_text (events_told seen)) (open_text (events_told seen)) (signals_text (events_told seen)) own is)
+
+nothing-own : (seen : List Seen) (all : List IndexerValue) (names : List Name) (owns : List (List ℕ)) → AreShipped names → index_lines seen (all_asked all names owns) ≡ index_lines seen (all_asked all names [])
+nothing-own seen all [] owns shipped = refl
+nothing-own seen all (name ∷ names) [] shipped = refl
+nothing-own seen all (name ∷ names) (own ∷ owns) shipped =
+    λ i. line-alone seen all name own shipped.0 i ++ nothing-own seen all names owns shipped.1 i
+
 -- what is written of the seats of names is the report
 module _ (all : List IndexerValue) (script : Script) (names late : List Name) (asked behind : List SeatValue) (new : AreNew all) (seated : AreSeated all names late asked behind) where
   is-report : (owns late_owns : List (List ℕ)) → told_text script asked behind owns late_owns ≡ report_of script (all_asked all names owns) (all_asked all late late_owns)
@@ -134,7 +154,19 @@ module _ (all : List IndexerValue) (script : Script) (names late : List Name) (a
       ∙ sym (append_assoc (answers_of (ran_of script)) (index_lines (seen_in (ran_of script)) (all_asked all names owns)) (index_lines (seen_in (ran_of script)) (all_asked all late late_owns)))
 
   pub reports_whole : (before after : Option (List ℕ)) → WritesAll script asked behind before after → Reports script all names late before after
-  reports_whole before after given = (given.0, given.1, subst (Appends before after) (is-report given.0 given.1) given.2)
+  reports_whole before after given =
+      let written = subst (Appends before after) (is-report given.0 given.1) given.2 in
+      record {
+        owns = given.0;
+        late_owns = given.1;
+        written = written;
+        one_text = λ shipped late_shipped. subst (λ (l : List ℕ). Appends before after (report l (index_lines (seen_in (ran_of script)) (all_asked all late []))))
+            (nothing-own (seen_in (ran_of script)) all names given.0 shipped)
+            (subst (λ (l : List ℕ). Appends before after (report (index_lines (seen_in (ran_of script)) (all_asked all names given.0)) l)) (nothing-own (seen_in (ran_of script)) all late given.1 late_shipped) written);
+      }
+    where
+      report : List ℕ → List ℕ → List ℕ
+      report lines more = answers_of (ran_of script) ++ lines ++ more
 
   pub reports_front : (before after : Option (List ℕ)) → WritesFront script asked behind before after → ReportsFront script all names late before after
   reports_front before after given = (given.0, given.1, subst (AppendsFront before after) (is-report given.0 given.1) given.2)

@@ -1,6 +1,7 @@
 -- What indexers that were asked for show behind a script.
-use Rattle.std.specs.Prelude.{◌≡◌, ℕ, List, [], ◌∷◌, ◌++◌, Option, Some, None}
+use Rattle.std.specs.Prelude.{◌≡◌, ℕ, Bool, true, ◌||◌, List, [], ◌∷◌, ◌++◌, codes, Option, Some, None}
 use Rattle.std.specs.List.{AllByRecursion}
+use Rattle.std.specs.Str.{bytes_eq}
 use Rattle.ndc_script_types.specs.declared.script.Script.{Script}
 use Rattle.ndc_event.specs.declared.name.Name.{Name}
 use Rattle.ndc_index.specs.Lines.{Asked}
@@ -47,10 +48,21 @@ WritesAll script asked late before after = (owns : List (List ℕ)) × (late_own
 abbrev pub WritesFront : Script → List SeatValue → List SeatValue → Option (List ℕ) → Option (List ℕ) → Type 0
 WritesFront script asked late before after = (owns : List (List ℕ)) × (late_owns : List (List ℕ)) × AppendsFront before after (told_text script asked late owns late_owns)
 
--- the report of a script was written, for some texts of the indexers' own
-abbrev pub Reports : Script → List IndexerValue → List Name → List Name → Option (List ℕ) → Option (List ℕ) → Type 0
-Reports script all names late before after =
-    (owns : List (List ℕ)) × (late_owns : List (List ℕ)) × Appends before after (report_of script (all_asked all names owns) (all_asked all late late_owns))
+-- whether a name is that of an indexer that ships: what it shows is told by its name
+abbrev pub is_shipped : Name → Bool
+is_shipped name = bytes_eq name (codes "kinds") || (bytes_eq name (codes "open") || bytes_eq name (codes "signals"))
+
+-- each of these names is
+abbrev pub AreShipped : List Name → Type 0
+AreShipped names = AllByRecursion (λ name. is_shipped name ≡ true) names
+
+-- the report of a script was written, for some texts of the indexers' own; and where all indexers are among those that ship, it is one text, with
+-- nothing of their own in it
+pub record Reports (script : Script) (all : List IndexerValue) (names late : List Name) (before after : Option (List ℕ)) : Type 0 where
+  pub owns : List (List ℕ)
+  pub late_owns : List (List ℕ)
+  pub written : Appends before after (report_of script (all_asked all names owns) (all_asked all late late_owns))
+  pub one_text : AreShipped names → AreShipped late → Appends before after (report_of script (all_asked all names []) (all_asked all late []))
 
 -- a front of the report of a script was written, for some texts of the indexers' own
 abbrev pub ReportsFront : Script → List IndexerValue → List Name → List Name → Option (List ℕ) → Option (List ℕ) → Type 0
