@@ -62,7 +62,7 @@ impl<'a, C: Reads + Drop> Drop for World<'a, C> {
 }
 
 impl<'a, C: Reads + Drop> World<'a, C> {
-    ghost use Rattle.std.specs.Prelude.{◌≡◌, ◌<◌, ◌+◌, ◌≤◌, false, length, true, IfOk, IsTrue, OnOk, OnErr};
+    ghost use Rattle.std.specs.Prelude.{◌≡◌, ◌<◌, ◌+◌, ◌≤◌, ◌↔◌, false, length, true, IfOk, IsTrue, OnOk, OnErr};
     ghost use Rattle.ndc_script_types.specs.WellFormed.{IsWellFormedAct, IsWellFormedHeader};
     ghost use Rattle.ndc_domain.specs.Clusters.{cluster_no, count_of};
     ghost use Rattle.ndc_model.specs.Standing.{StandFor};
@@ -121,7 +121,7 @@ impl<'a, C: Reads + Drop> World<'a, C> {
 
     /// Whether it may still run a line: it runs at most 100,000, and each line in a burst counts as one. Takes no memory.
     pub fn has_room(&self, line: &Line) -> bool
-        ensures { IsTrue result → self.now.lines + length (lines_of_act line.now.number line.now.act) ≤ 100000 }
+        ensures { IsTrue result ↔ self.now.lines + length (lines_of_act line.now.number line.now.act) ≤ 100000 }
     {
         let count = line_count(&line.act);
         count <= MOST_LINES && self.lines <= MOST_LINES - count
