@@ -43,7 +43,7 @@ class Answer:
 
 def report_of(script, words=(), program=None):
     """Runs a script (its text) and returns the report's text."""
-    done = subprocess.run([program or PROGRAM, "run", *words], input=script.encode(), capture_output=True)
+    done = subprocess.run([program or PROGRAM, "run", *words], input=script.encode("latin-1"), capture_output=True)
     if done.returncode:
         told = [it for it in done.stderr.decode("ascii", "replace").splitlines() if it.startswith("ndc: ")]
         raise Refused(done.returncode, told[-1] if told else f"status {done.returncode}")
@@ -89,9 +89,9 @@ def clusters_of(lines):
 
 
 def read_script(name):
-    """A script's text: of a file, or of standard input where the name is -."""
+    """The text of a file, or of standard input where the name is -; each byte is a character."""
     if name == "-":
-        return sys.stdin.read()
+        return sys.stdin.buffer.read().decode("latin-1")
     with open(name, encoding="latin-1", newline="") as it:
         return it.read()
 
