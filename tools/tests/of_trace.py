@@ -50,7 +50,7 @@ def test_trace_fits_a_page():
 
 
 def test_trace_of_no_workflow():
-    holds("nothing of alpha w9; the script's commands go to: alpha w1, alpha w2", refused("trace", CONFLICT, "alpha", "w9", status=1))
+    holds("learns anything of alpha w9; the script's commands go to: alpha w1, alpha w2", refused("trace", CONFLICT, "alpha", "w9", status=1))
     holds("--width wants a number", refused("trace", "--width", "5", CONFLICT, "alpha", "w1"))
     holds("script line 1: BadHeader", refused("trace", "-", "alpha", "w1", given="ndc 2\n", status=3))
 
