@@ -106,6 +106,25 @@ def header_length(lines):
     return last
 
 
+def units_of(lines):
+    """The lines of a body, each by itself and a burst as one, without those that are skipped."""
+    units, burst = [], None
+    for line in lines:
+        words = words_of(line)
+        if not words:
+            continue
+        if burst is not None:
+            burst.append(line)
+            if words[0] == "end":
+                units.append(burst)
+                burst = None
+        elif words[0] == "burst":
+            burst = [line]
+        else:
+            units.append([line])
+    return units + ([burst] if burst else [])
+
+
 def clusters_of(lines):
     """The clusters' names, in the header's order."""
     return [words_of(it)[1] for it in lines[: header_length(lines)] if words_of(it)[:1] == ["cluster"] and len(words_of(it)) == 3]
