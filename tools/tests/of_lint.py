@@ -165,6 +165,14 @@ def test_lint_marks_the_word():
     same(linted(HEAD + "pull A  C\n", status=3), "it:7:9: UnknownName: the header has no cluster `C`\n    pull A  C\n            ^\n    wanted: one of A, B\n")
 
 
+def test_lint_as_the_page_shows_it():
+    page = read(f"{ROOT}/docs/tools.md")
+    lines = linted(HEAD + "singal A alpha w1 ping x\n", status=3)
+    dump = linted(dump_of_conflict().replace("signals=2", "signals=3"), status=7)
+    for told, name in ((lines, "case.ndc"), (dump, "w1.dump")):
+        holds("```\n" + told.replace("it:", f"{name}:", 1) + "```\n", page)
+
+
 def test_lint_tells_of_every_line():
     told = linted(HEAD + "pull A A\nsettle\nwork C\nend\n", "--all", status=3)
     same(re.findall(r"^it:(\d+):\d+: (\w+)", told, re.M), [("7", "BadLine"), ("9", "UnknownName"), ("10", "BadLine")])

@@ -21,6 +21,10 @@ def test_trace():
     same(tool("trace", LOSS, "alpha", "w1"), read(f"{HERE}/loss.trace"))
 
 
+def test_trace_as_the_page_shows_it():
+    holds("```\n" + read(f"{HERE}/conflict.trace") + "```\n", read(f"{ROOT}/docs/tools.md"))
+
+
 def test_trace_goes_on_where_a_run_continues():
     told = traced("decide A alpha w1\nrespond A alpha w1 continue order\npull B A\nwork B\n")
     holds("+1.3 +1.4 -> 1.4 run 1.4", told)
