@@ -4,10 +4,11 @@ import re
 import sys
 import tempfile
 
-from base import EXAMPLES, NDC, ROOT, TOOLS, all_cases, call, holds, read, refused, same, tool
+from base import EXAMPLES, NDC, ROOT, TOOLS, all_cases, call, cases_of, holds, read, refused, same, tool
 
 sys.path.insert(0, TOOLS)
-from dump_faults import dump_fault  # noqa: E402
+from batch_texts import Wrong, batch_in  # noqa: E402
+from dump_faults import Batch, check_batch, dump_fault  # noqa: E402
 from faults import text_of  # noqa: E402
 from script_faults import ACTIONS, COMMANDS, OTHERS, script_faults  # noqa: E402
 
@@ -135,6 +136,23 @@ def test_lint_agrees_with_the_program_on_every_transcript():
             assert fault.cause in text_of("it", fault, case.given.split("\n")), case.name
         bad[what], good = bad[what] + (fault is not None), good + (fault is None)
     assert bad["script"] >= 340 and bad["dump"] >= 200 and good >= 200, (bad, good)
+
+
+def cause_of_batch(line, form):
+    """Why a line is the text of no batch, as the transcripts of batches tell it; nothing where it is one."""
+    try:
+        check_batch(Batch(batch_in(line, form), 1))
+    except Wrong as wrong:
+        return wrong.cause
+    return ""
+
+
+def test_lint_agrees_with_the_program_on_every_batch():
+    cases = list(cases_of(f"{ROOT}/crates/ndc_cases/data/batches.cases"))
+    for case in cases:
+        told = case.told.removeprefix("Check(").removesuffix(")")
+        same((case.name, cause_of_batch(case.given, 2 if case.words == ["batch"] else 1)), (case.name, told))
+    assert len(cases) >= 115 and sum(it.told != "" for it in cases) >= 80
 
 
 def test_lint_of_lines():
