@@ -3,6 +3,7 @@ import os
 import re
 import subprocess
 import sys
+import tempfile
 
 HERE = os.path.dirname(os.path.abspath(__file__))
 # The program: what NDC names, else ./ndc beside the tools' folder.
@@ -41,13 +42,35 @@ class Answer:
         return [self.text, *self.further]
 
 
+# What ./ndc tells where it is not built begins so, and is no fault. It is handed on once, at once.
+NOTICES = ("ndc: not built: ", "ndc: older than ")
+handed_on = set()
+
+
+def told_by(stream):
+    """The lines of a program's standard error, the last of which tells of its fault; notices are handed on as they come."""
+    faults = []
+    for line in stream:
+        text = line.decode("ascii", "replace").rstrip("\n")
+        if not text.startswith(NOTICES):
+            faults.append(text)
+        elif text not in handed_on:
+            handed_on.add(text)
+            print(text, file=sys.stderr, flush=True)
+    return [it for it in faults if it.startswith("ndc: ")]
+
+
 def report_of(script, words=(), program=None):
     """Runs a script (its text) and returns the report's text."""
-    done = subprocess.run([program or PROGRAM, "run", *words], input=script.encode(), capture_output=True)
-    if done.returncode:
-        told = [it for it in done.stderr.decode("ascii", "replace").splitlines() if it.startswith("ndc: ")]
-        raise Refused(done.returncode, told[-1] if told else f"status {done.returncode}")
-    return done.stdout.decode("ascii", "replace")
+    with tempfile.TemporaryFile() as given, tempfile.TemporaryFile() as report:
+        given.write(script.encode("latin-1"))
+        given.seek(0)
+        with subprocess.Popen([program or PROGRAM, "run", *words], stdin=given, stdout=report, stderr=subprocess.PIPE) as run:
+            told = told_by(run.stderr)
+        if run.returncode:
+            raise Refused(run.returncode, told[-1] if told else f"ndc: ended with status {run.returncode}")
+        report.seek(0)
+        return report.read().decode("ascii", "replace")
 
 
 def answers_of(report):
@@ -83,15 +106,34 @@ def header_length(lines):
     return last
 
 
+def units_of(lines):
+    """The lines of a body, each by itself and a burst as one, without those that are skipped."""
+    units, burst = [], None
+    for line in lines:
+        words = words_of(line)
+        if not words:
+            continue
+        if burst is not None:
+            burst.append(line)
+            if words[0] == "end":
+                units.append(burst)
+                burst = None
+        elif words[0] == "burst":
+            burst = [line]
+        else:
+            units.append([line])
+    return units + ([burst] if burst else [])
+
+
 def clusters_of(lines):
     """The clusters' names, in the header's order."""
     return [words_of(it)[1] for it in lines[: header_length(lines)] if words_of(it)[:1] == ["cluster"] and len(words_of(it)) == 3]
 
 
 def read_script(name):
-    """A script's text: of a file, or of standard input where the name is -."""
+    """The text of a file, or of standard input where the name is -; each byte is a character."""
     if name == "-":
-        return sys.stdin.read()
+        return sys.stdin.buffer.read().decode("latin-1")
     with open(name, encoding="latin-1", newline="") as it:
         return it.read()
 
