@@ -125,8 +125,8 @@ unknown_chosen all names late differ is = by (all_known all (names ++ late)) ref
     by false e = e
 
 -- what an indexer that ships shows has nothing of its own in it
-own-aside : (kinds open signals : Bool) (a b c own : List ℕ) → (kinds || (open || signals)) ≡ true → (if kinds then a else if open then b else if signals then c else own) ≡ (if kinds then a else if open then b else if signals then c else [])
-own-aside true open signals a b c own is = refl
+own-aside : (kinds opened signals : Bool) (a b c own : List ℕ) → (kinds || (opened || signals)) ≡ true → (if kinds then a else if opened then b else if signals then c else own) ≡ (if kinds then a else if opened then b else if signals then c else [])
+own-aside true opened signals a b c own is = refl
 own-aside false true signals a b c own is = refl
 own-aside false false true a b c own is = refl
 own-aside false false false a b c own is = absurd (false≢true is)

@@ -189,10 +189,14 @@ put-back [] i = refl
 put-back (x ∷ xs) zero = refl
 put-back (x ∷ xs) (suc i) = ap (λ l. x ∷ l) (put-back xs i)
 
+-- what may be told with this tip
+abbrev told-below : Result ℕ Refusal → Name → Name → Name → List Batch → Option Batch → Result (ℕ × ActivityRef) CommandError
+told-below may domain workflow id batches tip =
+    as_command_error may >>= λ version. started_activity domain workflow id batches tip >>= λ activity. Ok (version, activity)
+
 -- where no run is learned there is no activity, so that a run is learned need not be asked before
 begun : (domain workflow id : Name) (batches : List Batch) (may : Result ℕ Refusal) (tip : Option Batch)
-    → (as_command_error (may >>= where_begun tip) >>= λ version. started_activity domain workflow id batches tip >>= λ activity. Ok (version, activity))
-    ≡ (as_command_error may >>= λ version. started_activity domain workflow id batches tip >>= λ activity. Ok (version, activity))
+    → told-below (may >>= where_begun tip) domain workflow id batches tip ≡ told-below may domain workflow id batches tip
 begun domain workflow id batches (Err why) tip = refl
 begun domain workflow id batches (Ok version) None = refl
 begun domain workflow id batches (Ok version) (Some tip) = refl

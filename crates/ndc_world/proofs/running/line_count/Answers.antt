@@ -4,7 +4,7 @@ use Rattle.ndc_model.specs.Lines.{lines_of_act}
 use Rattle.ndc_script_types.specs.declared.script.Act.{Act}
 use Rattle.ndc_script_types.specs.declared.script.Act.TheVariants as act
 use Rattle.ndc_script_types.specs.declared.script.BurstJob.{BurstJob}
-use Rattle.ndc_world.proofs.script.line_count.Goals as goal
+use Rattle.ndc_world.proofs.running.line_count.Goals as goal
 
 -- what is no burst stands for one line
 one-line : (number : ℕ) (asked : Act) → ((cluster : ClusterNo) (jobs : List BurstJob) → asked ≡ act.Burst cluster jobs → ⊥) → 1 ≡ length (lines_of_act number asked)

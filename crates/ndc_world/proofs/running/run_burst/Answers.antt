@@ -1,5 +1,5 @@
 use Rattle.ndc_world.proofs.RunLemmas.{burst_run, may_burst}
-use Rattle.ndc_world.proofs.script.run_burst.Goals as goal
+use Rattle.ndc_world.proofs.running.run_burst.Goals as goal
 
 pub burst-requires-clause-allowed : goal.burst-requires-clause-allowed
 burst-requires-clause-allowed g c κs within =

@@ -1,7 +1,7 @@
 use Rattle.std.proofs.Common.{arith, sym, ◌∙◌}
 use Rattle.ndc_laws_reached.proofs.OneWriterLemmas.{learned_sound}
 use Rattle.ndc_world.proofs.StandingLemmas.{beats_small, behind_other, clusters_reached}
-use Rattle.ndc_world.proofs.script.run_line.Goals as goal
+use Rattle.ndc_world.proofs.running.run_line.Goals as goal
 
 pub run_report-requires-clause-shaped : goal.run_report-requires-clause-shaped
 run_report-requires-clause-shaped g c = (clusters_reached c.args.header.now c.args.lines c.args.replication.now c.args.reports.now c.requires.standing).shaped

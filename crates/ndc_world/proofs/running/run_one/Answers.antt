@@ -1,5 +1,5 @@
 use Rattle.ndc_world.proofs.RunLemmas.{may_line, one_run}
-use Rattle.ndc_world.proofs.script.run_one.Goals as goal
+use Rattle.ndc_world.proofs.running.run_one.Goals as goal
 
 pub act-requires-clause-allowed : goal.act-requires-clause-allowed
 act-requires-clause-allowed g c κs within =
