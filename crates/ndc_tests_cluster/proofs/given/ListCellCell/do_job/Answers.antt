@@ -29,5 +29,5 @@ returns-in-Reapply-clause-done c =
 
 pub returns-in-Reapply-clause-reply : goal.returns-in-Reapply-clause-reply
 returns-in-Reapply-clause-reply c =
-    ap (λ (learned : List Batch). record { outcome = Reapplied 0; learned = learned }) (c.new-in-Reapply.ensures ∙ c.new.ensures)
+    ap (λ (learned : List Batch). record { outcome = Reapplied 0; learned = learned }) (c.new-in-Reapply.ensures ∙ c.new.ensures.items)
     ∙ subst (λ (job : Job). record { outcome = Reapplied 0; learned = [] } ≡ reply_to c.args._desk.now job (empty c.args.self.now.written.items)) (sym c.in-Reapply.is) (replies c.args._desk.now c.args.self.now.written.items)
