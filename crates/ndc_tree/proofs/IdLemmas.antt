@@ -1,11 +1,10 @@
 -- Events by their ids: what is found among those of a batch, of the batches of one version, and of all.
-use Rattle.std.proofs.Common.{◌≡◌, ◌≢◌, ℕ, zero, suc, ◌+◌, ◌-◌, ◌<◌, ◌≤◌, Bool, true, false, nat_lt, ◌&&◌, ◌==◌, cond, List, [], ◌∷◌, ◌++◌, ◌⊎◌, inl, inr, get_or, Option, Some, None, slice_get, Result, Ok, Err, IfOk, IfErr, length, refl, sym, ◌∙◌, subst, ap, arith, if◌then◌else◌, Bor}
+use Rattle.std.proofs.Common.{◌≡◌, ℕ, zero, suc, ◌+◌, ◌-◌, ◌<◌, ◌≤◌, Bool, true, false, nat_lt, ◌&&◌, ◌==◌, cond, List, [], ◌∷◌, ◌++◌, ◌⊎◌, inl, inr, get_or, Option, Some, None, slice_get, Result, IfOk, IfErr, length, refl, sym, ◌∙◌, subst, ap, arith, if◌then◌else◌, Bor}
 use Rattle.std.specs.Prelude.{IfSome, find, is_some}
 use Rattle.std.specs.Option.{option_copied, option_or}
 use Rattle.std.specs.List.{AllByRecursion}
 use Rattle.std.specs.List.Sorted.{IsSearchInRange, IsBinarySearchResult}
 use Rattle.std.specs.Ordering.{ordering_index}
-use Rattle.std.specs.declared.cmp.Ordering.{Ordering}
 use Rattle.std.specs.declared.cmp.Ordering.TheVariants.{Less, Equal, Greater}
 use Rattle.std.proofs.lemmas.Bool.{and_parts, eqb-true, eq-eqb, ltb-true, ltb-false}
 use Rattle.std.proofs.lemmas.Bool.Decides.{nat_tests}
@@ -15,11 +14,10 @@ use Rattle.ndc_event.specs.declared.batch.Batch.{Batch}
 use Rattle.ndc_event.specs.declared.batch.Event.{Event}
 use Rattle.ndc_event.proofs.SortedLemmas.{searched}
 use Rattle.ndc_state.specs.Replay.{history_of}
-use Rattle.ndc_model_sets.specs.Paths.{first_id, last_id, last_from}
-use Rattle.ndc_model_sets.proofs.FaultLemmas.{Passes, passes}
-use Rattle.ndc_model_sets.proofs.Lists.{Among}
+use Rattle.ndc_model_sets.specs.Paths.{first_id, last_id}
+use Rattle.ndc_model_sets.proofs.FaultLemmas.{passes}
 use Rattle.ndc_model_sets.proofs.PathIds.{ends, ends-last, history-append}
-use Rattle.ndc_tree.specs.Events.{is_event, event_at, event_of, against_id, IdsGoOn, AreInIdOrder, AreVersionsInIdOrder}
+use Rattle.ndc_tree.specs.Events.{is_event, event_at, event_of, against_id, IdsGoOn}
 
 -- what is found in two lists is what is found in the first, or else in the second
 pub find-join : {X : Type 0} (p : X → Bool) (xs ys : List X) → find p (xs ++ ys) ≡ option_or (find p xs) (find p ys)

@@ -1,25 +1,23 @@
 -- In a tree ids rise along the batches of a version, so an event is found by its version and id.
-use Rattle.std.proofs.Common.{◌≡◌, ℕ, zero, suc, ◌+◌, ◌<◌, ◌≤◌, Bool, true, false, ◌&&◌, ◌==◌, cond, List, [], ◌∷◌, ◌++◌, ◌⊎◌, inl, inr, Option, Some, None, refl, sym, ◌∙◌, subst, ap, arith, if◌then◌else◌}
+use Rattle.std.proofs.Common.{◌≡◌, ℕ, zero, suc, ◌+◌, ◌<◌, ◌≤◌, Bool, true, false, ◌==◌, List, [], ◌∷◌, ◌⊎◌, inl, inr, Some, None, refl, sym, ◌∙◌, subst, ap, arith, if◌then◌else◌}
 use Rattle.std.specs.Prelude.{find}
 use Rattle.std.specs.Option.{option_or}
-use Rattle.std.specs.List.{AllByRecursion}
 use Rattle.std.proofs.lemmas.Bool.{and_parts, eqb-true, cases_lt}
-use Rattle.std.proofs.lemmas.Bool.Decides.{nat_tests}
-use Rattle.ndc_event.specs.Batch.{follow_from, are_of_version, fault_of}
+use Rattle.ndc_event.specs.Batch.{follow_from, fault_of}
 use Rattle.ndc_event.specs.Key.{key_lt}
 use Rattle.ndc_event.specs.Sorted.{InOrder}
 use Rattle.ndc_event.specs.declared.batch.Batch.{Batch}
 use Rattle.ndc_event.specs.declared.batch.Event.{Event}
 use Rattle.ndc_event.specs.declared.key.RunId.{RunId}
 use Rattle.ndc_state.specs.Replay.{history_of}
-use Rattle.ndc_model_sets.specs.Paths.{first_id, last_id, last_from}
+use Rattle.ndc_model_sets.specs.Paths.{first_id, last_id}
 use Rattle.ndc_model_sets.specs.Sets.{Rise, Has}
-use Rattle.ndc_model_sets.proofs.BranchLemmas.{has-among, among-has, same-batch}
-use Rattle.ndc_model_sets.proofs.FaultLemmas.{Passes, passes}
+use Rattle.ndc_model_sets.proofs.BranchLemmas.{among-has, same-batch}
+use Rattle.ndc_model_sets.proofs.FaultLemmas.{passes}
 use Rattle.ndc_model_sets.proofs.KeyLemmas.{IsBefore, before-parts, key-parts}
 use Rattle.ndc_model_sets.proofs.Lists.{Among, all-among, all-from, each-list_all, find-among}
 use Rattle.ndc_model_sets.proofs.ForkLemmas.{among-cases}
-use Rattle.ndc_model_sets.proofs.PathIds.{ends, ends-last}
+use Rattle.ndc_model_sets.proofs.PathIds.{ends-last}
 use Rattle.ndc_model_sets.proofs.SetLemmas.{found-key, found-has}
 use Rattle.ndc_tree.specs.Events.{is_event, event_at, event_of, IdsGoOn, AreVersionsInIdOrder}
 use Rattle.ndc_tree.specs.Tree.{IsNextOfVersion, IsTree}
@@ -83,7 +81,7 @@ module _ (run : RunId) (batches : List Batch) (tree : IsTree run batches) where
       order [] rise within = tt
       order (b ∷ l) rise within = (
         all-from (λ x. b.key.version ≡ x.key.version → IdsGoOn b x) l
-        (λ x h. go-on b x (within b (inl refl)) (within x (inr h)) (all-among (λ y. key_lt b.key y.key ≡ true) l x rise.0 h)),
+            (λ x h. go-on b x (within b (inl refl)) (within x (inr h)) (all-among (λ y. key_lt b.key y.key ≡ true) l x rise.0 h)),
         order l rise.1 (λ x h. within x (inr h)),
       )
 

@@ -1,4 +1,4 @@
-use Rattle.std.proofs.Common.{rules, subst}
+use Rattle.std.proofs.Common.{rules}
 use Rattle.std.proofs.lemmas.Fn.{always_returns_same}
 use Rattle.ndc_tree.specs.Events.{against_id}
 use Rattle.ndc_tree.proofs.IdLemmas.{id-place}

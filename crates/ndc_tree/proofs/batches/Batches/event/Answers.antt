@@ -1,8 +1,7 @@
 use Rattle.std.proofs.Common.{◌∙◌, ap, sym, subst, List}
 use Rattle.ndc_event.specs.Sorted.{Hits, Parts}
-use Rattle.ndc_event.specs.declared.batch.Batch.{Batch}
 use Rattle.ndc_tree.specs.Events.{AreVersionsInIdOrder, event_at}
-use Rattle.ndc_tree.specs.Segments.{against, flat}
+use Rattle.ndc_tree.specs.Segments.{against}
 use Rattle.ndc_tree.specs.declared.batches.Segment.{Segment}
 use Rattle.ndc_tree.proofs.EventPlaces.{no-segment, segment-event, segment-ids}
 use Rattle.ndc_tree.proofs.batches.Batches.event.Goals as goal

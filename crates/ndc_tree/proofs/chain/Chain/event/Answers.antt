@@ -1,8 +1,7 @@
 use Rattle.std.proofs.Common.{◌∙◌, ap, sym, subst, List}
-use Rattle.ndc_event.specs.Sorted.{Hits, Parts}
 use Rattle.ndc_event.specs.declared.batch.Batch.{Batch}
 use Rattle.ndc_state.specs.Replay.{history_of}
-use Rattle.ndc_tree.specs.Events.{against_id, event_of, AreInIdOrder}
+use Rattle.ndc_tree.specs.Events.{event_of, AreInIdOrder}
 use Rattle.ndc_tree.proofs.IdLemmas.{hit-event, part-event}
 use Rattle.ndc_tree.proofs.chain.Chain.event.Goals as goal
 
