@@ -1,6 +1,6 @@
 -- Copied signals fit exactly where what their origins find is their original.
-use Rattle.std.proofs.Common.{◌≡◌, ◌<◌, ◌≤◌, ◌⊎◌, ℕ, Bool, true, false, ◌&&◌, ◌==◌, nat_lt, List, [], ◌∷◌, inl, inr, Option, Some, None, if◌then◌else◌, refl, sym, ◌∙◌, subst, ap, arith}
-use Rattle.std.specs.List.{AllByRecursion, filter}
+use Rattle.std.proofs.Common.{◌≡◌, ◌<◌, ◌≤◌, ◌⊎◌, ℕ, Bool, true, false, List, [], ◌∷◌, inl, inr, Option, Some, None, if◌then◌else◌, refl, sym, ◌∙◌, subst, ap, arith}
+use Rattle.std.specs.List.{AllByRecursion}
 use Rattle.std.specs.Str.{bytes_eq}
 use Rattle.std.proofs.lemmas.Bool.{and_from, and_parts, eqb-true, eq-eqb}
 use Rattle.std.proofs.lemmas.Bool.{cases_lt}
@@ -15,17 +15,15 @@ use Rattle.ndc_event.specs.declared.kind.EventKind.{EventKind}
 use Rattle.ndc_event.specs.declared.kind.EventKind.TheVariants.{WorkflowExecutionSignaled}
 use Rattle.ndc_event.specs.declared.name.Name.{Name}
 use Rattle.ndc_model_sets.specs.Branches.{same_run}
-use Rattle.ndc_model_sets.specs.Sets.{Has}
 use Rattle.ndc_model_sets.specs.Sound.{IsCopyFit, IsSound, Names}
 use Rattle.ndc_model_sets.proofs.BranchLemmas.{run-same, same-run}
-use Rattle.ndc_model_sets.proofs.FaultLemmas.{passes}
 use Rattle.ndc_model_sets.proofs.Lists.{Among, all-among, all-from, each-list_all, list_all-each}
 use Rattle.ndc_tree.specs.Events.{AreVersionsInIdOrder, event_at, event_of as event_of_id}
 use Rattle.ndc_tree.proofs.IdLemmas.{other-batches, own-batches}
-use Rattle.ndc_tree.proofs.RiseLemmas.{IsFound, event-found, found}
+use Rattle.ndc_tree.proofs.RiseLemmas.{event-found, found}
 use Rattle.ndc_shard_runs.specs.Copies.{CopiesFitInto, are_fit_copies, event_of, is_fit_copy, is_none_or_original, is_original}
 use Rattle.ndc_shard_runs.specs.RunMap.{part_of}
-use Rattle.ndc_shard_runs.proofs.OriginLemmas.{IsNamed, found-named, named-found}
+use Rattle.ndc_shard_runs.proofs.OriginLemmas.{found-named, named-found}
 
 original-kind : (name input : Name) (kind : EventKind) → is_original name input kind ≡ true → kind ≡ WorkflowExecutionSignaled name input None
 original-kind name input (WorkflowExecutionSignaled other more None) h =

@@ -1,6 +1,5 @@
 -- A batch that comes next leaves a sound set exactly where it fits.
-use Rattle.std.proofs.Common.{◌≡◌, ◌<◌, ◌^◌, true, List, ◌⊎◌, inl, inr, Option, Some, None, Result, Ok, Err, IsOk, refl, sym, ◌∙◌, subst, ap, arith}
-use Rattle.std.specs.Prelude.{is_some}
+use Rattle.std.proofs.Common.{◌≡◌, ◌<◌, ◌^◌, List, ◌⊎◌, inl, inr, Some, None, Result, Ok, Err, IsOk, refl, sym, ◌∙◌, subst, ap}
 use Rattle.ndc_event.specs.Outcome.{◌>>=◌}
 use Rattle.ndc_event.specs.declared.batch.Batch.{Batch}
 use Rattle.ndc_event.specs.declared.key.BatchKey.{BatchKey}
@@ -10,14 +9,14 @@ use Rattle.ndc_model_sets.specs.Learned.{has_key, IsPart}
 use Rattle.ndc_model_sets.specs.Origins.{origins_in}
 use Rattle.ndc_model_sets.specs.Paths.{events_to, path_to}
 use Rattle.ndc_model_sets.specs.Sets.{arrived, batch_at, Has}
-use Rattle.ndc_model_sets.specs.Sound.{ContinuesAs, IsParentFit, IsSound, VersionsAreChains}
+use Rattle.ndc_model_sets.specs.Sound.{IsParentFit, IsSound, VersionsAreChains}
 use Rattle.ndc_model_sets.specs.Writing.{CopiesFitWith}
 use Rattle.ndc_model_sets.proofs.ArrivalLemmas.{is_there, stays, was_or_new}
 use Rattle.ndc_model_sets.proofs.PathLemmas.{one-path, path_is, path-more}
 use Rattle.ndc_model_sets.proofs.SetLemmas.{found-has, found-key, has-found}
-use Rattle.ndc_model_sets.proofs.SoundLemmas.{all-carriers, all-copies, all-faultless, all-origins, all-parents, all-replay, new-closed, new-set, new-there, old-path, old-there, which}
+use Rattle.ndc_model_sets.proofs.SoundLemmas.{all-carriers, all-copies, all-faultless, all-origins, all-parents, all-replay, new-closed, new-set, new-there, old-path, which}
 use Rattle.ndc_model_sets.proofs.ViewLaws.{replay-signals}
-use Rattle.ndc_run.specs.Learning.{joined, learned, of_state_error, of_tree_error, or_error, passes_by}
+use Rattle.ndc_run.specs.Learning.{learned, of_state_error, of_tree_error, or_error, passes_by}
 use Rattle.ndc_run.specs.declared.answer.Learned.TheVariants.{New}
 use Rattle.ndc_run.proofs.LearnLemmas.{taken_by_tree}
 use Rattle.ndc_state.specs.Laws.{AreApart}

@@ -1,11 +1,9 @@
 -- What the tree of a run says, and what becomes of a batch then.
-use Rattle.std.proofs.Common.{◌≡◌, ◌≢◌, true, false, not, ◌&&◌, List, [], Option, Some, None, Result, Ok, Err, IsOk, refl, sym, ◌∙◌, subst, ap}
-use Rattle.std.specs.Prelude.{is_some}
+use Rattle.std.proofs.Common.{◌≡◌, ◌≢◌, List, [], Some, None, Result, Ok, Err, IsOk, refl, sym, ◌∙◌, subst, ap}
 use Rattle.ndc_event.specs.Outcome.{Gives, ◌>>=◌}
 use Rattle.ndc_event.specs.declared.batch.Batch.{Batch}
 use Rattle.ndc_event.specs.declared.key.BatchKey.{BatchKey}
 use Rattle.ndc_event.specs.declared.key.RunId.{RunId}
-use Rattle.ndc_model_sets.specs.Branches.{same_run}
 use Rattle.ndc_model_sets.specs.Sets.{batch_at, Has}
 use Rattle.ndc_model_sets.proofs.BranchLemmas.{same-run}
 use Rattle.ndc_run.specs.Learning.{joined, learned, of_tree_error, or_error}

@@ -1,12 +1,12 @@
 -- Where each copy names an original that is learned, none names an event of a batch that comes next.
-use Rattle.std.proofs.Common.{◌≡◌, List, Some, None, IsOk, refl, sym, ◌∙◌, subst, ap}
+use Rattle.std.proofs.Common.{◌≡◌, List, Some, None, IsOk, sym, ◌∙◌, subst, ap}
 use Rattle.std.specs.List.{AllByRecursion}
 use Rattle.ndc_event.specs.declared.batch.Batch.{Batch}
 use Rattle.ndc_event.specs.declared.batch.Event.{Event}
 use Rattle.ndc_event.specs.declared.kind.EventKind.TheVariants.{WorkflowExecutionSignaled}
 use Rattle.ndc_model_cells.proofs.AmongLemmas.{is-among}
 use Rattle.ndc_model_sets.specs.Sets.{Has, arrived}
-use Rattle.ndc_model_sets.specs.Sound.{CopiesNamed, IsCopyFit, IsSound, Names, NamesOriginal}
+use Rattle.ndc_model_sets.specs.Sound.{CopiesNamed, IsCopyFit, IsSound, NamesOriginal}
 use Rattle.ndc_model_sets.specs.Writing.{CopiesFitWith}
 use Rattle.ndc_model_sets.proofs.BranchLemmas.{has-among}
 use Rattle.ndc_model_sets.proofs.Lists.{Among, all-among, all-from}

@@ -1,15 +1,14 @@
 -- The event that an origin names.
-use Rattle.std.proofs.Common.{◌≡◌, List, Some, None, Option, refl, sym, ◌∙◌, subst, ap}
+use Rattle.std.proofs.Common.{◌≡◌, List, Some, sym, ◌∙◌, ap}
 use Rattle.ndc_event.specs.declared.batch.Batch.{Batch}
 use Rattle.ndc_event.specs.declared.batch.Event.{Event}
 use Rattle.ndc_event.specs.declared.key.Origin.{Origin}
-use Rattle.ndc_event.specs.declared.key.RunId.{RunId}
 use Rattle.ndc_model_sets.specs.Sets.{Has}
 use Rattle.ndc_model_sets.specs.Sound.{IsSound, Names}
 use Rattle.ndc_model_sets.proofs.BranchLemmas.{among-has, has-among}
 use Rattle.ndc_model_sets.proofs.Lists.{Among}
 use Rattle.ndc_tree.specs.Events.{event_at}
-use Rattle.ndc_tree.proofs.RiseLemmas.{IsFound, event-found, found, ids-rise}
+use Rattle.ndc_tree.proofs.RiseLemmas.{event-found, found, ids-rise}
 use Rattle.ndc_shard_runs.specs.Copies.{event_of}
 use Rattle.ndc_shard_runs.specs.RunMap.{part_of}
 use Rattle.ndc_shard_runs.proofs.PartLemmas.{has-part, part-has, part-set}

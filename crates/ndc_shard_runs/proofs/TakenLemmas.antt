@@ -1,8 +1,8 @@
 -- A batch with which the set is sound is taken by its run.
-use Rattle.std.proofs.Common.{◌≡◌, ◌+◌, ◌*◌, ◌<◌, ◌≤◌, ◌^◌, ℕ, Bool, true, false, not, ◌&&◌, ◌==◌, nat_lt, max, List, [], ◌∷◌, ◌++◌, ◌⊎◌, inl, inr, Option, Some, None, Result, Ok, Err, IsOk, if◌then◌else◌, refl, sym, ◌∙◌, subst, ap, true≢false, arith}
-use Rattle.std.specs.Prelude.{find, is_some}
-use Rattle.std.proofs.lemmas.Bool.{and_parts, and_from, eqb-true, eq-eqb, ltb-false, cases_lt}
-use Rattle.ndc_event.specs.Batch.{fault_of, is_first_fit, is_parent_fit}
+use Rattle.std.proofs.Common.{◌≡◌, ◌+◌, ◌*◌, ◌<◌, ◌≤◌, ◌^◌, ℕ, Bool, true, false, not, ◌&&◌, ◌==◌, max, List, [], ◌∷◌, ◌⊎◌, inl, inr, Option, Some, None, Result, Ok, Err, IsOk, if◌then◌else◌, refl, sym, ◌∙◌, subst, ap, true≢false, arith}
+use Rattle.std.specs.Prelude.{is_some}
+use Rattle.std.proofs.lemmas.Bool.{and_parts, and_from, eqb-true, eq-eqb, cases_lt}
+use Rattle.ndc_event.specs.Batch.{fault_of, is_first_fit}
 use Rattle.ndc_event.specs.Key.{key_lt, run_of}
 use Rattle.ndc_event.specs.Outcome.{◌>>=◌}
 use Rattle.ndc_event.specs.declared.batch.Batch.{Batch}
@@ -13,18 +13,18 @@ use Rattle.ndc_run.specs.declared.answer.Learned.TheVariants.{New}
 use Rattle.ndc_model_cells.specs.Writing.{greatest_task}
 use Rattle.ndc_model_sets.specs.Branches.{same_run, current_tip}
 use Rattle.ndc_model_sets.specs.Learned.{has_key}
-use Rattle.ndc_model_sets.specs.Paths.{IsPath, first, below, path_to, events_to, first_id, last_id}
-use Rattle.ndc_model_sets.specs.Sets.{earlier_of, PointsBack, IsSet, Rise, batch_at, Has, arrived}
+use Rattle.ndc_model_sets.specs.Paths.{path_to, events_to, first_id, last_id}
+use Rattle.ndc_model_sets.specs.Sets.{earlier_of, Rise, batch_at, Has, arrived}
 use Rattle.ndc_model_sets.specs.Sound.{IsSound}
 use Rattle.ndc_model_sets.proofs.ArrivalLemmas.{is_there, stays, was_or_new}
 use Rattle.ndc_model_sets.proofs.BranchLemmas.{has-among, among-has, same-run, Rise-filter}
 use Rattle.ndc_model_sets.proofs.CurrentLemmas.{path-begins}
 use Rattle.ndc_model_sets.proofs.FaultLemmas.{passes}
-use Rattle.ndc_model_sets.proofs.ForkLemmas.{among-cases, path-run}
-use Rattle.ndc_model_sets.proofs.KeyLemmas.{IsBefore, before-parts, before-from, before-irrefl, before-trans, key-parts}
+use Rattle.ndc_model_sets.proofs.ForkLemmas.{path-run}
+use Rattle.ndc_model_sets.proofs.KeyLemmas.{before-from, before-irrefl, key-parts}
 use Rattle.ndc_model_sets.proofs.Lists.{Among, find-among}
-use Rattle.ndc_model_sets.proofs.PathLemmas.{parent-back, part-path, path_is, path-below, path-first}
-use Rattle.ndc_model_sets.proofs.SetLemmas.{found-key, found-has, found-all, has-found}
+use Rattle.ndc_model_sets.proofs.PathLemmas.{parent-back, part-path, path_is}
+use Rattle.ndc_model_sets.proofs.SetLemmas.{found-key, found-has, has-found}
 use Rattle.ndc_model_sets.proofs.SoundLemmas.{faultless-back}
 use Rattle.ndc_state.specs.Replay.{replay_of}
 use Rattle.ndc_tree.specs.Fitting.{key_behind, is_of_version, splits_version, goes_on, is_below, fits}

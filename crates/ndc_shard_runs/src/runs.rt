@@ -145,7 +145,6 @@ impl Runs {
         }
     }
 
-
     /// Learns two batches, or, for want of memory, neither: all is as it was. Their keys are new, the set is sound with
     /// the first, and with both; the second begins a run of which no batch is there. Where the first goes on from the
     /// current branch of its run, a step is taken for each of the events of both, else at most 511 more.

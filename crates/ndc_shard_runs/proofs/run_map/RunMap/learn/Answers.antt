@@ -1,13 +1,12 @@
-use Rattle.std.proofs.Common.{◌≡◌, None, Some, List, OnOk, ◌∙◌, ap, sym, subst, length, set}
+use Rattle.std.proofs.Common.{◌≡◌, Some, List, OnOk, ◌∙◌, ap, sym, subst, length, set}
 use Rattle.ndc_event.specs.Outcome.{Gives}
 use Rattle.ndc_run.specs.declared.answer.RunError.TheVariants.{Memory}
-use Rattle.ndc_model_sets.specs.Reading.{current_key}
 use Rattle.ndc_state.specs.Counted.{counted}
 use Rattle.ndc_tree.specs.Tree.{TreeValue}
-use Rattle.ndc_shard_runs.specs.RunMap.{batches_of, run_at, with_batch}
-use Rattle.ndc_shard_runs.specs.Standing.{IsAt, IsGap}
+use Rattle.ndc_shard_runs.specs.RunMap.{run_at, with_batch}
+use Rattle.ndc_shard_runs.specs.Standing.{IsAt}
 use Rattle.ndc_shard_runs.proofs.LearnLemmas.{current-at, inserted-at, learned-at}
-use Rattle.ndc_shard_runs.proofs.RunMapLemmas.{here, in-any-case, written-ok, written-order}
+use Rattle.ndc_shard_runs.proofs.RunMapLemmas.{here, written-ok, written-order}
 use Rattle.ndc_shard_runs.proofs.run_map.RunMap.learn.Goals as goal
 
 pub grow-requires-clause-fits : goal.grow-requires-clause-fits

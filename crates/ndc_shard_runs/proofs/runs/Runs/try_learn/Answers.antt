@@ -1,9 +1,6 @@
-use Rattle.std.proofs.Common.{IsOk, max, ◌≡◌, List, None, ◌∙◌, ap, sym, subst}
-use Rattle.ndc_event.specs.Outcome.{Gives}
+use Rattle.std.proofs.Common.{IsOk, ◌≡◌, List, None, ◌∙◌, ap, sym, subst}
 use Rattle.ndc_event.specs.declared.batch.Batch.{Batch}
 use Rattle.ndc_run.specs.Learning.{learned}
-use Rattle.ndc_run.specs.declared.answer.RunError.TheVariants.{Memory}
-use Rattle.ndc_tree.specs.Inserting.{inserted}
 use Rattle.ndc_model_sets.specs.Sets.{arrived, batch_at}
 use Rattle.ndc_model_sets.specs.Reading.{current_key}
 use Rattle.ndc_model_sets.specs.Writing.{CopiesFitWith}
@@ -13,7 +10,7 @@ use Rattle.ndc_shard_runs.specs.RunMap.{all_of, batches_of, part_of, run_at}
 use Rattle.ndc_shard_runs.proofs.FitLemmas.{taken-is-sound}
 use Rattle.ndc_shard_runs.proofs.IndexLemmas.{none-in-run}
 use Rattle.ndc_shard_runs.proofs.InsideLemmas.{index-of, all-is, inside-with}
-use Rattle.ndc_shard_runs.proofs.JudgeLemmas.{is-ok, refused}
+use Rattle.ndc_shard_runs.proofs.JudgeLemmas.{is-ok}
 use Rattle.ndc_shard_runs.proofs.PartLemmas.{part-key}
 use Rattle.ndc_shard_runs.proofs.runs.Runs.try_learn.Goals as goal
 

@@ -1,24 +1,20 @@
 use Rattle.std.proofs.Common.{IsOk, ◌≡◌, List, [], None, ◌∙◌, ap, sym, subst, max, not, ◌&&◌}
 use Rattle.std.specs.Option.{option_map}
 use Rattle.ndc_event.specs.Key.{key_lt}
-use Rattle.ndc_event.specs.Outcome.{Gives}
 use Rattle.ndc_event.specs.declared.batch.Batch.{Batch}
 use Rattle.ndc_run.specs.Learning.{learned}
-use Rattle.ndc_run.specs.declared.answer.RunError.TheVariants.{Memory}
-use Rattle.ndc_tree.specs.Inserting.{inserted}
 use Rattle.ndc_tree.specs.Tree.{TreeValue}
 use Rattle.ndc_model_sets.specs.Current.{current_state}
 use Rattle.ndc_model_sets.specs.Sets.{arrived, batch_at}
-use Rattle.ndc_model_sets.specs.Sound.{IsSound}
 use Rattle.ndc_model_sets.specs.Reading.{current_key}
 use Rattle.ndc_model_sets.specs.Writing.{CopiesFitWith}
-use Rattle.ndc_shard_runs.specs.Fitting.{ComesNext, IsCarrierFit, both_joined, both_learned}
+use Rattle.ndc_shard_runs.specs.Fitting.{ComesNext, IsCarrierFit}
 use Rattle.ndc_shard_runs.specs.Kept.{follows, is_open, lies_beside}
 use Rattle.ndc_shard_runs.specs.RunMap.{all_of, batches_of, part_of, run_at}
 use Rattle.ndc_shard_runs.proofs.FitLemmas.{taken-is-sound}
 use Rattle.ndc_shard_runs.proofs.IndexLemmas.{none-in-run}
 use Rattle.ndc_shard_runs.proofs.InsideLemmas.{second-none, second-apart, other-run, second-run, all-both, inside-both, known-both}
-use Rattle.ndc_shard_runs.proofs.JudgeLemmas.{both-judged, both-refused, first-ok, is-ok}
+use Rattle.ndc_shard_runs.proofs.JudgeLemmas.{first-ok, is-ok}
 use Rattle.ndc_shard_runs.proofs.PartLemmas.{part-key}
 use Rattle.ndc_shard_runs.proofs.runs.Runs.try_learn_both.Goals as goal
 
