@@ -6,6 +6,7 @@ use Rattle.ndc_event.specs.declared.key.RunId.{RunId}
 use Rattle.ndc_model_sets.specs.Branches.{same_run}
 use Rattle.ndc_model_sets.proofs.BranchLemmas.{run-same}
 use Rattle.ndc_run.specs.Learning.{learned}
+use Rattle.ndc_tree.specs.Inserting.{inserted}
 use Rattle.ndc_model_sets.specs.Reading.{current_key}
 use Rattle.ndc_tree.specs.Tree.{TreeValue}
 use Rattle.ndc_shard_runs.specs.RunMap.{batches_of, begun, run_at, with_run, with_grown, with_batch}
@@ -29,7 +30,10 @@ with-begun b runs h = ap (λ o. if is_some o then with_grown b runs else with_ru
 pub current-at : (run : RunId) (runs : List TreeValue) (r : TreeValue) → run_at run runs ≡ Some r → current_key r.run r.batches ≡ current_key run (batches_of (run_at run runs))
 current-at run runs r h = ap (λ i. current_key i r.batches) (found-run run runs r h) ∙ ap (λ o. current_key run (batches_of o)) (sym h)
 
--- what a run takes, the run of this id takes
-pub taken-at : (run : RunId) (runs : List TreeValue) (r : TreeValue) (b : Batch) → run_at run runs ≡ Some r → IsOk (learned run (batches_of (run_at run runs)) b) → IsOk (learned r.run r.batches b)
-taken-at run runs r b h ok =
-    subst (λ (i : RunId). IsOk (learned i r.batches b)) (sym (found-run run runs r h)) (subst (λ o. IsOk (learned run (batches_of o) b)) h ok)
+-- what the tree of a run takes, that of the run of this id takes, and what becomes of it is the same
+pub inserted-at : (run : RunId) (runs : List TreeValue) (r : TreeValue) (b : Batch) → run_at run runs ≡ Some r → IsOk (inserted run (batches_of (run_at run runs)) b) → IsOk (inserted r.run r.batches b)
+inserted-at run runs r b h ok =
+    subst (λ (i : RunId). IsOk (inserted i r.batches b)) (sym (found-run run runs r h)) (subst (λ o. IsOk (inserted run (batches_of o) b)) h ok)
+
+pub learned-at : (run : RunId) (runs : List TreeValue) (r : TreeValue) (b : Batch) → run_at run runs ≡ Some r → learned r.run r.batches b ≡ learned run (batches_of (run_at run runs)) b
+learned-at run runs r b h = ap (λ i. learned i r.batches b) (found-run run runs r h) ∙ ap (λ o. learned run (batches_of o) b) (sym h)

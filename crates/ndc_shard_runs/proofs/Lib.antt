@@ -13,7 +13,13 @@ pub mod StrayLemmas
 pub mod ViewLemmas
 pub mod UnlistedLemmas
 pub mod FollowLemmas
+pub mod TreeLemmas
 pub mod TakenLemmas
+pub mod FitLemmas
+pub mod OriginLemmas
+pub mod JudgeLemmas
+pub mod CopyLemmas
+pub mod NamedLemmas
 pub mod ListedLemmas
 pub mod BesideLemmas
 pub mod DueLemmas

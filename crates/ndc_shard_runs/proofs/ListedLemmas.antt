@@ -21,7 +21,8 @@ use Rattle.ndc_model_sets.proofs.Lists.{Among, all-among, all-from, among-filter
 use Rattle.ndc_model_sets.proofs.PathLemmas.{path_is}
 use Rattle.ndc_tree.specs.Tree.{TreeValue}
 use Rattle.ndc_shard_runs.specs.RunMap.{AreInOrder, AreParts, IsRunBefore, all_of, batches_of, part_of, run_at, run_in}
-use Rattle.ndc_shard_runs.proofs.TakenLemmas.{find-passes, task-up-to}
+use Rattle.ndc_shard_runs.proofs.TakenLemmas.{task-up-to}
+use Rattle.ndc_tree.proofs.RiseLemmas.{find-passes}
 
 -- ids that rise
 abbrev Climb : List RunId → Type 0

@@ -52,7 +52,7 @@ any-among {X = X} p (x ∷ xs) h = by (p x) refl h (any-among p xs)
     by false e h rest = let r = rest h in (r.0, inr r.1, r.2)
 
 module _ (batches : List Batch) (sound : IsSound batches) (run : RunId) where
-  part-set : IsSet (part_of run batches)
+  pub part-set : IsSet (part_of run batches)
   part-set = record {
     ordered = Rise-filter (λ b. same_run b.run run) batches sound.set.ordered;
     back = All-filter PointsBack (λ b. same_run b.run run) batches sound.set.back;

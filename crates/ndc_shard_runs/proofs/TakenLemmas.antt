@@ -1,8 +1,8 @@
 -- A batch with which the set is sound is taken by its run.
-use Rattle.std.proofs.Common.{◌≡◌, ◌+◌, ◌*◌, ◌<◌, ◌≤◌, ◌^◌, ℕ, Bool, true, false, not, ◌&&◌, ◌==◌, nat_lt, max, List, [], ◌∷◌, ◌++◌, ◌⊎◌, inl, inr, Option, Some, None, Result, Ok, Err, IsOk, if◌then◌else◌, refl, sym, ◌∙◌, subst, ap, true≢false, arith}
-use Rattle.std.specs.Prelude.{find, is_some}
-use Rattle.std.proofs.lemmas.Bool.{and_parts, and_from, eqb-true, eq-eqb, ltb-false, cases_lt}
-use Rattle.ndc_event.specs.Batch.{fault_of, is_first_fit, is_parent_fit}
+use Rattle.std.proofs.Common.{◌≡◌, ◌+◌, ◌*◌, ◌<◌, ◌≤◌, ◌^◌, ℕ, Bool, true, false, not, ◌&&◌, ◌==◌, max, List, [], ◌∷◌, ◌⊎◌, inl, inr, Option, Some, None, Result, Ok, Err, IsOk, if◌then◌else◌, refl, sym, ◌∙◌, subst, ap, true≢false, arith}
+use Rattle.std.specs.Prelude.{is_some}
+use Rattle.std.proofs.lemmas.Bool.{and_parts, and_from, eqb-true, eq-eqb, cases_lt}
+use Rattle.ndc_event.specs.Batch.{fault_of, is_first_fit}
 use Rattle.ndc_event.specs.Key.{key_lt, run_of}
 use Rattle.ndc_event.specs.Outcome.{◌>>=◌}
 use Rattle.ndc_event.specs.declared.batch.Batch.{Batch}
@@ -13,53 +13,29 @@ use Rattle.ndc_run.specs.declared.answer.Learned.TheVariants.{New}
 use Rattle.ndc_model_cells.specs.Writing.{greatest_task}
 use Rattle.ndc_model_sets.specs.Branches.{same_run, current_tip}
 use Rattle.ndc_model_sets.specs.Learned.{has_key}
-use Rattle.ndc_model_sets.specs.Paths.{IsPath, first, below, path_to, events_to, first_id, last_id}
-use Rattle.ndc_model_sets.specs.Sets.{earlier_of, PointsBack, IsSet, Rise, batch_at, Has, arrived}
+use Rattle.ndc_model_sets.specs.Paths.{path_to, events_to, first_id, last_id}
+use Rattle.ndc_model_sets.specs.Sets.{earlier_of, Rise, batch_at, Has, arrived}
 use Rattle.ndc_model_sets.specs.Sound.{IsSound}
 use Rattle.ndc_model_sets.proofs.ArrivalLemmas.{is_there, stays, was_or_new}
 use Rattle.ndc_model_sets.proofs.BranchLemmas.{has-among, among-has, same-run, Rise-filter}
 use Rattle.ndc_model_sets.proofs.CurrentLemmas.{path-begins}
 use Rattle.ndc_model_sets.proofs.FaultLemmas.{passes}
-use Rattle.ndc_model_sets.proofs.ForkLemmas.{among-cases, path-run}
-use Rattle.ndc_model_sets.proofs.KeyLemmas.{IsBefore, before-parts, before-from, before-irrefl, before-trans, key-parts}
+use Rattle.ndc_model_sets.proofs.ForkLemmas.{path-run}
+use Rattle.ndc_model_sets.proofs.KeyLemmas.{before-from, before-irrefl, key-parts}
 use Rattle.ndc_model_sets.proofs.Lists.{Among, find-among}
-use Rattle.ndc_model_sets.proofs.PathLemmas.{parent-back, part-path, path_is, path-below, path-first}
-use Rattle.ndc_model_sets.proofs.SetLemmas.{found-key, found-has, found-all, has-found}
+use Rattle.ndc_model_sets.proofs.PathLemmas.{parent-back, part-path, path_is}
+use Rattle.ndc_model_sets.proofs.SetLemmas.{found-key, found-has, has-found}
 use Rattle.ndc_model_sets.proofs.SoundLemmas.{faultless-back}
 use Rattle.ndc_state.specs.Replay.{replay_of}
 use Rattle.ndc_tree.specs.Fitting.{key_behind, is_of_version, splits_version, goes_on, is_below, fits}
 use Rattle.ndc_tree.specs.Inserting.{inserted, placed}
+use Rattle.ndc_tree.proofs.RiseLemmas.{find-passes}
 use Rattle.ndc_model_sets.specs.Last.{is_nil, first_from}
 use Rattle.ndc_shard_runs.specs.RunMap.{part_of}
 use Rattle.ndc_shard_runs.proofs.ArrivedLemmas.{none-filter, filter-arrived, greatest-arrived}
 use Rattle.ndc_shard_runs.proofs.PartLemmas.{part-has, found-part, part-events}
 use Rattle.ndc_shard_runs.proofs.ReadLemmas.{new-faultless}
-
--- what stands on a path is its batch, or comes before it
-path-up : (batches : List Batch) (m x : Batch) (path : List Batch) → IsSet batches → IsPath batches m path → Among x path → (x ≡ m) ⊎ (key_lt x.key m.key ≡ true)
-path-up batches m x path set (first _ has e) (inl same) = inl same
-path-up batches m x path set (first _ has e) (inr h) = absurd h
-path-up batches m x path set (below _ before key up has e at r) among = by (among-cases x up (m ∷ []) among) (λ h. path-up batches before x up set r h)
-  where
-    over : key_lt before.key m.key ≡ true
-    over = subst (λ (k : BatchKey). key_lt k m.key ≡ true) (sym (found-key batches key before at)) (parent-back m (found-all PointsBack batches m.key m set.back has) key e)
-
-    step : (x ≡ before) ⊎ (key_lt x.key before.key ≡ true) → (x ≡ m) ⊎ (key_lt x.key m.key ≡ true)
-    step (inl same) = inr (subst (λ (y : Batch). key_lt y.key m.key ≡ true) (sym same) over)
-    step (inr l) = inr (before-trans x.key before.key m.key l over)
-
-    by : Among x up ⊎ Among x (m ∷ []) → (Among x up → (x ≡ before) ⊎ (key_lt x.key before.key ≡ true)) → (x ≡ m) ⊎ (key_lt x.key m.key ≡ true)
-    by (inl h) rest = step (rest h)
-    by (inr (inl same)) rest = inl same
-    by (inr (inr h)) rest = absurd h
-
-pub find-passes : {X : Type 0} (p : X → Bool) (xs : List X) (x : X) → find p xs ≡ Some x → p x ≡ true
-find-passes p [] x h = absurd (cc)
-find-passes p (y ∷ ys) x h = by (p y) refl h (find-passes p ys x)
-  where
-    by : (t : Bool) → p y ≡ t → (if t then Some y else find p ys) ≡ Some x → (find p ys ≡ Some x → p x ≡ true) → p x ≡ true
-    by true e g rest = let same : y ≡ x = cc in subst (λ z. p z ≡ true) same e
-    by false e g rest = rest g
+use Rattle.ndc_shard_runs.proofs.TreeLemmas.{next-of-version}
 
 -- run ids of one number are those of one key
 pub one-key : (v t w u : ℕ) → t < 2 ^ 64 → u < 2 ^ 64 → v * 2 ^ 64 + t ≡ w * 2 ^ 64 + u → (v ≡ w) × (t ≡ u)
@@ -90,15 +66,6 @@ module _ (batches : List Batch) (b : Batch) (sound : IsSound batches) (after : I
               let fit = after.parents b c key there e at in
               (c, has-found batches key c (found-key (arrived b batches) key c at) has, fit.run, fit.ids)
 
-  parent-up-to : (key : BatchKey) → b.parent ≡ Some key → key.version ≤ b.key.version
-  parent-up-to key e =
-      let fit : is_parent_fit b.key (Some key) ≡ true = subst (λ (o : Option BatchKey). is_parent_fit b.key o ≡ true) e (passes b faultless).parent in
-      not_above (nat_lt b.key.version key.version) refl (and_parts (not (nat_lt b.key.version key.version)) (nat_lt key.task b.key.task) fit).0
-    where
-      not_above : (t : Bool) → nat_lt b.key.version key.version ≡ t → not t ≡ true → key.version ≤ b.key.version
-      not_above true f g = absurd (cc)
-      not_above false f g = ltb-false b.key.version key.version f
-
   -- a batch of its version in its run comes before the key behind the parent
   module _ (x : Batch) (has : Has batches x) (own : x.run ≡ b.run) (version : x.key.version ≡ b.key.version) where
     in-both : Has (arrived b batches) x
@@ -116,42 +83,6 @@ module _ (batches : List Batch) (b : Batch) (sound : IsSound batches) (after : I
         let one : x.key ≡ b.key = key-parts x.key b.key version e in
         let found : batch_at b.key batches ≡ Some x = has-found batches b.key x one has in cc
 
-    on-path : x.key.task < b.key.task → Among x (path_to b.key (arrived b batches))
-    on-path l = has-among (path_to b.key (arrived b batches)) x (after.chains x b in-both there own version l)
-
-    before-behind : (key : BatchKey) → b.parent ≡ Some key → x.key.task < b.key.task → (key.version ≡ b.key.version) × (x.key.task ≤ key.task)
-    before-behind key e l =
-        let c = parent-found key e in
-        let key_is : c.0.key ≡ key = found-key batches key c.0 c.1 in
-        let c-both : Has (arrived b batches) c.0 = stays b batches sound.set.ordered c.0 (found-has batches key c.0 c.1) in
-        let path : Among x (path_to key (arrived b batches) ++ b ∷ []) = subst (Among x) (path-below (arrived b batches) b key after.set there e) (on-path l) in
-        by key_is (among-cases x (path_to key (arrived b batches)) (b ∷ []) path)
-        (λ h. path-up (arrived b batches) c.0 x (path_to c.0.key (arrived b batches)) after.set (path_is (arrived b batches) c.0 after.set after.closed c-both)
-        (subst (λ (k : BatchKey). Among x (path_to k (arrived b batches))) (sym key_is) h))
-      where
-        ends : (c : Batch) → c.key ≡ key → (x ≡ c) ⊎ (key_lt x.key c.key ≡ true) → (key.version ≡ b.key.version) × (x.key.task ≤ key.task)
-        ends c k (inl same) =
-            let e : x.key ≡ key = ap (λ (y : Batch). y.key) same ∙ k in
-            (ap (λ (y : BatchKey). y.version) (sym e) ∙ version, subst (λ (y : BatchKey). x.key.task ≤ y.task) e (omega arith))
-        ends c k (inr m) = parts (before-parts x.key key (subst (λ (y : BatchKey). key_lt x.key y ≡ true) k m))
-          where
-            parts : IsBefore x.key key → (key.version ≡ b.key.version) × (x.key.task ≤ key.task)
-            parts (inl u) = absurd (omega (arith, u, version, parent-up-to key e))
-            parts (inr u) = (sym u.0 ∙ version, omega (arith, u.1))
-
-        by : {c : Batch} → c.key ≡ key → Among x (path_to key (arrived b batches)) ⊎ Among x (b ∷ []) → (Among x (path_to key (arrived b batches)) → (x ≡ c) ⊎ (key_lt x.key c.key ≡ true))
-            → (key.version ≡ b.key.version) × (x.key.task ≤ key.task)
-        by {c} k (inl h) rest = ends c k (rest h)
-        by k (inr (inl same)) rest = absurd (absent (subst (λ (y : Batch). Has batches y) same has))
-        by k (inr (inr h)) rest = absurd h
-
-    no-first : b.parent ≡ None → x.key.task < b.key.task → ⊥
-    no-first e l = by (subst (Among x) (path-first (arrived b batches) b after.set there e) (on-path l))
-      where
-        by : Among x (b ∷ []) → ⊥
-        by (inl same) = absent (subst (λ (y : Batch). Has batches y) same has)
-        by (inr h) = absurd h
-
     before : x.key.task < b.key.task
     before = by (cases_lt x.key.task b.key.task) (cases_lt b.key.task x.key.task)
       where
@@ -161,14 +92,11 @@ module _ (batches : List Batch) (b : Batch) (sound : IsSound batches) (after : I
         by (inr l) (inr m) = absurd (not-same (omega (arith, l, m)))
 
     pub comes-before : key_lt x.key (key_behind b.key.version b.parent) ≡ true
-    comes-before = by b.parent refl
-      where
-        by : (o : Option BatchKey) → b.parent ≡ o → key_lt x.key (key_behind b.key.version o) ≡ true
-        by None e = absurd (no-first e before)
-        by (Some key) e =
-            let q = before-behind key e before in
-            subst (λ (t : Bool). key_lt x.key (if t then record { version = b.key.version; task = key.task + 1 } else record { version = b.key.version; task = 0 }) ≡ true)
-            (sym (eq-eqb key.version b.key.version q.0)) (before-from x.key (record { version = b.key.version; task = key.task + 1 }) (inr (version, omega (arith, q.1))))
+    comes-before =
+        let n = next-of-version (arrived b batches) after x b in-both there own version before in
+        subst (λ (o : Option BatchKey). key_lt x.key (key_behind b.key.version o) ≡ true) (sym n.named)
+        (subst (λ (t : Bool). key_lt x.key (if t then record { version = b.key.version; task = n.parent.task + 1 } else record { version = b.key.version; task = 0 }) ≡ true)
+        (sym (eq-eqb n.parent.version b.key.version n.version)) (before-from x.key (record { version = b.key.version; task = n.parent.task + 1 }) (inr (version, omega (arith, n.next)))))
 
   unsplit : splits_version (part_of b.run batches) b.key.version b.parent ≡ false
   unsplit = by (first_from (key_behind b.key.version b.parent) (part_of b.run batches)) refl

@@ -1,5 +1,7 @@
 pub mod Places
 pub mod RunMap
+pub mod Fitting
+pub mod Copies
 pub mod Standing
 pub mod Index
 pub mod Fields

@@ -6,21 +6,25 @@ ghost use Rattle.ndc_model_sets.specs.Branches.{same_run};
 ghost use Rattle.ndc_model_sets.specs.Reading.{current_key};
 ghost use Rattle.ndc_model_sets.specs.Sets.{batch_at};
 ghost use Rattle.ndc_model_sets.specs.Sound.{IsSound};
+ghost use Rattle.ndc_event.specs.Outcome.{Gives};
 ghost use Rattle.ndc_run.specs.Learning.{learned};
+ghost use Rattle.ndc_run.specs.declared.answer.RunError.TheVariants.{Memory};
+ghost use Rattle.ndc_shard_runs.specs.Fitting.{both_joined};
 ghost use Rattle.ndc_shard_runs.specs.Index.{AreIndexed, AreOne, left, run_with};
 ghost use Rattle.ndc_shard_runs.specs.Places.{places_of};
 ghost use Rattle.ndc_shard_runs.specs.RunMap.{AreParts, all_of, batches_of, run_at, with_batch};
 ghost use Rattle.ndc_state.specs.Counted.{counted};
 ghost use Rattle.ndc_state.specs.Replay.{CountsWithin};
+ghost use Rattle.ndc_tree.specs.Inserting.{inserted};
 ghost use Rattle.ndc_tree.specs.Tree.{IsTree};
 
 use crate::places::Places;
 use crate::run_map::RunMap;
 use ndc_event::{Batch, BatchKey, OutOfMemory, RunId};
-use ndc_run::Run;
+use ndc_run::{Learned, Run, RunError};
 use ndc_state::Steps;
-use ndc_tree::Tree;
-use std::alloc::Global;
+use ndc_tree::{Inserted, Tree, TreeError};
+use std::alloc::{AllocError, Global};
 use std::marker::Model;
 
 /// The runs by their ids, in which batches are found by key. One run alone is asked itself; the places of keys are kept
@@ -61,7 +65,11 @@ impl RunIndex {
     ghost use Rattle.ndc_model_sets.specs.Reading.{current_key};
     ghost use Rattle.ndc_model_sets.specs.Sets.{batch_at};
     ghost use Rattle.ndc_model_sets.specs.Sound.{IsSound};
+    ghost use Rattle.ndc_event.specs.Outcome.{Gives};
     ghost use Rattle.ndc_run.specs.Learning.{learned};
+    ghost use Rattle.ndc_run.specs.declared.answer.RunError.TheVariants.{Memory};
+    ghost use Rattle.ndc_tree.specs.Inserting.{inserted};
+    ghost use Rattle.ndc_shard_runs.specs.Fitting.{both_joined};
     ghost use Rattle.ndc_shard_runs.specs.Index.{run_with};
     ghost use Rattle.ndc_shard_runs.specs.RunMap.{AreInOrder, AreParts, all_of, batches_of, run_at, with_batch};
     ghost use Rattle.ndc_state.specs.Counted.{counted};
@@ -136,6 +144,22 @@ impl RunIndex {
         }
     }
 
+    /// What the tree of its run says of a batch whose key is new there.
+    pub(crate) fn judge(&self, batch: &Batch) -> Result<Inserted, TreeError>
+        requires fresh { batch_at batch.now.key (batches_of (run_at batch.now.run self.now)) ≡ None }
+        requires faultless { fault_of batch.now ≡ None }
+        ensures { result ≡ inserted batch.now.run (batches_of (run_at batch.now.run self.now)) batch.now }
+    {
+        let key = batch.key;
+        match self.runs.get(batch.run) {
+            Some(run) => run.tree().judge(batch),
+            None => match batch.parent {
+                Some(_) => Err(TreeError::MissingParent { key }),
+                None => Ok(Inserted::Extended { branch: key }),
+            },
+        }
+    }
+
     /// Takes in a batch whose key is new, and that its run takes. For want of memory the runs are as they were.
     pub(crate) fn learn<L>(
         &mut self,
@@ -147,6 +171,31 @@ impl RunIndex {
         requires fits { IsOk (learned batch.now.run (batches_of (run_at batch.now.run self.old)) batch.now) }
         requires faultless { fault_of batch.now ≡ None }
         requires ids { All (λ event. event.id ≤ 10 ^ 12) batch.now.events }
+        ensures ok { OnOk result (self.new ≡ with_batch batch.now self.old) }
+        ensures err { OnErr result (self.new ≡ self.old) }
+        ensures extend_steps { OnOk result (batch.now.parent ≡ current_key batch.now.run (batches_of (run_at batch.now.run self.old)) → steps.new ≡ counted steps.old (length batch.now.events)) }
+        ensures most_steps { CountsWithin steps.old (length batch.now.events + 511) steps.new }
+    {
+        match self.try_learn(alloc, batch, steps) {
+            Ok(_) => Ok(()),
+            Err(RunError::Memory) => Err(AllocError),
+            Err(_) => unreachable!(),
+        }
+    }
+
+    /// Takes in a batch whose key is new, and that the tree of its run takes. Refused with [`RunError::Invalid`] for the
+    /// first event that is forbidden on its path, with its first rule. After an error the runs are as they were.
+    pub(crate) fn try_learn<L>(
+        &mut self,
+        alloc: Global,
+        batch: &Batch,
+        steps: &mut Steps<L>,
+    ) -> Result<Learned, RunError>
+        requires fresh { batch_at batch.now.key (all_of self.old) ≡ None }
+        requires fits { IsOk (inserted batch.now.run (batches_of (run_at batch.now.run self.old)) batch.now) }
+        requires faultless { fault_of batch.now ≡ None }
+        requires ids { All (λ event. event.id ≤ 10 ^ 12) batch.now.events }
+        ensures answer { Gives Memory (λ done. done) result (learned batch.now.run (batches_of (run_at batch.now.run self.old)) batch.now) }
         ensures ok { OnOk result (self.new ≡ with_batch batch.now self.old) }
         ensures err { OnErr result (self.new ≡ self.old) }
         ensures extend_steps { OnOk result (batch.now.parent ≡ current_key batch.now.run (batches_of (run_at batch.now.run self.old)) → steps.new ≡ counted steps.old (length batch.now.events)) }
@@ -166,7 +215,7 @@ impl RunIndex {
         requires fresh { batch_at batch.now.key (all_of self.old) ≡ None }
         requires fits { IsOk (learned batch.now.run (batches_of (run_at batch.now.run self.old)) batch.now) }
         requires second_fresh { batch_at second.now.key (all_of self.old) ≡ None }
-        requires second_fits { IsOk (learned second.now.run [] second.now) }
+        requires fits_both { IsOk (both_joined (batches_of (run_at batch.now.run self.old)) batch.now second.now) }
         requires other_key { key_eq second.now.key batch.now.key ≡ false }
         requires second_run { run_at second.now.run self.old ≡ None }
         requires other_run { same_run second.now.run batch.now.run ≡ false }
@@ -175,6 +224,40 @@ impl RunIndex {
         requires second_faultless { fault_of second.now ≡ None }
         requires ids { All (λ event. event.id ≤ 10 ^ 12) batch.now.events }
         requires second_ids { All (λ event. event.id ≤ 10 ^ 12) second.now.events }
+        ensures ok { OnOk result (self.new ≡ with_batch batch.now (with_batch second.now self.old)) }
+        ensures err { OnErr result (self.new ≡ self.old) }
+        ensures extend_steps { OnOk result (batch.now.parent ≡ current_key batch.now.run (batches_of (run_at batch.now.run self.old)) → steps.new ≡ counted (counted steps.old (length second.now.events)) (length batch.now.events)) }
+        ensures most_steps { CountsWithin steps.old (length second.now.events + (length batch.now.events + 511)) steps.new }
+    {
+        match self.try_learn_both(alloc, batch, second, steps) {
+            Ok(_) => Ok(()),
+            Err(RunError::Memory) => Err(AllocError),
+            Err(_) => unreachable!(),
+        }
+    }
+
+    /// Takes in two batches whose keys are new, of which the second begins a run, and the tree of its run takes the first;
+    /// or neither. Refused with [`RunError::Invalid`] for the first event that is forbidden, of the second or else on the
+    /// path of the first, with its first rule. After an error the runs are as they were.
+    pub(crate) fn try_learn_both<L>(
+        &mut self,
+        alloc: Global,
+        batch: &Batch,
+        second: &Batch,
+        steps: &mut Steps<L>,
+    ) -> Result<Learned, RunError>
+        requires fresh { batch_at batch.now.key (all_of self.old) ≡ None }
+        requires fits { IsOk (inserted batch.now.run (batches_of (run_at batch.now.run self.old)) batch.now) }
+        requires second_fresh { batch_at second.now.key (all_of self.old) ≡ None }
+        requires other_key { key_eq second.now.key batch.now.key ≡ false }
+        requires second_run { run_at second.now.run self.old ≡ None }
+        requires other_run { same_run second.now.run batch.now.run ≡ false }
+        requires first { second.now.parent ≡ None }
+        requires faultless { fault_of batch.now ≡ None }
+        requires second_faultless { fault_of second.now ≡ None }
+        requires ids { All (λ event. event.id ≤ 10 ^ 12) batch.now.events }
+        requires second_ids { All (λ event. event.id ≤ 10 ^ 12) second.now.events }
+        ensures answer { Gives Memory (λ done. done) result (both_joined (batches_of (run_at batch.now.run self.old)) batch.now second.now) }
         ensures ok { OnOk result (self.new ≡ with_batch batch.now (with_batch second.now self.old)) }
         ensures err { OnErr result (self.new ≡ self.old) }
         ensures extend_steps { OnOk result (batch.now.parent ≡ current_key batch.now.run (batches_of (run_at batch.now.run self.old)) → steps.new ≡ counted (counted steps.old (length second.now.events)) (length batch.now.events)) }
@@ -253,20 +336,21 @@ fn batches_at<'r>(
     Ok(list)
 }
 
-/// Takes in a batch whose key is new. For want of memory all is as it was.
+/// Takes in a batch whose key is new, and that the tree of its run takes. After an error all is as it was.
 fn take_in<L>(
     runs: &mut RunMap,
     places: &mut Option<Places>,
     alloc: Global,
     batch: &Batch,
     steps: &mut Steps<L>,
-) -> Result<(), OutOfMemory>
+) -> Result<Learned, RunError>
     requires indexed { AreIndexed runs.old places.old }
     requires fresh { batch_at batch.now.key (all_of runs.old) ≡ None }
-    requires fits { IsOk (learned batch.now.run (batches_of (run_at batch.now.run runs.old)) batch.now) }
+    requires fits { IsOk (inserted batch.now.run (batches_of (run_at batch.now.run runs.old)) batch.now) }
     requires faultless { fault_of batch.now ≡ None }
     requires ids { All (λ event. event.id ≤ 10 ^ 12) batch.now.events }
     ensures indexed { AreIndexed runs.new places.new }
+    ensures answer { Gives Memory (λ done. done) result (learned batch.now.run (batches_of (run_at batch.now.run runs.old)) batch.now) }
     ensures ok { OnOk result (runs.new ≡ with_batch batch.now runs.old) }
     ensures err { OnErr result (runs.new ≡ runs.old) }
     ensures extend_steps { OnOk result (batch.now.parent ≡ current_key batch.now.run (batches_of (run_at batch.now.run runs.old)) → steps.new ≡ counted steps.old (length batch.now.events)) }
@@ -274,7 +358,7 @@ fn take_in<L>(
 {
     enter(places, alloc, runs, batch)?;
     match runs.learn(alloc, batch, steps) {
-        Ok(()) => Ok(()),
+        Ok(learned) => Ok(learned),
         Err(error) => {
             leave(places, batch.key);
             Err(error)
@@ -282,7 +366,8 @@ fn take_in<L>(
     }
 }
 
-/// Takes in two batches whose keys are new, of which the second begins a run; or, for want of memory, neither.
+/// Takes in two batches whose keys are new, of which the second begins a run, and the tree of its run takes the first; or
+/// neither. After an error all is as it was.
 fn take_both<L>(
     runs: &mut RunMap,
     places: &mut Option<Places>,
@@ -290,12 +375,11 @@ fn take_both<L>(
     batch: &Batch,
     second: &Batch,
     steps: &mut Steps<L>,
-) -> Result<(), OutOfMemory>
+) -> Result<Learned, RunError>
     requires indexed { AreIndexed runs.old places.old }
     requires fresh { batch_at batch.now.key (all_of runs.old) ≡ None }
-    requires fits { IsOk (learned batch.now.run (batches_of (run_at batch.now.run runs.old)) batch.now) }
+    requires fits { IsOk (inserted batch.now.run (batches_of (run_at batch.now.run runs.old)) batch.now) }
     requires second_fresh { batch_at second.now.key (all_of runs.old) ≡ None }
-    requires second_fits { IsOk (learned second.now.run [] second.now) }
     requires other_key { key_eq second.now.key batch.now.key ≡ false }
     requires second_run { run_at second.now.run runs.old ≡ None }
     requires other_run { same_run second.now.run batch.now.run ≡ false }
@@ -305,17 +389,18 @@ fn take_both<L>(
     requires ids { All (λ event. event.id ≤ 10 ^ 12) batch.now.events }
     requires second_ids { All (λ event. event.id ≤ 10 ^ 12) second.now.events }
     ensures indexed { AreIndexed runs.new places.new }
+    ensures answer { Gives Memory (λ done. done) result (both_joined (batches_of (run_at batch.now.run runs.old)) batch.now second.now) }
     ensures ok { OnOk result (runs.new ≡ with_batch batch.now (with_batch second.now runs.old)) }
     ensures err { OnErr result (runs.new ≡ runs.old) }
     ensures extend_steps { OnOk result (batch.now.parent ≡ current_key batch.now.run (batches_of (run_at batch.now.run runs.old)) → steps.new ≡ counted (counted steps.old (length second.now.events)) (length batch.now.events)) }
     ensures most_steps { CountsWithin steps.old (length second.now.events + (length batch.now.events + 511)) steps.new }
 {
     match take_in(runs, places, alloc, second, steps) {
-        Ok(()) => {}
+        Ok(_) => {}
         Err(error) => return Err(error),
     }
     match take_in(runs, places, alloc, batch, steps) {
-        Ok(()) => Ok(()),
+        Ok(learned) => Ok(learned),
         Err(error) => {
             runs.take(second.run);
             leave(places, second.key);

@@ -1,6 +1,7 @@
 //! All that a cell has learned of one workflow: its runs, with their states.
 #![tactic(auto)]
 
+mod copies;
 mod index;
 mod kept;
 pub mod laws;

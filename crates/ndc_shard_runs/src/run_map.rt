@@ -3,16 +3,18 @@ ghost use Rattle.ndc_event.specs.Batch.{fault_of};
 ghost use Rattle.ndc_shard_runs.specs.RunMap.{AreInOrder, grown};
 ghost use Rattle.ndc_shard_runs.specs.Standing.{IsAt, IsGap};
 ghost use Rattle.ndc_run.specs.Learning.{learned};
-ghost use Rattle.ndc_model_sets.specs.Sets.{batch_at};
+ghost use Rattle.ndc_run.specs.declared.answer.RunError.TheVariants.{Memory};
+ghost use Rattle.ndc_event.specs.Outcome.{Gives};
 ghost use Rattle.ndc_state.specs.Counted.{counted};
 ghost use Rattle.ndc_state.specs.Replay.{CountsWithin};
 ghost use Rattle.ndc_model_sets.specs.Reading.{current_key};
+ghost use Rattle.ndc_tree.specs.Inserting.{inserted};
 
-use ndc_event::{Batch, OutOfMemory, RunId};
-use ndc_run::{Run, RunError};
+use ndc_event::{Batch, RunId};
+use ndc_run::{Learned, Run, RunError};
 use ndc_state::Steps;
 use ndc_tree::sorted::put;
-use std::alloc::{AllocError, Global};
+use std::alloc::Global;
 use std::marker::Model;
 
 /// The runs by their ids. Seen as their list, ascending.
@@ -42,9 +44,11 @@ impl RunMap {
     ghost use Rattle.std.specs.Prelude.{◌≡◌, ◌+◌, ◌≤◌, ◌^◌, [], All, IsOk, length, slice_get, None, OnOk, OnErr};
     ghost use Rattle.std.specs.Option.{option_copied};
     ghost use Rattle.ndc_event.specs.Batch.{fault_of};
+    ghost use Rattle.ndc_event.specs.Outcome.{Gives};
     ghost use Rattle.ndc_run.specs.Learning.{learned};
+    ghost use Rattle.ndc_run.specs.declared.answer.RunError.TheVariants.{Memory};
     ghost use Rattle.ndc_shard_runs.specs.RunMap.{AreInOrder, batches_of, run_at, with_batch, without_run};
-    ghost use Rattle.ndc_model_sets.specs.Sets.{batch_at};
+    ghost use Rattle.ndc_tree.specs.Inserting.{inserted};
     ghost use Rattle.ndc_state.specs.Counted.{counted};
     ghost use Rattle.ndc_state.specs.Replay.{CountsWithin};
     ghost use Rattle.ndc_model_sets.specs.Reading.{current_key};
@@ -83,17 +87,18 @@ impl RunMap {
         }
     }
 
-    /// Takes in a batch whose key is new in its run, and that its run takes. For want of memory the runs are as they were.
+    /// Takes in a batch that the tree of its run takes. Refused with [`RunError::Invalid`] for the first event that is
+    /// forbidden on its path, with its first rule. After an error the runs are as they were.
     pub(crate) fn learn<L>(
         &mut self,
         alloc: Global,
         batch: &Batch,
         steps: &mut Steps<L>,
-    ) -> Result<(), OutOfMemory>
-        requires fresh { batch_at batch.now.key (batches_of (run_at batch.now.run self.old)) ≡ None }
-        requires fits { IsOk (learned batch.now.run (batches_of (run_at batch.now.run self.old)) batch.now) }
+    ) -> Result<Learned, RunError>
+        requires fits { IsOk (inserted batch.now.run (batches_of (run_at batch.now.run self.old)) batch.now) }
         requires faultless { fault_of batch.now ≡ None }
         requires ids { All (λ event. event.id ≤ 10 ^ 12) batch.now.events }
+        ensures answer { Gives Memory (λ done. done) result (learned batch.now.run (batches_of (run_at batch.now.run self.old)) batch.now) }
         ensures ok { OnOk result (self.new ≡ with_batch batch.now self.old) }
         ensures err { OnErr result (self.new ≡ self.old) }
         ensures extend_steps { OnOk result (batch.now.parent ≡ current_key batch.now.run (batches_of (run_at batch.now.run self.old)) → steps.new ≡ counted steps.old (length batch.now.events)) }
@@ -103,8 +108,9 @@ impl RunMap {
             Ok(place) => grow(&mut self.runs[place], alloc, batch, steps),
             Err(place) => {
                 let mut run = Run::new(alloc, batch.run);
-                grow(&mut run, alloc, batch, steps)?;
-                put(&mut self.runs, place, run)
+                let learned = grow(&mut run, alloc, batch, steps)?;
+                put(&mut self.runs, place, run)?;
+                Ok(learned)
             }
         }
     }
@@ -128,25 +134,21 @@ fn place_of(runs: &[Run], run: RunId) -> Result<usize, usize>
     runs.binary_search_by(|one| one.tree().run().value.cmp(&run.value))
 }
 
-/// Takes in a batch whose key is new and that the run takes. For want of memory the run is as it was.
+/// Takes in a batch that the run's tree takes. After an error the run is as it was.
 fn grow<L>(
     run: &mut Run,
     alloc: Global,
     batch: &Batch,
     steps: &mut Steps<L>,
-) -> Result<(), OutOfMemory>
-    requires fresh { batch_at batch.now.key run.old.batches ≡ None }
-    requires fits { IsOk (learned run.old.run run.old.batches batch.now) }
+) -> Result<Learned, RunError>
+    requires fits { IsOk (inserted run.old.run run.old.batches batch.now) }
     requires faultless { fault_of batch.now ≡ None }
     requires ids { All (λ event. event.id ≤ 10 ^ 12) batch.now.events }
+    ensures answer { Gives Memory (λ done. done) result (learned run.old.run run.old.batches batch.now) }
     ensures ok { OnOk result (run.new ≡ grown batch.now run.old) }
     ensures err { OnErr result (run.new ≡ run.old) }
     ensures extend_steps { OnOk result (batch.now.parent ≡ current_key run.old.run run.old.batches → steps.new ≡ counted steps.old (length batch.now.events)) }
     ensures most_steps { CountsWithin steps.old (length batch.now.events + 511) steps.new }
 {
-    match run.join(alloc, batch, steps) {
-        Ok(_) => Ok(()),
-        Err(RunError::Memory) => Err(AllocError),
-        Err(_) => unreachable!(),
-    }
+    run.join(alloc, batch, steps)
 }

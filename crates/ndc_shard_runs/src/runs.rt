@@ -7,10 +7,10 @@ ghost use Rattle.ndc_shard_runs.specs.RunMap.{run_at};
 
 use crate::index::RunIndex;
 use crate::kept::{Kept, has_no_signal};
-use ndc_event::{Batch, BatchKey, OutOfMemory, RunId};
+use ndc_event::{Batch, BatchKey, Event, Origin, OutOfMemory, RunId};
 use ndc_model_sets::is_key;
 use ndc_reapply::Stray;
-use ndc_run::Run;
+use ndc_run::{Learned, Run, RunError};
 use ndc_state::{State, Steps};
 use std::alloc::Global;
 use std::marker::Model;
@@ -51,6 +51,12 @@ impl Runs {
     ghost use Rattle.std.specs.Option.{option_copied, option_map};
     ghost use Rattle.ndc_model_cells.specs.Writing.{greatest_task, greatest_version, state_under};
     ghost use Rattle.ndc_shard_runs.specs.Kept.{follows, is_ahead, is_due, is_empty, is_idle, is_open, lies_beside, StaysSettled};
+    ghost use Rattle.ndc_event.specs.Outcome.{Gives};
+    ghost use Rattle.ndc_model_sets.specs.Writing.{CopiesFitWith};
+    ghost use Rattle.ndc_run.specs.Learning.{learned};
+    ghost use Rattle.ndc_run.specs.declared.answer.RunError.TheVariants.{Memory};
+    ghost use Rattle.ndc_shard_runs.specs.Fitting.{ComesNext, IsCarrierFit, both_learned};
+    ghost use Rattle.ndc_shard_runs.specs.Copies.{event_of};
     ghost use Rattle.ndc_shard_runs.specs.RunMap.{part_of, run_in};
     ghost use Rattle.std.specs.List.{AllByRecursion};
     ghost use Rattle.ndc_model_sets.specs.Branches.{runs, workflow_tip};
@@ -100,6 +106,44 @@ impl Runs {
         self.strays.pass(batch, beside, follows);
         Ok(())
     }
+    /// Learns a batch that comes next and whose copies and carrier fit, where its run takes it. Refused with
+    /// [`RunError::MissingParent`] where its parent is of another run, with [`RunError::NotWellFormed`] where its first id is
+    /// not one past the parent's last, or a batch of its version is no ancestor, and then with [`RunError::Invalid`] for the
+    /// first event that is forbidden on its path, with its first rule. After an error all is as it was. A batch that goes on
+    /// from the current branch of its run takes a step for each of its events, any other at most 511 more; one that is
+    /// refused before its events are looked at takes none.
+    pub fn try_learn<L>(
+        &mut self,
+        alloc: Global,
+        batch: &Batch,
+        steps: &mut Steps<L>,
+    ) -> Result<Learned, RunError>
+        requires next { ComesNext self.old batch.now }
+        requires copies { CopiesFitWith self.old batch.now }
+        requires carrier { IsCarrierFit self.old batch.now }
+        requires ids { All (λ event. event.id ≤ 10 ^ 12) batch.now.events }
+        ensures answer { Gives Memory (λ done. done) result (learned batch.now.run (part_of batch.now.run self.old) batch.now) }
+        ensures ok { OnOk result (self.new ≡ arrived batch.now self.old) }
+        ensures err { OnErr result (self.new ≡ self.old) }
+        ensures extend_steps { OnOk result (batch.now.parent ≡ current_key batch.now.run self.old → steps.new ≡ counted steps.old (length batch.now.events)) }
+        ensures most_steps { CountsWithin steps.old (length batch.now.events + 511) steps.new }
+    {
+        let follows = self.follows(batch);
+        let beside = self.lies_beside(batch);
+        let greatest = greater(self.greatest_task, batch.key.task);
+        match self.runs.judge(batch) {
+            Ok(_) => {}
+            Err(error) => return Err(RunError::from(error)),
+        }
+        match self.runs.try_learn(alloc, batch, steps) {
+            Ok(learned) => {
+                self.greatest_task = greatest;
+                self.strays.pass(batch, beside, follows);
+                Ok(learned)
+            }
+            Err(error) => Err(error),
+        }
+    }
 
     /// Learns two batches, or, for want of memory, neither: all is as it was. Their keys are new, the set is sound with
     /// the first, and with both; the second begins a run of which no batch is there. Where the first goes on from the
@@ -139,11 +183,70 @@ impl Runs {
         Ok(())
     }
 
+    /// Learns two batches, of which each comes next once those before it are learned, and whose copies and carriers fit,
+    /// where their runs take them; or neither. The second begins a run of which no batch is there. Refused as by
+    /// [`Runs::try_learn`]: what the tree of its run says of the first comes first, then the events of the second, then those
+    /// of the first. After an error all is as it was. Where the first goes on from the current branch of its run, a step is
+    /// taken for each of the events of both, else at most 511 more.
+    pub fn try_learn_both<L>(
+        &mut self,
+        alloc: Global,
+        batch: &Batch,
+        second: &Batch,
+        steps: &mut Steps<L>,
+    ) -> Result<Learned, RunError>
+        requires next { ComesNext self.old batch.now }
+        requires copies { CopiesFitWith self.old batch.now }
+        requires carrier { IsCarrierFit self.old batch.now }
+        requires second_next { ComesNext (arrived batch.now self.old) second.now }
+        requires second_copies { CopiesFitWith (arrived batch.now self.old) second.now }
+        requires second_carrier { IsCarrierFit (arrived batch.now self.old) second.now }
+        requires first { second.now.parent ≡ None }
+        requires begins { part_of second.now.run (arrived batch.now self.old) ≡ [] }
+        requires ids { All (λ event. event.id ≤ 10 ^ 12) batch.now.events }
+        requires second_ids { All (λ event. event.id ≤ 10 ^ 12) second.now.events }
+        ensures answer { Gives Memory (λ done. done) result (both_learned (part_of batch.now.run self.old) batch.now second.now) }
+        ensures ok { OnOk result (self.new ≡ arrived second.now (arrived batch.now self.old)) }
+        ensures err { OnErr result (self.new ≡ self.old) }
+        ensures extend_steps { OnOk result (batch.now.parent ≡ current_key batch.now.run self.old → steps.new ≡ counted (counted steps.old (length second.now.events)) (length batch.now.events)) }
+        ensures most_steps { CountsWithin steps.old (length second.now.events + (length batch.now.events + 511)) steps.new }
+    {
+        let follows = self.follows(batch);
+        let beside = self.lies_beside(batch);
+        let before = greater(self.greatest_task, second.key.task);
+        let greatest = greater(before, batch.key.task);
+        match self.runs.judge(batch) {
+            Ok(_) => {}
+            Err(error) => return Err(RunError::from(error)),
+        }
+        match self.runs.try_learn_both(alloc, batch, second, steps) {
+            Ok(learned) => {
+                self.greatest_task = greatest;
+                self.strays.pass(batch, beside, follows);
+                let both_follow = is_left(&self.runs, batch, follows, second.key);
+                self.strays.pass(second, false, both_follow);
+                Ok(learned)
+            }
+            Err(error) => Err(error),
+        }
+    }
+
     /// The learned batch of this key.
     pub fn get(&self, key: BatchKey) -> Option<&Batch>
         ensures { option_copied result ≡ batch_at key self.now }
     {
         self.runs.batch(key)
+    }
+
+    /// The event that the origin names; none exactly where no learned batch of its run has it. In time of the logarithm of
+    /// the runs and of the run's batches, without memory.
+    ///
+    /// That an event of a learned batch is the one that its origin finds is `laws::an_origin_names_one_event`.
+    pub fn event_of(&self, origin: &Origin) -> Option<&Event>
+        ensures { option_copied result ≡ event_of origin.now self.now }
+    {
+        let run = self.runs.get(origin.run)?;
+        run.tree().event(origin.version, origin.event)
     }
 
     /// Whether the batch of this key is learned.
@@ -335,7 +438,7 @@ impl Runs {
     }
 
     /// The greatest key.
-    fn last_key(&self) -> Option<BatchKey>
+    pub(crate) fn last_key(&self) -> Option<BatchKey>
         ensures key { result ≡ option_map (λ b. b.key) (last_batch self.now) }
         ensures sound { IsSound self.now }
     {

@@ -11,3 +11,6 @@ pub mod LastLemmas
 pub mod VersionLemmas
 pub mod ReadingLemmas
 pub mod LastPlace
+pub mod IdLemmas
+pub mod EventPlaces
+pub mod RiseLemmas

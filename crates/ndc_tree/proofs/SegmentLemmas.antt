@@ -22,13 +22,13 @@ use Rattle.ndc_event.specs.Sorted.{Hits, Parts}
 use Rattle.ndc_event.proofs.SortedLemmas.{searched, hits, all_follow, all-insert, order-insert}
 use Rattle.ndc_model_sets.proofs.EventLemmas.{before-suc}
 
-cmp-less : (a b : ℕ) → nat_cmp a b ≡ Less → a < b
+pub cmp-less : (a b : ℕ) → nat_cmp a b ≡ Less → a < b
 cmp-less a b = grind (arith, nat_tests)
 
-cmp-greater : (a b : ℕ) → nat_cmp a b ≡ Greater → b < a
+pub cmp-greater : (a b : ℕ) → nat_cmp a b ≡ Greater → b < a
 cmp-greater a b = grind (arith, nat_tests)
 
-cmp-equal : (a b : ℕ) → nat_cmp a b ≡ Equal → a ≡ b
+pub cmp-equal : (a b : ℕ) → nat_cmp a b ≡ Equal → a ≡ b
 cmp-equal a b = grind (arith, nat_tests)
 
 less-cmp : (a b : ℕ) → a < b → nat_cmp a b ≡ Less

@@ -7,3 +7,4 @@ pub mod Places
 pub mod Segments
 pub mod TreeFields
 pub mod Noted
+pub mod Events

@@ -5,7 +5,7 @@ ghost use Rattle.ndc_tree.specs.Segments.{AreSegments, against, flat};
 
 use crate::chain::Chain;
 use crate::sorted::put;
-use ndc_event::{Batch, BatchKey, OutOfMemory};
+use ndc_event::{Batch, BatchKey, Event, OutOfMemory};
 use std::alloc::Global;
 use std::marker::Model;
 
@@ -75,6 +75,7 @@ impl Batches {
     ghost use Rattle.std.specs.Option.{option_copied};
     ghost use Rattle.ndc_model_sets.specs.Sets.{batch_at, arrived};
     ghost use Rattle.ndc_model_sets.specs.Last.{first_from, last_batch, is_nil};
+    ghost use Rattle.ndc_tree.specs.Events.{AreVersionsInIdOrder, event_at};
 
     /// There is no batch.
     pub(crate) fn new(alloc: Global) -> Batches
@@ -152,6 +153,17 @@ impl Batches {
                 None => first_at(segments, place + 1),
             },
             Err(place) => first_at(segments, place),
+        }
+    }
+
+    /// The event of this version and id in one of the batches.
+    pub(crate) fn event(&self, version: u64, id: u64) -> Option<&Event>
+        requires { AreVersionsInIdOrder self.now }
+        ensures { option_copied result ≡ event_at version id self.now }
+    {
+        match place_of(self.segments.as_slice(), version, self.last_place()) {
+            Ok(place) => self.segments[place].chain.event(id),
+            Err(_) => None,
         }
     }
 

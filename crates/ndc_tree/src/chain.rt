@@ -1,10 +1,14 @@
-ghost use Rattle.std.specs.Prelude.{◌≡◌, IfOk, IfErr};
-ghost use Rattle.ndc_event.specs.Sorted.{InOrder};
+ghost use Rattle.std.specs.Prelude.{◌≡◌, ◌<◌, length, IfOk, IfErr};
+ghost use Rattle.ndc_event.specs.Sorted.{Hits, InOrder, Parts};
+ghost use Rattle.ndc_tree.specs.Events.{IdsGoOn, against_id};
 ghost use Rattle.ndc_tree.specs.Places.{comes_before, IsAt, IsGap};
 
+use crate::ids::event_in;
 use crate::sorted::put;
-use ndc_event::{Batch, BatchKey, OutOfMemory};
+use ndc_event::{Batch, BatchKey, Event, OutOfMemory};
+use ndc_model_sets::{first_id, last_id};
 use std::alloc::Global;
+use std::cmp::Ordering;
 use std::marker::Model;
 
 /// Batches that are found by key. Seen as their list in key order.
@@ -57,8 +61,34 @@ fn place_of(batches: &[Batch], key: BatchKey) -> Result<usize, usize>
     search(batches, key)
 }
 
+/// How the ids of the batch's events stand to this one: all come before it, all behind it, or it is one of them.
+fn against_id(batch: &Batch, id: u64) -> Ordering
+    ensures { result ≡ against_id id batch.now }
+{
+    let events = batch.events.as_slice();
+    if last_id(events) < id {
+        return Ordering::Less;
+    }
+    if id < first_id(events) {
+        return Ordering::Greater;
+    }
+    Ordering::Equal
+}
+
+/// Where the batch with the event of this id stands, or where it would go.
+fn search_id(batches: &[Batch], id: u64) -> Result<usize, usize>
+    requires { InOrder IdsGoOn batches.now }
+    ensures found { IfOk result (Hits (against_id id) batches.now) }
+    ensures in_range { IfOk result (λ place. place < length batches.now) }
+    ensures absent { IfErr result (Parts (against_id id) batches.now) }
+{
+    batches.binary_search_by(|batch| against_id(batch, id))
+}
+
 impl Chain {
     ghost use Rattle.std.specs.Prelude.{◌≡◌, [], ◌∷◌, IfOk, OnOk, OnErr, slice_get};
+    ghost use Rattle.ndc_state.specs.Replay.{history_of};
+    ghost use Rattle.ndc_tree.specs.Events.{AreInIdOrder, event_of};
     ghost use Rattle.std.specs.Option.{option_copied};
     ghost use Rattle.ndc_model_sets.specs.Sets.{batch_at, arrived};
     ghost use Rattle.ndc_model_sets.specs.Last.{first_from, last_batch};
@@ -116,6 +146,18 @@ impl Chain {
         ensures { option_copied result ≡ last_batch self.now }
     {
         self.batches.last()
+    }
+
+    /// The event of this id in one of the batches.
+    pub(crate) fn event(&self, id: u64) -> Option<&Event>
+        requires { AreInIdOrder self.now }
+        ensures { option_copied result ≡ event_of id (history_of self.now) }
+    {
+        let batches = self.batches.as_slice();
+        match search_id(batches, id) {
+            Ok(place) => event_in(batches[place].events.as_slice(), id),
+            Err(_) => None,
+        }
     }
 
     /// Puts the batch to its place, where none of its key is there.

@@ -1,5 +1,6 @@
 //! Laws of trees. The functions do nothing: what each ensures is the law.
 ghost use Rattle.std.specs.Prelude.{◌≡◌, ◌↔◌, true, List, [], ◌∷◌, ◌++◌, Some, Err};
+ghost use Rattle.std.specs.List.{AllByRecursion};
 ghost use Rattle.ndc_event.specs.Batch.{fault_of};
 ghost use Rattle.ndc_event.specs.declared.batch.Batch.{Batch};
 ghost use Rattle.ndc_event.specs.declared.key.BatchKey.{BatchKey};
@@ -10,6 +11,7 @@ ghost use Rattle.ndc_model_sets.specs.Paths.{IsPath, path_to};
 ghost use Rattle.ndc_model_sets.specs.Sets.{Has, arrived};
 ghost use Rattle.ndc_model_sets.specs.Sound.{VersionsAreChains};
 ghost use Rattle.ndc_tree.specs.declared.answer.TreeError.TheVariants.{NotWellFormed};
+ghost use Rattle.ndc_tree.specs.Events.{event_at};
 ghost use Rattle.ndc_tree.specs.Fitting.{splits_version};
 ghost use Rattle.ndc_tree.specs.Inserting.{inserted};
 ghost use Rattle.ndc_tree.specs.Refused.{SplitsVersion, DoesNotFit};
@@ -35,6 +37,12 @@ pub fn paths_of_a_part_are_those_of_the_whole()
 /// Of two batches of one version in a tree, the one with the smaller task is an ancestor of the other.
 pub fn batches_of_one_version_are_a_chain()
     ensures { (run : Run) (batches : List Batch) → IsTree run batches → VersionsAreChains batches }
+{}
+
+/// In a tree ids rise along the batches of each version, so each event is the one that is found by its version and id.
+pub fn an_event_is_found_by_its_version_and_id()
+    ensures { (run : Run) (batches : List Batch) (b : Batch) → IsTree run batches → Has batches b
+        → AllByRecursion (λ event. event_at event.version event.id batches ≡ Some event) b.events }
 {}
 
 /// The current branch of a tree ends with the greatest of its batches.

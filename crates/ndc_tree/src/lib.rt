@@ -4,10 +4,12 @@
 mod answer;
 mod batches;
 mod chain;
+mod ids;
 pub mod laws;
 pub mod sorted;
 mod tips;
 mod tree;
 
 pub use answer::{Inserted, TreeError};
+pub use ids::event_in;
 pub use tree::Tree;

@@ -8,7 +8,7 @@ ghost use Rattle.ndc_tree.specs.Inserting.{end_of};
 use crate::answer::{Inserted, TreeError};
 use crate::batches::Batches;
 use crate::tips::Tips;
-use ndc_event::{Batch, BatchKey, OutOfMemory, RunId};
+use ndc_event::{Batch, BatchKey, Event, OutOfMemory, RunId};
 use ndc_history::{Item, VersionHistory};
 use ndc_model_sets::{first_id, is_key, last_id};
 use std::alloc::Global;
@@ -73,6 +73,7 @@ impl Tree {
     ghost use Rattle.ndc_model_sets.specs.Paths.{path_to};
     ghost use Rattle.ndc_history.specs.History.{rises};
     ghost use Rattle.ndc_tree.specs.Inserting.{end_of};
+    ghost use Rattle.ndc_tree.specs.Events.{event_at};
     ghost use Rattle.ndc_tree.specs.Noted.{IsNoted};
     ghost use Rattle.ndc_model_sets.specs.Reading.{current_key, path_at, path_keys, history_at, elder_of, items_of, named};
 
@@ -102,6 +103,16 @@ impl Tree {
         ensures { option_copied result ≡ batch_at key self.now.batches }
     {
         self.batches.get(key)
+    }
+
+    /// The event of this version and id in one of the batches; none exactly where no batch has one. In time of the
+    /// logarithm of the versions and of the batches, without memory.
+    ///
+    /// That there is at most one is `laws::an_event_is_found_by_its_version_and_id`.
+    pub fn event(&self, version: u64, id: u64) -> Option<&Event>
+        ensures { option_copied result ≡ event_at version id self.now.batches }
+    {
+        self.batches.event(version, id)
     }
 
     /// The batches, in key order. In time of their number.

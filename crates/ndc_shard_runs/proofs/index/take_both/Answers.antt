@@ -1,6 +1,9 @@
-use Rattle.std.proofs.Common.{IsOk, subst, List, ◌+◌, ◌∙◌, ap, sym, length, arith}
+use Rattle.std.proofs.Common.{IsOk, subst, List, [], ◌+◌, ◌∙◌, ap, sym, length, arith}
 use Rattle.ndc_event.specs.declared.batch.Batch.{Batch}
+use Rattle.ndc_event.specs.Outcome.{◌>>=◌}
 use Rattle.ndc_run.specs.Learning.{learned}
+use Rattle.ndc_tree.specs.Inserting.{inserted}
+use Rattle.ndc_tree.specs.declared.answer.Inserted.TheVariants.{Extended}
 use Rattle.ndc_model_sets.specs.Sets.{batch_at}
 use Rattle.ndc_state.specs.Counted.{counted}
 use Rattle.ndc_model_sets.specs.Reading.{current_key}
@@ -11,6 +14,7 @@ use Rattle.ndc_shard_runs.specs.RunMap.{all_of, batches_of, run_at, without_run}
 use Rattle.ndc_shard_runs.proofs.AllLemmas.{all-with, at-other, without-begun}
 use Rattle.ndc_shard_runs.proofs.ArrivedLemmas.{none-after}
 use Rattle.ndc_shard_runs.proofs.IndexLemmas.{indexed-left}
+use Rattle.ndc_shard_runs.proofs.JudgeLemmas.{is-ok, judged-first}
 use Rattle.ndc_shard_runs.proofs.index.take_both.Goals as goal
 
 pub take_in-requires-2-clause-fresh : goal.take_in-requires-2-clause-fresh
@@ -56,8 +60,38 @@ returns-in-Err-take_in-clause-most_steps g c =
     counts-both c.args.steps.now c.take_in.new.steps c.take_in-2.new.steps (length second.events) (length c.args.batch.now.events + 511)
     (length second.events + (length c.args.batch.now.events + 511)) (omega arith) (length second.events, omega arith, exact) c.in-Err-take_in.ensures.most_steps
 
+pub take_in-requires-clause-fits : goal.take_in-requires-clause-fits
+take_in-requires-clause-fits g c =
+    let second = c.args.second.now in
+    subst (λ o. IsOk (inserted second.run (batches_of o) second)) (sym c.requires.second_run) (is-ok (inserted second.run [] second) (Extended second.key) (judged-first second c.requires.first))
+
 pub take_in-requires-2-clause-fits : goal.take_in-requires-2-clause-fits
 take_in-requires-2-clause-fits g c =
     let b = c.args.batch.now in
-    subst (λ (l : List Batch). IsOk (learned b.run l b))
+    subst (λ (l : List Batch). IsOk (inserted b.run l b))
     (sym (ap (λ (l : List TreeValue). batches_of (run_at b.run l)) c.in-Ok.ensures.ok ∙ at-other c.args.second.now c.args.runs.now b.run c.requires.other_run)) c.requires.fits
+
+pub returns-in-Ok-take_in-clause-answer : goal.returns-in-Ok-take_in-clause-answer
+returns-in-Ok-take_in-clause-answer g c =
+    let b = c.args.batch.now in
+    let second = c.args.second.now in
+    let two = learned b.run (batches_of (run_at b.run c.args.runs.now)) b in
+    let same = ap (λ (l : List TreeValue). batches_of (run_at b.run l)) c.in-Ok.ensures.ok ∙ at-other second c.args.runs.now b.run c.requires.other_run in
+    ap (λ r. r >>= (λ begun. two)) (ap (λ o. learned second.run (batches_of o) second) (sym c.requires.second_run) ∙ c.in-Ok.ensures.answer)
+    ∙ ap (λ (l : List Batch). learned b.run l b) (sym same) ∙ c.in-Ok-take_in.ensures.answer
+
+pub returns-in-Err-take_in-clause-answer : goal.returns-in-Err-take_in-clause-answer
+returns-in-Err-take_in-clause-answer g c = λ other.
+    let b = c.args.batch.now in
+    let second = c.args.second.now in
+    let two = learned b.run (batches_of (run_at b.run c.args.runs.now)) b in
+    let same = ap (λ (l : List TreeValue). batches_of (run_at b.run l)) c.in-Ok.ensures.ok ∙ at-other second c.args.runs.now b.run c.requires.other_run in
+    ap (λ r. r >>= (λ begun. two)) (ap (λ o. learned second.run (batches_of o) second) (sym c.requires.second_run) ∙ c.in-Ok.ensures.answer)
+    ∙ ap (λ (l : List Batch). learned b.run l b) (sym same) ∙ c.in-Err-take_in.ensures.answer other
+
+pub returns-in-Err-clause-answer : goal.returns-in-Err-clause-answer
+returns-in-Err-clause-answer g c = λ other.
+    let b = c.args.batch.now in
+    let second = c.args.second.now in
+    let two = learned b.run (batches_of (run_at b.run c.args.runs.now)) b in
+    ap (λ r. r >>= (λ begun. two)) (ap (λ o. learned second.run (batches_of o) second) (sym c.requires.second_run) ∙ c.in-Err.ensures.answer other)

@@ -1,11 +1,8 @@
 use Rattle.std.proofs.Common.{List, sym, subst}
 use Rattle.ndc_tree.specs.Tree.{TreeValue}
 use Rattle.ndc_shard_runs.specs.Index.{AreIndexed}
-use Rattle.ndc_shard_runs.proofs.IndexLemmas.{indexed-left, none-in-run}
+use Rattle.ndc_shard_runs.proofs.IndexLemmas.{indexed-left}
 use Rattle.ndc_shard_runs.proofs.index.take_in.Goals as goal
-
-pub learn-requires-clause-fresh : goal.learn-requires-clause-fresh
-learn-requires-clause-fresh g c = none-in-run c.args.batch.now.key c.args.batch.now.run c.args.runs.now c.requires.fresh
 
 pub returns-in-Err-clause-indexed : goal.returns-in-Err-clause-indexed
 returns-in-Err-clause-indexed g c =

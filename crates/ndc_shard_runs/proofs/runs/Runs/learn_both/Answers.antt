@@ -10,8 +10,9 @@ use Rattle.ndc_event.specs.Key.{key_lt}
 use Rattle.ndc_model_sets.specs.Current.{current_state}
 use Rattle.ndc_tree.specs.Tree.{TreeValue}
 use Rattle.ndc_shard_runs.specs.Kept.{follows, is_open, lies_beside}
-use Rattle.ndc_shard_runs.specs.RunMap.{all_of, part_of, run_at}
+use Rattle.ndc_shard_runs.specs.RunMap.{all_of, batches_of, part_of, run_at}
 use Rattle.ndc_shard_runs.proofs.InsideLemmas.{second-none, second-apart, other-run, second-run, all-both, inside-both, known-both}
+use Rattle.ndc_shard_runs.proofs.JudgeLemmas.{both-fine}
 use Rattle.ndc_shard_runs.proofs.ReadLemmas.{new-faultless}
 use Rattle.ndc_shard_runs.proofs.PartLemmas.{part-key}
 use Rattle.ndc_shard_runs.proofs.runs.Runs.learn_both.Goals as goal
@@ -111,8 +112,8 @@ learn_both-requires-clause-fits g c =
     subst (λ (l : List Batch). IsOk (learned b.run l b)) (sym (c.self.invariant.parts b.run))
     (taken-small (all_of c.self.inside.runs) b c.self.invariant.sound sound none (omega (arith, most)) (omega (arith, most)))
 
-pub learn_both-requires-clause-second_fits : goal.learn_both-requires-clause-second_fits
-learn_both-requires-clause-second_fits g c =
+pub learn_both-requires-clause-fits_both : goal.learn_both-requires-clause-fits_both
+learn_both-requires-clause-fits_both g c =
     let b = c.args.batch.now in
     let second = c.args.second.now in
     let none = subst (λ (l : List Batch). batch_at b.key l ≡ None) (sym c.self.view_is) c.requires.fresh in
@@ -121,4 +122,6 @@ learn_both-requires-clause-second_fits g c =
     let sound = subst (λ (l : List Batch). IsSound (arrived b l)) (sym c.self.view_is) c.requires.sound in
     let both = subst (λ (l : List Batch). IsSound (arrived second (arrived b l))) (sym c.self.view_is) c.requires.sound_both in
     let most = subst (λ n. max (max n second.key.task) b.key.task < 2 ^ 64) c.self.invariant.task (subst (λ n. max n b.key.task < 2 ^ 64) c.greater-before.ensures.greater c.greater-greatest.ensures.small) in
-    taken-second (all_of c.self.inside.runs) b second sound both none fresh begins most
+    let runs = c.self.inside.runs in
+    both-fine (learned second.run [] second) (learned b.run (batches_of (run_at b.run runs)) b) (taken-second (all_of c.self.inside.runs) b second sound both none fresh begins most)
+    (learn_both-requires-clause-fits g c)
