@@ -1,5 +1,5 @@
 -- The words that the program is called with: in which form a dump is told, and the clusters whose names are to be told.
-use Rattle.std.specs.Prelude.{ℕ, ◌==◌, ◌&&◌, List, [], ◌∷◌, ◌++◌, codes, Option, Some, None, Result, Ok, Err, if◌then◌else◌}
+use Rattle.std.specs.Prelude.{ℕ, Bool, true, false, ◌==◌, ◌&&◌, List, [], ◌∷◌, ◌++◌, codes, Option, Some, None, Result, Ok, Err, if◌then◌else◌}
 use Rattle.std.specs.List.{slice_split}
 use Rattle.std.specs.Str.{bytes_eq}
 use Rattle.ndc_domain.specs.Clusters.{ClusterList, clusters_of}
@@ -68,11 +68,17 @@ named_by (one ∷ list ∷ two ∷ increment ∷ []) =
     if bytes_eq one (codes "--clusters") && bytes_eq two (codes "--increment") then clusters_on list increment else Err Refused
 named_by _ = Err Refused
 
--- this form, with the clusters that the words name
-unfoldable pub request_for : Form → List (List ℕ) → Result Request WordsError
-request_for form words = do
+-- this form, with all events or without those of decisions, and with the clusters that the words name
+unfoldable pub request_with : Form → Bool → List (List ℕ) → Result Request WordsError
+request_with form all words = do
   clusters ← named_by words
-  Ok (record { form = form; clusters = clusters })
+  Ok (record { form = form; all = all; clusters = clusters })
+
+-- this form: with all events where `--all` stands before the others
+abbrev pub request_for : Form → List (List ℕ) → Result Request WordsError
+request_for form [] = request_with form false []
+request_for form (word ∷ words) =
+    if bytes_eq word (codes "--all") then request_with form true words else request_with form false (word ∷ words)
 
 -- what the words ask for: a picture where `--picture` or `--picture=text` stands before the others, or else text
 abbrev pub asked_of : List (List ℕ) → Result Request WordsError

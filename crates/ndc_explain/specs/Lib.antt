@@ -1,6 +1,6 @@
 pub mod Pieces
 pub mod Writers
-pub mod GivenUp
+pub mod Losses
 pub mod Branches
 pub mod Standing
 pub mod Signals

@@ -140,7 +140,7 @@ pub record Drawn : Type 0 where
   pub keys : List BatchKey
 
 abbrev pub drawn : View → Drawn
-drawn view = record { blocks = blocks_of view.batches; layout = layout_of (blocks_of view.batches); keys = standing true view }
+drawn view = record { blocks = blocks_of view.batches; layout = layout_of (blocks_of view.batches); keys = standing view }
 
 -- the lines to a block at this place: from its parent's, from its carrier's, and from where its copied signals were written
 abbrev pub lines_to : Drawn → List Batch → Summary → Option Place → List ℕ

@@ -36,7 +36,7 @@ status_of fault.Memory = 8
 
 -- the line that tells of a fault
 abbrev pub fault_line : Fault → List ℕ
-fault_line fault.Words = codes "ndc_explain: words: [--picture|--picture=text] [--clusters NAME=INITIAL,.. --increment INCREMENT]\n"
+fault_line fault.Words = codes "ndc_explain: words: [--picture|--picture=text] [--all] [--clusters NAME=INITIAL,.. --increment INCREMENT]\n"
 fault_line (fault.DumpLine line cause) = dump_line (codes "ndc_explain") line cause
 fault_line (fault.DumpBatch key cause) = dump_batch_line (codes "ndc_explain") key cause
 fault_line fault.Read = codes "ndc_explain: read fault\n"

@@ -6,7 +6,7 @@ ghost use Rattle.ndc_domain.specs.Clusters.{clusters_of};
 ghost use Rattle.ndc_event.specs.Outcome.{Gives};
 ghost use Rattle.ndc_tool_words.specs.declared.error.WordsError.TheVariants.{Memory};
 ghost use Rattle.ndc_script_words.specs.Number.{number_of};
-ghost use Rattle.ndc_explain.specs.Asked.{asked_of, clusters_on, clusters_or, member_in, member_of, member_with, members_on, name_on, named_by, number_or, request_for};
+ghost use Rattle.ndc_explain.specs.Asked.{asked_of, clusters_on, clusters_or, member_in, member_of, member_with, members_on, name_on, named_by, number_or, request_for, request_with};
 
 use ndc_domain::Clusters;
 use ndc_event::{Name, NameError, OutOfMemory};
@@ -146,17 +146,44 @@ pub(crate) enum Form {
 #[derive(Drop)]
 pub(crate) struct Request {
     pub(crate) form: Form,
+    /// Whether the events of decisions are told as well.
+    pub(crate) all: bool,
     /// The clusters whose names are to be told.
     pub(crate) clusters: Option<Clusters>,
 }
 
-/// This form, with the clusters that the words name.
-#[tactic(auto, unfolding(crate::specs::Asked::request_for))]
+/// This form, with all events or without those of decisions, and with the clusters that the words name.
+#[tactic(auto, unfolding(crate::specs::Asked::request_with))]
+fn request_with(
+    alloc: Global,
+    form: Form,
+    all: bool,
+    words: &[String],
+) -> Result<Request, WordsError>
+    ensures { Gives Memory (λ request. request) result (request_with form all (map string_bytes words.now)) }
+{
+    let clusters = named_by(alloc, words)?;
+    Ok(Request {
+        form,
+        all,
+        clusters,
+    })
+}
+
+/// This form: with all events where `--all` stands before the others.
 fn request_for(alloc: Global, form: Form, words: &[String]) -> Result<Request, WordsError>
     ensures { Gives Memory (λ request. request) result (request_for form (map string_bytes words.now)) }
 {
-    let clusters = named_by(alloc, words)?;
-    Ok(Request { form, clusters })
+    match words {
+        [] => request_with(alloc, form, false, words),
+        [word, others @ ..] => {
+            if word.as_bytes() == b"--all".as_slice() {
+                request_with(alloc, form, true, others)
+            } else {
+                request_with(alloc, form, false, words)
+            }
+        }
+    }
 }
 
 /// What the words ask for: a picture where `--picture` or `--picture=text` stands before the others, or else text.

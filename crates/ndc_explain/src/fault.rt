@@ -70,7 +70,7 @@ impl Fault {
         match self {
             Fault::Words => write_all(
                 err,
-                b"ndc_explain: words: [--picture|--picture=text] [--clusters NAME=INITIAL,.. --increment INCREMENT]\n",
+                b"ndc_explain: words: [--picture|--picture=text] [--all] [--clusters NAME=INITIAL,.. --increment INCREMENT]\n",
             ),
             Fault::DumpLine { line, cause } => tell_line(err, b"ndc_explain", line, cause),
             Fault::DumpBatch { key, cause } => tell_batch(err, b"ndc_explain", key, cause),

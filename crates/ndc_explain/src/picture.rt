@@ -460,7 +460,7 @@ fn drawn<'v>(alloc: Global, view: &'v View) -> Result<Drawing<'v>, OutOfMemory>
 {
     let blocks = blocks_of(alloc, view.batches.as_slice())?;
     let layout = layout_of(alloc, blocks.as_slice())?;
-    let keys = standing(alloc, true, view)?;
+    let keys = standing(alloc, view)?;
     Ok(Drawing {
         blocks,
         layout,
