@@ -12,4 +12,5 @@ pub mod Picture
 pub mod Graph
 pub mod Asked
 pub mod Told
+pub mod Reading
 pub mod Top

@@ -50,7 +50,7 @@ unfoldable pub legend_text : List ℕ
 legend_text =
     concat (
     codes "<path class='current' d='M20 64H70'/><text x='80' y='68'>on a current branch</text>\n"
-    ∷ codes "<path class='lost' d='M20 88H70'/><text x='80' y='92'>on a branch that lost</text>\n"
+    ∷ codes "<path class='lost' d='M20 88H70'/><text x='80' y='92'>on a branch that lost, or in a zombie</text>\n"
     ∷ codes "<path class='carrier' d='M20 112H70'/><text x='80' y='116'>a run continues as the next</text>\n"
     ∷ codes "<path class='copy' marker-end='url(#arrow)' d='M20 136H70'/><text x='80' y='140'>a signal is copied</text>\n" ∷ [])
 

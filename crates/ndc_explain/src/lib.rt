@@ -14,6 +14,7 @@ mod losses;
 mod picture;
 mod piece;
 mod places;
+mod reading;
 mod settlers;
 mod signals;
 mod standing;

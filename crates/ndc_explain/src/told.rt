@@ -1,6 +1,7 @@
 //! The explanation of a dump.
 ghost use Rattle.std.specs.Prelude.{◌≡◌, ◌++◌, not, IfOk, OnOk};
 ghost use Rattle.std.specs.List.{flat_map};
+ghost use Rattle.ndc_text.specs.Views.{dump_text};
 ghost use Rattle.ndc_explain.specs.Graph.{tree_picture_of};
 ghost use Rattle.ndc_explain.specs.Picture.{picture_of};
 ghost use Rattle.ndc_explain.specs.Told.{told_of};
@@ -16,7 +17,7 @@ use crate::settlers::{Settlers, settlers_of};
 use crate::signals::{each_signal, push_fates, waiting_count};
 use crate::standing::standing;
 use ndc_domain::Clusters;
-use ndc_dump::Dump;
+use ndc_dump::{Dump, dump_text};
 use ndc_event::{Name, OutOfMemory};
 use ndc_explain_sides::{Sides, sides_of};
 use ndc_model_sets::{RunStatus, RunView, View};
@@ -275,6 +276,19 @@ pub(crate) fn draw_tree(
     })
 }
 
+/// The dump itself, with its view.
+fn show(alloc: Global, dump: &Dump) -> Result<Explanation, OutOfMemory>
+    ensures text { IfOk result (λ told. told.text.items ≡ dump_text dump.now.domain dump.now.workflow dump.now.view) }
+    ensures leaves { IfOk result (λ told. told.leaves_any ≡ leaves_any (findings dump.now.view)) }
+{
+    let found = findings(alloc, &dump.view)?;
+    let text = dump_text(alloc, &dump.domain, &dump.workflow, &dump.view)?;
+    Ok(Explanation {
+        text,
+        leaves_any: found.leaves_any(),
+    })
+}
+
 /// Tells a dump in the form that was asked for.
 pub(crate) fn told(
     alloc: Global,
@@ -288,5 +302,6 @@ pub(crate) fn told(
         Form::Text => explain(alloc, &request.clusters, request.all, dump),
         Form::Picture => draw(alloc, &request.clusters, dump),
         Form::TreePicture => draw_tree(alloc, &request.clusters, dump),
+        Form::View => show(alloc, dump),
     }
 }

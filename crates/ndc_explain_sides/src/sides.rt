@@ -1,5 +1,6 @@
 //! What both sides had.
-ghost use Rattle.std.specs.Prelude.{◌≡◌, ◌++◌, IfOk, OnOk};
+ghost use Rattle.std.specs.Prelude.{◌≡◌, ◌++◌, [], IfOk, OnOk};
+ghost use Rattle.ndc_explain_sides.specs.Traces.{with_lost, with_standing};
 ghost use Rattle.ndc_explain_sides.specs.Sides.{alone_at, alone_in, alone_of, faces_any, is_alone, lost_at, lost_in, lost_of, lost_with, meets_any, sides_of};
 
 use crate::latest::{Latest, latest_of, traced};
@@ -205,6 +206,34 @@ fn alone_of<'v>(
     Ok(alone)
 }
 
+/// The lost events, with what stands beside them.
+fn all_lost<'v>(
+    alloc: Global,
+    keys: &KeySet,
+    partings: &Partings,
+    ends: &Ends,
+    batches: &'v [Batch],
+) -> Result<Vec<Loss<'v>>, OutOfMemory>
+    ensures { IfOk result (λ lost. lost.items ≡ lost_of keys.now partings.now (with_standing keys.now ends.now batches.now []) batches.now) }
+{
+    let latest = latest_of(alloc, keys, ends, batches)?;
+    lost_of(alloc, keys, partings, &latest, batches)
+}
+
+/// What happened on a current branch alone.
+fn all_alone<'v>(
+    alloc: Global,
+    keys: &KeySet,
+    partings: &Partings,
+    ends: &Ends,
+    batches: &'v [Batch],
+) -> Result<Vec<Trace<'v>>, OutOfMemory>
+    ensures { IfOk result (λ alone. alone.items ≡ alone_of keys.now ends.now (with_lost keys.now partings.now batches.now []) batches.now) }
+{
+    let least = least_of(alloc, keys, partings, batches)?;
+    alone_of(alloc, keys, ends, &least, batches)
+}
+
 /// What both sides had, signals left out.
 #[derive(Drop)]
 pub struct Sides<'v> {
@@ -216,7 +245,8 @@ pub struct Sides<'v> {
 }
 
 impl<'v> Model for Sides<'v> {
-    ghost use Rattle.ndc_explain_sides.specs.Sides.{Sided};
+    ghost use Rattle.ndc_explain_sides.specs.Traces.{with_lost, with_standing};
+ghost use Rattle.ndc_explain_sides.specs.Sides.{Sided};
 
     ghost Value = { Sided };
 
@@ -238,10 +268,7 @@ pub fn sides_of<'v>(
 {
     let partings = partings_of(alloc, keys, batches)?;
     let ends = ends_of(alloc, keys, batches)?;
-    let latest = latest_of(alloc, keys, &ends, batches)?;
-    let least = least_of(alloc, keys, &partings, batches)?;
-    Ok(Sides {
-        lost: lost_of(alloc, keys, &partings, &latest, batches)?,
-        alone: alone_of(alloc, keys, &ends, &least, batches)?,
-    })
+    let lost = all_lost(alloc, keys, &partings, &ends, batches)?;
+    let alone = all_alone(alloc, keys, &partings, &ends, batches)?;
+    Ok(Sides { lost, alone })
 }
