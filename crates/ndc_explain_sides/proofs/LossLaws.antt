@@ -91,10 +91,13 @@ none_stands keys partings latest (b ∷ batches) = by (is_listed b.key keys) ref
   where
     holds : BatchKey → Bool
     holds key = not (is_listed key keys)
+
     lost : List Lost
     lost = lost_in latest (parting_of keys partings b) b b.events
+
     rest : List Lost
     rest = lost_of keys partings latest batches
+
     by : (t : Bool) → is_listed b.key keys ≡ t → list_all (λ x. holds x.key) rest ≡ true → list_all (λ x. holds x.key) ((if t then [] else lost) ++ rest) ≡ true
     by true e more = more
     by false e more = batch-lost holds lost rest (all-lost holds latest (parting_of keys partings b) b b.events (ap not e)) more
@@ -106,10 +109,13 @@ all_stand keys ends least (b ∷ batches) = by (is_listed b.key keys) refl (all_
   where
     holds : BatchKey → Bool
     holds key = is_listed key keys
+
     alone : List Traced
     alone = alone_in least (end_of ends b) b b.events
+
     rest : List Traced
     rest = alone_of keys ends least batches
+
     by : (t : Bool) → is_listed b.key keys ≡ t → list_all (λ x. holds x.key) rest ≡ true → list_all (λ x. holds x.key) ((if t then alone else []) ++ rest) ≡ true
     by true e more = batch-alone holds alone rest (all-alone holds least (end_of ends b) b b.events e) more
     by false e more = more

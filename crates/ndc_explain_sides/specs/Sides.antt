@@ -84,9 +84,13 @@ alone_at least end b event = if not (is_signal (sort_of event.kind)) && is_alone
 abbrev pub alone_in : Least → BatchKey → Batch → List Event → List Traced
 alone_in least end b events = flat_map (alone_at least end b) events
 
+-- those of a batch, where its key is listed
+abbrev pub alone_with : List BatchKey → Ends → Least → Batch → List Traced
+alone_with keys ends least b = if is_listed b.key keys then alone_in least (end_of ends b) b b.events else []
+
 -- those of the batches whose keys are listed
 abbrev pub alone_of : List BatchKey → Ends → Least → List Batch → List Traced
-alone_of keys ends least batches = flat_map (λ b. if is_listed b.key keys then alone_in least (end_of ends b) b b.events else []) batches
+alone_of keys ends least batches = flat_map (alone_with keys ends least) batches
 
 -- what both sides had
 pub record Sided : Type 0 where

@@ -108,7 +108,10 @@ impl Least {
         ensures { OnOk result (self.new ≡ with_lost_events parting events.now self.old) }
     {
         for event in events {
-            self.put(deed_label(alloc, parting.scope, &event.kind)?, parting.since)?;
+            self.put(
+                deed_label(alloc, parting.scope, &event.kind)?,
+                parting.since,
+            )?;
         }
         Ok(())
     }

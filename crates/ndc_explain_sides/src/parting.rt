@@ -174,11 +174,7 @@ impl Ends {
 }
 
 /// The last of those batches of each run whose keys are listed.
-pub(crate) fn ends_of(
-    alloc: Global,
-    keys: &KeySet,
-    batches: &[Batch],
-) -> Result<Ends, OutOfMemory>
+pub(crate) fn ends_of(alloc: Global, keys: &KeySet, batches: &[Batch]) -> Result<Ends, OutOfMemory>
     ensures { IfOk result (λ ends. ends ≡ with_ends keys.now batches.now []) }
 {
     let mut ends = Ends::new(alloc);

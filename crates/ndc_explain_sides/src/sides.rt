@@ -1,7 +1,7 @@
 //! What both sides had.
 ghost use Rattle.std.specs.Prelude.{◌≡◌, ◌++◌, [], IfOk, OnOk};
 ghost use Rattle.ndc_explain_sides.specs.Traces.{with_lost, with_standing};
-ghost use Rattle.ndc_explain_sides.specs.Sides.{alone_at, alone_in, alone_of, faces_any, is_alone, lost_at, lost_in, lost_of, lost_with, meets_any, sides_of};
+ghost use Rattle.ndc_explain_sides.specs.Sides.{alone_at, alone_in, alone_of, alone_with, faces_any, is_alone, lost_at, lost_in, lost_of, lost_with, meets_any, sides_of};
 
 use crate::latest::{Latest, latest_of, traced};
 use crate::least::{Least, least_of};
@@ -95,7 +95,14 @@ fn lost_of<'v>(
     for batch in batches {
         if !keys.contains(batch.key) {
             let parting = partings.of(keys, batch);
-            push_lost_events(alloc, &mut lost, latest, parting, batch, batch.events.as_slice())?;
+            push_lost_events(
+                alloc,
+                &mut lost,
+                latest,
+                parting,
+                batch,
+                batch.events.as_slice(),
+            )?;
         }
     }
     Ok(lost)
@@ -186,6 +193,30 @@ fn push_alone_events<'v>(
     Ok(())
 }
 
+/// Appends those of the events of a batch that happened on a current branch alone, where its key is listed.
+fn push_alone_with<'v>(
+    alloc: Global,
+    alone: &mut Vec<Trace<'v>>,
+    keys: &KeySet,
+    ends: &Ends,
+    least: &Least,
+    batch: &'v Batch,
+) -> Result<(), OutOfMemory>
+    ensures { OnOk result (alone.new.items ≡ alone.old.items ++ alone_with keys.now ends.now least.now batch.now) }
+{
+    if !keys.contains(batch.key) {
+        return Ok(());
+    }
+    push_alone_events(
+        alloc,
+        alone,
+        least,
+        ends.of(batch),
+        batch,
+        batch.events.as_slice(),
+    )
+}
+
 /// The events of those of the batches whose keys are listed that happened on a current branch alone.
 fn alone_of<'v>(
     alloc: Global,
@@ -198,10 +229,7 @@ fn alone_of<'v>(
 {
     let mut alone = Vec::new(alloc);
     for batch in batches {
-        if keys.contains(batch.key) {
-            let end = ends.of(batch);
-            push_alone_events(alloc, &mut alone, least, end, batch, batch.events.as_slice())?;
-        }
+        push_alone_with(alloc, &mut alone, keys, ends, least, batch)?;
     }
     Ok(alone)
 }
@@ -246,7 +274,7 @@ pub struct Sides<'v> {
 
 impl<'v> Model for Sides<'v> {
     ghost use Rattle.ndc_explain_sides.specs.Traces.{with_lost, with_standing};
-ghost use Rattle.ndc_explain_sides.specs.Sides.{Sided};
+    ghost use Rattle.ndc_explain_sides.specs.Sides.{Sided};
 
     ghost Value = { Sided };
 

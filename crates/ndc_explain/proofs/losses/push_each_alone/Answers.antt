@@ -1,6 +1,6 @@
 use Rattle.std.proofs.Common.{rules}
 use Rattle.ndc_explain.specs.Losses.{alone_told}
-use Rattle.ndc_explain.proofs.Listing.{pushed_more}
+use Rattle.ndc_explain_sides.proofs.Listing.{pushed_more}
 use Rattle.ndc_explain.proofs.losses.push_each_alone.Goals as goal
 
 pub loop-trace-preserved : goal.loop-trace-preserved
