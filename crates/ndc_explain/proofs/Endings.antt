@@ -2,14 +2,12 @@
 use Rattle.std.proofs.Common.{◌≡◌, ℕ, List, inl, inr, Option, sym, subst}
 use Rattle.ndc_port.specs.Bytes.{AppendsFront}
 use Rattle.ndc_port.proofs.Steps.{Sent_start, Sent_stop}
-use Rattle.ndc_dump.specs.Input.{InputFails, most_bytes}
 use Rattle.ndc_dump.specs.Telling.{Streams}
-use Rattle.ndc_dump.specs.declared.input.InputFault.{InputFault}
-use Rattle.ndc_dump.specs.declared.input.InputFault.TheVariants as input
 use Rattle.ndc_explain.specs.declared.fault.Fault.{Fault}
 use Rattle.ndc_explain.specs.declared.fault.Fault.TheVariants as fault
 use Rattle.ndc_explain.specs.declared.asked.Request.{Request}
-use Rattle.ndc_explain.specs.Top.{ExplainFault, ExplainsFront, of_input}
+use Rattle.ndc_explain.specs.Reading.{ReadingFails}
+use Rattle.ndc_explain.specs.Top.{ExplainFault, ExplainsFront}
 
 -- where nothing was written, a front of any text was
 pub nothing_written : (before after : Option (List ℕ)) (text : List ℕ) → after ≡ before → AppendsFront before after text
@@ -17,12 +15,14 @@ nothing_written before after text same = subst (λ (w : Option (List ℕ)). Appe
 
 module _ (request : Request) where
   -- a fault of reading is one of explaining, which has written nothing
-  pub input_fault : (old new : Streams) (f : InputFault) → new.written ≡ old.written → InputFails most_bytes old.left old.source_faults new.source_faults f → ExplainFault request old new (of_input f)
-  input_fault old new input.Read same r = (r, same)
-  input_fault old new input.Limit same r = (r, same)
-  input_fault old new (input.Line line cause) same r = (r, same)
-  input_fault old new (input.Key key cause) same r = (r, same)
-  input_fault old new input.Memory same r = same
+  pub input_fault : (old new : Streams) (f : Fault) → new.written ≡ old.written → ReadingFails request old.left old.source_faults new.source_faults f → ExplainFault request old new f
+  input_fault old new fault.Words same r = r
+  input_fault old new (fault.DumpLine line cause) same r = (r, same)
+  input_fault old new (fault.DumpBatch key cause) same r = (r, same)
+  input_fault old new fault.Read same r = (r, same)
+  input_fault old new fault.Write same r = absurd r
+  input_fault old new fault.Limit same r = (r, same)
+  input_fault old new fault.Memory same r = same
 
   -- whatever the fault, a front of the explanation was written
   pub told_end : (old new : Streams) (f : Fault) → ExplainFault request old new f → ExplainsFront request old.left old.written new.written

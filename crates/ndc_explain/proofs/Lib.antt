@@ -1,6 +1,6 @@
 mod BlockLaws
 mod Endings
 mod LawProofs
-mod Listing
+mod LossLaws
 mod PlaceLaws
 mod WaitingLaws

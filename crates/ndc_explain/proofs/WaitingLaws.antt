@@ -357,20 +357,20 @@ module _ (o : Origin) where
         (λ c on. (path-run batches tip c (path_to tip.key batches) sound.parents (path_is batches tip sound.set sound.closed has.0) on).1 ∙ has.1)
 
     -- the tips that are listed settle what their runs settle
-    tip-settles : (run : RunId) (keys : List BatchKey) → list_any on_path (with_tip false (run_view batches run) keys) ≡ (list_any on_path keys || is_among o (settled_by run batches))
+    tip-settles : (run : RunId) (keys : List BatchKey) → list_any on_path (with_tip (run_view batches run) keys) ≡ (list_any on_path keys || is_among o (settled_by run batches))
     tip-settles run keys = by (is_zombie (run_status run batches))
       where
-        by : (t : Bool) → list_any on_path (if false || not t then with_optional (current_key (map (branch_view run batches) (tips run batches))) keys else keys)
+        by : (t : Bool) → list_any on_path (if not t then with_optional (current_key (map (branch_view run batches) (tips run batches))) keys else keys)
             ≡ (list_any on_path keys || is_among o (if t then [] else origins_at run (current_tip run batches) batches))
         by true = sym (or-false (list_any on_path keys))
         by false =
             any-optional on_path (current_key (map (branch_view run batches) (tips run batches))) keys
             ∙ ap (λ (t : Bool). list_any on_path keys || t) (ap (of_key on_path) (current-branch run) ∙ tip-origins run (current_tip run batches) refl)
 
-    tips-settle : (list : List RunId) (keys : List BatchKey) → list_any on_path (with_tips false (map (run_view batches) list) keys) ≡ (list_any on_path keys || is_among o (settled_by_runs list batches))
+    tips-settle : (list : List RunId) (keys : List BatchKey) → list_any on_path (with_tips (map (run_view batches) list) keys) ≡ (list_any on_path keys || is_among o (settled_by_runs list batches))
     tips-settle [] keys = sym (or-false (list_any on_path keys))
     tips-settle (run ∷ list) keys =
-        tips-settle list (with_tip false (run_view batches run) keys)
+        tips-settle list (with_tip (run_view batches run) keys)
         ∙ ap (λ (t : Bool). t || is_among o (settled_by_runs list batches)) (tip-settles run keys)
         ∙ or-group (list_any on_path keys) (is_among o (settled_by run batches)) (is_among o (settled_by_runs list batches))
         ∙ ap (λ (t : Bool). list_any on_path keys || t) (sym (list_any-append (same_origin o) (settled_by run batches) (settled_by_runs list batches)))
@@ -378,7 +378,7 @@ module _ (o : Origin) where
     -- what is settled in the explanation is what is settled in the set
     settled-same : is_settled (findings (view_of batches)).settlers ≡ is_among o (settled batches)
     settled-same =
-        let keys = with_tips false (map (run_view batches) (runs batches)) [] in
+        let keys = with_tips (map (run_view batches) (runs batches)) [] in
         settled-listed (with_parents batches keys) batches []
         ∙ listed-paths keys has_origin batches sound.set.ordered sound.set.back
         ∙ tips-settle (runs batches) []

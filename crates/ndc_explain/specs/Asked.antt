@@ -1,5 +1,5 @@
 -- The words that the program is called with: in which form a dump is told, and the clusters whose names are to be told.
-use Rattle.std.specs.Prelude.{ℕ, ◌==◌, ◌&&◌, List, [], ◌∷◌, ◌++◌, codes, Option, Some, None, Result, Ok, Err, if◌then◌else◌}
+use Rattle.std.specs.Prelude.{ℕ, Bool, true, false, ◌==◌, ◌&&◌, List, [], ◌∷◌, ◌++◌, codes, Option, Some, None, Result, Ok, Err, if◌then◌else◌}
 use Rattle.std.specs.List.{slice_split}
 use Rattle.std.specs.Str.{bytes_eq}
 use Rattle.ndc_domain.specs.Clusters.{ClusterList, clusters_of}
@@ -9,7 +9,7 @@ use Rattle.ndc_event.specs.Outcome.{◌>>=◌}
 use Rattle.ndc_event.specs.declared.name.Name.{Name}
 use Rattle.ndc_script_words.specs.Number.{number_of}
 use Rattle.ndc_explain.specs.declared.asked.Form.{Form}
-use Rattle.ndc_explain.specs.declared.asked.Form.TheVariants.{Text, Picture, TreePicture}
+use Rattle.ndc_explain.specs.declared.asked.Form.TheVariants.{Text, Picture, TreePicture, View}
 use Rattle.ndc_explain.specs.declared.asked.Request.{Request}
 use Rattle.ndc_tool_words.specs.declared.error.WordsError.{WordsError}
 use Rattle.ndc_tool_words.specs.declared.error.WordsError.TheVariants.{Refused}
@@ -68,16 +68,40 @@ named_by (one ∷ list ∷ two ∷ increment ∷ []) =
     if bytes_eq one (codes "--clusters") && bytes_eq two (codes "--increment") then clusters_on list increment else Err Refused
 named_by _ = Err Refused
 
--- this form, with the clusters that the words name
-unfoldable pub request_for : Form → List (List ℕ) → Result Request WordsError
-request_for form words = do
+-- this form, with all events or without those of decisions, of dumps with their views or of bare ones, within this limit; with the clusters
+-- that the words name
+unfoldable pub request_with : Form → Bool → Bool → Option ℕ → List (List ℕ) → Result Request WordsError
+request_with form all bare limit words = do
   clusters ← named_by words
-  Ok (record { form = form; clusters = clusters })
+  Ok (record { form = form; all = all; bare = bare; limit = limit; clusters = clusters })
 
--- what the words ask for: a picture where `--picture` or `--picture=text` stands before the others, or else text
+-- the same within a limit of this word
+unfoldable pub request_within : Form → Bool → Bool → List ℕ → List (List ℕ) → Result Request WordsError
+request_within form all bare word words = do
+  limit ← number_or (number_of word)
+  request_with form all bare (Some limit) words
+
+-- the same within the limit that `--limit BYTES` names, where it stands before the others
+abbrev pub limited : Form → Bool → Bool → List (List ℕ) → Result Request WordsError
+limited form all bare (word ∷ number ∷ words) =
+    if bytes_eq word (codes "--limit") then request_within form all bare number words else request_with form all bare None (word ∷ number ∷ words)
+limited form all bare words = request_with form all bare None words
+
+-- the same of bare dumps where `--bare` stands before the others
+abbrev pub bared : Form → Bool → List (List ℕ) → Result Request WordsError
+bared form all [] = limited form all false []
+bared form all (word ∷ words) = if bytes_eq word (codes "--bare") then limited form all true words else limited form all false (word ∷ words)
+
+-- this form: with all events where `--all` stands before the others
+abbrev pub request_for : Form → List (List ℕ) → Result Request WordsError
+request_for form [] = bared form false []
+request_for form (word ∷ words) = if bytes_eq word (codes "--all") then bared form true words else bared form false (word ∷ words)
+
+-- what the words ask for: a picture where `--picture` or `--picture=text` stands before the others, the dump itself where `view` does, or else text
 abbrev pub asked_of : List (List ℕ) → Result Request WordsError
 asked_of [] = request_for Text []
 asked_of (word ∷ words) =
     if bytes_eq word (codes "--picture") then request_for Picture words
     else if bytes_eq word (codes "--picture=text") then request_for TreePicture words
+    else if bytes_eq word (codes "view") then request_for View words
     else request_for Text (word ∷ words)

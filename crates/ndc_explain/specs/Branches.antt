@@ -1,4 +1,4 @@
--- What is told of runs: which branch leads, and why, and what of the others is given up.
+-- What is told of runs: which branch leads, and why.
 use Rattle.std.specs.Prelude.{ℕ, List, [], ◌∷◌, ◌++◌, codes, decimal, find, Option, Some, None, if◌then◌else◌}
 use Rattle.std.specs.List.{concat, flat_map}
 use Rattle.ndc_domain.specs.Clusters.{ClusterList}
@@ -6,7 +6,6 @@ use Rattle.ndc_history.specs.Common.{common_of}
 use Rattle.ndc_model_sets.specs.declared.view.BranchView.{BranchView}
 use Rattle.ndc_model_sets.specs.declared.view.RunView.{RunView}
 use Rattle.ndc_text.specs.Views.{key_text, run_line}
-use Rattle.ndc_explain.specs.GivenUp.{Loss, losses_told}
 use Rattle.ndc_explain.specs.Pieces.{by_text, shared_text}
 use Rattle.ndc_explain.specs.Writers.{writer_name}
 
@@ -36,6 +35,6 @@ abbrev pub branches_told : Option ClusterList → Option BranchView → List Bra
 branches_told clusters None branches = []
 branches_told clusters (Some lead) branches = flat_map (branch_told clusters lead) branches
 
--- the lines of a run: its branches, and its events that are given up
-unfoldable pub run_told : Option ClusterList → List Loss → RunView → List ℕ
-run_told clusters lost run = run_line run ++ (branches_told clusters (leader run.branches) run.branches ++ losses_told clusters run.run lost)
+-- the lines of a run and of its branches
+abbrev pub run_told : Option ClusterList → RunView → List ℕ
+run_told clusters run = run_line run ++ branches_told clusters (leader run.branches) run.branches

@@ -14,7 +14,8 @@ use Rattle.ndc_reapply.specs.Strays.{origins_of, strays_of}
 use Rattle.ndc_state.specs.Origins.{is_among, same_origin}
 use Rattle.ndc_dump.specs.declared.dump.Dump.{Dump}
 use Rattle.ndc_explain.specs.Branches.{run_told}
-use Rattle.ndc_explain.specs.GivenUp.{Loss, given_up}
+use Rattle.ndc_explain_sides.specs.Sides.{Sided, sides_of}
+use Rattle.ndc_explain.specs.Losses.{alone_count, loss_count, sides_told}
 use Rattle.ndc_explain.specs.Signals.{Settlers, signal_line, waiting_count, with_listed}
 use Rattle.ndc_explain.specs.Standing.{standing}
 
@@ -28,17 +29,17 @@ is_running Closed = false
 abbrev pub is_open : List RunView → Bool
 is_open runs = list_any (λ run. is_running run.status) runs
 
--- what a view holds beside its runs: the events that are given up, the signals, each once by its origin, and what settles them
+-- what a view holds beside its runs: what both sides had, the signals, each once by its origin, and what settles them
 pub record Findings : Type 0 where
-  pub lost : List Loss
+  pub sides : Sided
   pub signals : List Stray
   pub settlers : Settlers
 
 abbrev pub findings : View → Findings
 findings view = record {
-  lost = given_up (standing true view) view.batches;
+  sides = sides_of (standing view) view.batches;
   signals = strays_of (signals view.batches) [];
-  settlers = with_listed (standing false view) view.batches [];
+  settlers = with_listed (standing view) view.batches [];
 }
 
 -- whether a signal of this origin waits: the view has one, and nothing settles it
@@ -49,27 +50,31 @@ waits found origin = is_among origin (origins_of found.signals) && is_none (look
 abbrev pub waiting : Findings → ℕ
 waiting found = waiting_count found.settlers found.signals
 
--- whether something is given up or waits
+-- whether something is to be driven again, or a signal waits
 abbrev pub leaves_any : Findings → Bool
-leaves_any found = nat_lt 0 (length found.lost) || nat_lt 0 (waiting found)
+leaves_any found = nat_lt 0 (loss_count false false found.sides.lost) || nat_lt 0 (waiting found)
 
 -- the last line: the counts
-abbrev pub counts_line : View → Findings → List ℕ
-counts_line view found =
+abbrev pub counts_line : Bool → View → Findings → List ℕ
+counts_line all view found =
     concat (
-    codes "batches " ∷ decimal (length view.batches) ∷ codes " runs " ∷ decimal (length view.runs) ∷ codes " given up " ∷ decimal (length found.lost)
+    codes "batches " ∷ decimal (length view.batches) ∷ codes " runs " ∷ decimal (length view.runs) ∷ codes " re-drive " ∷ decimal (loss_count all false found.sides.lost)
+    ∷ codes " on both " ∷ decimal (loss_count all true found.sides.lost) ∷ codes " only current " ∷ decimal (alone_count all found.sides.alone)
     ∷ codes " signals " ∷ decimal (length found.signals) ∷ codes " waiting " ∷ decimal (waiting found) ∷ codes "\n" ∷ [])
 
 -- the lines of what was found
-abbrev pub findings_told : Option ClusterList → Dump → Findings → List ℕ
-findings_told clusters dump found =
-    flat_map (signal_line clusters dump.workflow (is_open dump.view.runs) found.settlers) found.signals ++ counts_line dump.view found
+abbrev pub findings_told : Option ClusterList → Bool → Dump → Findings → List ℕ
+findings_told clusters all dump found =
+    sides_told clusters all found.sides
+    ++ (flat_map (signal_line clusters dump.workflow (is_open dump.view.runs) found.settlers) found.signals ++ counts_line all dump.view found)
 
 -- the explanation with what was found
-abbrev pub explanation_with : Option ClusterList → Dump → Findings → List ℕ
-explanation_with clusters dump found =
-    codes "workflow " ++ dump.domain ++ codes " " ++ dump.workflow ++ codes "\n" ++ flat_map (run_told clusters found.lost) dump.view.runs ++ findings_told clusters dump found
+abbrev pub explanation_with : Option ClusterList → Bool → Dump → Findings → List ℕ
+explanation_with clusters all dump found =
+    codes "workflow " ++ dump.domain ++ codes " " ++ dump.workflow ++ codes "\n" ++ flat_map (run_told clusters) dump.view.runs
+    ++ findings_told clusters all dump found
 
--- the explanation: the workflow; each run, which of its branches leads and what is given up; what became of each signal; the counts
-abbrev pub explanation_of : Option ClusterList → Dump → List ℕ
-explanation_of clusters dump = explanation_with clusters dump (findings dump.view)
+-- the explanation: the workflow; each run, and which of its branches leads; what both sides had; what became of each signal; the counts; with
+-- the events of decisions or without
+abbrev pub explanation_of : Option ClusterList → Bool → Dump → List ℕ
+explanation_of clusters all dump = explanation_with clusters all dump (findings dump.view)

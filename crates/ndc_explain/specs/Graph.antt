@@ -142,4 +142,4 @@ with_blocks clusters keys (block ∷ blocks) now = with_block clusters keys bloc
 abbrev pub tree_picture_of : Option ClusterList → Dump → List ℕ
 tree_picture_of clusters dump =
     (codes "workflow " ++ dump.domain ++ codes " " ++ dump.workflow ++ codes "\n")
-    ++ (with_blocks clusters (standing true dump.view) (blocks_of dump.view.batches) (record { columns = []; text = [] })).text
+    ++ (with_blocks clusters (standing dump.view) (blocks_of dump.view.batches) (record { columns = []; text = [] })).text

@@ -1,6 +1,6 @@
 pub mod Pieces
 pub mod Writers
-pub mod GivenUp
+pub mod Losses
 pub mod Branches
 pub mod Standing
 pub mod Signals
@@ -12,4 +12,5 @@ pub mod Picture
 pub mod Graph
 pub mod Asked
 pub mod Told
+pub mod Reading
 pub mod Top

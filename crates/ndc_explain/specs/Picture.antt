@@ -50,7 +50,7 @@ unfoldable pub legend_text : List ℕ
 legend_text =
     concat (
     codes "<path class='current' d='M20 64H70'/><text x='80' y='68'>on a current branch</text>\n"
-    ∷ codes "<path class='lost' d='M20 88H70'/><text x='80' y='92'>on a branch that lost</text>\n"
+    ∷ codes "<path class='lost' d='M20 88H70'/><text x='80' y='92'>on a branch that lost, or in a zombie</text>\n"
     ∷ codes "<path class='carrier' d='M20 112H70'/><text x='80' y='116'>a run continues as the next</text>\n"
     ∷ codes "<path class='copy' marker-end='url(#arrow)' d='M20 136H70'/><text x='80' y='140'>a signal is copied</text>\n" ∷ [])
 
@@ -140,7 +140,7 @@ pub record Drawn : Type 0 where
   pub keys : List BatchKey
 
 abbrev pub drawn : View → Drawn
-drawn view = record { blocks = blocks_of view.batches; layout = layout_of (blocks_of view.batches); keys = standing true view }
+drawn view = record { blocks = blocks_of view.batches; layout = layout_of (blocks_of view.batches); keys = standing view }
 
 -- the lines to a block at this place: from its parent's, from its carrier's, and from where its copied signals were written
 abbrev pub lines_to : Drawn → List Batch → Summary → Option Place → List ℕ

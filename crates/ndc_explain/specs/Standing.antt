@@ -1,5 +1,5 @@
 -- The batches that stand on current branches.
-use Rattle.std.specs.Prelude.{Bool, not, ◌||◌, List, [], ◌∷◌, Option, Some, None, if◌then◌else◌}
+use Rattle.std.specs.Prelude.{not, List, [], ◌∷◌, Option, Some, None, if◌then◌else◌}
 use Rattle.ndc_event.specs.declared.batch.Batch.{Batch}
 use Rattle.ndc_event.specs.declared.key.BatchKey.{BatchKey}
 use Rattle.ndc_model_sets.specs.Current.{is_zombie}
@@ -13,13 +13,13 @@ abbrev pub with_optional : Option BatchKey → List BatchKey → List BatchKey
 with_optional None keys = keys
 with_optional (Some key) keys = with_key key keys
 
--- the tip of the current branch of each run is listed; those of zombies only where these count
-abbrev pub with_tip : Bool → RunView → List BatchKey → List BatchKey
-with_tip zombies run keys = if zombies || not (is_zombie run.status) then with_optional (current_key run.branches) keys else keys
+-- the tip of the current branch of a run is listed, unless it is a zombie
+abbrev pub with_tip : RunView → List BatchKey → List BatchKey
+with_tip run keys = if not (is_zombie run.status) then with_optional (current_key run.branches) keys else keys
 
-abbrev pub with_tips : Bool → List RunView → List BatchKey → List BatchKey
-with_tips zombies [] keys = keys
-with_tips zombies (run ∷ runs) keys = with_tips zombies runs (with_tip zombies run keys)
+abbrev pub with_tips : List RunView → List BatchKey → List BatchKey
+with_tips [] keys = keys
+with_tips (run ∷ runs) keys = with_tips runs (with_tip run keys)
 
 -- the parent of each listed batch is listed too, going up from the last batch to the first
 abbrev pub with_parent : Batch → List BatchKey → List BatchKey
@@ -29,6 +29,6 @@ abbrev pub with_parents : List Batch → List BatchKey → List BatchKey
 with_parents [] keys = keys
 with_parents (b ∷ batches) keys = with_parent b (with_parents batches keys)
 
--- the keys of the batches on current branches, of all runs or of those that are no zombies
-abbrev pub standing : Bool → View → List BatchKey
-standing zombies view = with_parents view.batches (with_tips zombies view.runs [])
+-- the keys of the batches on current branches of runs that are no zombies
+abbrev pub standing : View → List BatchKey
+standing view = with_parents view.batches (with_tips view.runs [])

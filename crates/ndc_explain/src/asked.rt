@@ -6,7 +6,7 @@ ghost use Rattle.ndc_domain.specs.Clusters.{clusters_of};
 ghost use Rattle.ndc_event.specs.Outcome.{Gives};
 ghost use Rattle.ndc_tool_words.specs.declared.error.WordsError.TheVariants.{Memory};
 ghost use Rattle.ndc_script_words.specs.Number.{number_of};
-ghost use Rattle.ndc_explain.specs.Asked.{asked_of, clusters_on, clusters_or, member_in, member_of, member_with, members_on, name_on, named_by, number_or, request_for};
+ghost use Rattle.ndc_explain.specs.Asked.{asked_of, bared, clusters_on, clusters_or, limited, member_in, member_of, member_with, members_on, name_on, named_by, number_or, request_for, request_with, request_within};
 
 use ndc_domain::Clusters;
 use ndc_event::{Name, NameError, OutOfMemory};
@@ -140,26 +140,119 @@ pub(crate) enum Form {
     Picture,
     /// The picture in characters.
     TreePicture,
+    /// The dump itself, with its view.
+    View,
 }
 
 /// What the words ask for.
 #[derive(Drop)]
 pub(crate) struct Request {
     pub(crate) form: Form,
+    /// Whether the events of decisions are told as well.
+    pub(crate) all: bool,
+    /// Whether dumps are read without their views.
+    pub(crate) bare: bool,
+    /// How many bytes the input may have, where that is asked for.
+    pub(crate) limit: Option<u64>,
     /// The clusters whose names are to be told.
     pub(crate) clusters: Option<Clusters>,
 }
 
-/// This form, with the clusters that the words name.
-#[tactic(auto, unfolding(crate::specs::Asked::request_for))]
+/// This form, with all events or without those of decisions, of dumps with their views or of bare ones, within this limit;
+/// with the clusters that the words name.
+#[tactic(auto, unfolding(crate::specs::Asked::request_with))]
+fn request_with(
+    alloc: Global,
+    form: Form,
+    all: bool,
+    bare: bool,
+    limit: Option<u64>,
+    words: &[String],
+) -> Result<Request, WordsError>
+    ensures { Gives Memory (λ request. request) result (request_with form all bare limit (map string_bytes words.now)) }
+{
+    let clusters = named_by(alloc, words)?;
+    Ok(Request {
+        form,
+        all,
+        bare,
+        limit,
+        clusters,
+    })
+}
+
+/// The same within a limit of this word.
+#[tactic(auto, unfolding(crate::specs::Asked::request_within))]
+fn request_within(
+    alloc: Global,
+    form: Form,
+    all: bool,
+    bare: bool,
+    word: &[u8],
+    words: &[String],
+) -> Result<Request, WordsError>
+    ensures { Gives Memory (λ request. request) result (request_within form all bare word.now (map string_bytes words.now)) }
+{
+    let limit = number_on(word)?;
+    request_with(alloc, form, all, bare, Some(limit), words)
+}
+
+/// The same within the limit that `--limit BYTES` names, where it stands before the others.
+fn limited(
+    alloc: Global,
+    form: Form,
+    all: bool,
+    bare: bool,
+    words: &[String],
+) -> Result<Request, WordsError>
+    ensures { Gives Memory (λ request. request) result (limited form all bare (map string_bytes words.now)) }
+{
+    match words {
+        [word, number, others @ ..] => {
+            if word.as_bytes() == b"--limit".as_slice() {
+                request_within(alloc, form, all, bare, number.as_bytes(), others)
+            } else {
+                request_with(alloc, form, all, bare, None, words)
+            }
+        }
+        _ => request_with(alloc, form, all, bare, None, words),
+    }
+}
+
+/// The same of bare dumps where `--bare` stands before the others.
+fn bared(alloc: Global, form: Form, all: bool, words: &[String]) -> Result<Request, WordsError>
+    ensures { Gives Memory (λ request. request) result (bared form all (map string_bytes words.now)) }
+{
+    match words {
+        [] => limited(alloc, form, all, false, words),
+        [word, others @ ..] => {
+            if word.as_bytes() == b"--bare".as_slice() {
+                limited(alloc, form, all, true, others)
+            } else {
+                limited(alloc, form, all, false, words)
+            }
+        }
+    }
+}
+
+/// This form: with all events where `--all` stands before the others.
 fn request_for(alloc: Global, form: Form, words: &[String]) -> Result<Request, WordsError>
     ensures { Gives Memory (λ request. request) result (request_for form (map string_bytes words.now)) }
 {
-    let clusters = named_by(alloc, words)?;
-    Ok(Request { form, clusters })
+    match words {
+        [] => bared(alloc, form, false, words),
+        [word, others @ ..] => {
+            if word.as_bytes() == b"--all".as_slice() {
+                bared(alloc, form, true, others)
+            } else {
+                bared(alloc, form, false, words)
+            }
+        }
+    }
 }
 
-/// What the words ask for: a picture where `--picture` or `--picture=text` stands before the others, or else text.
+/// What the words ask for: a picture where `--picture` or `--picture=text` stands before the others, the dump itself where
+/// `view` does, or else text.
 pub(crate) fn asked_of(alloc: Global, words: &[String]) -> Result<Request, WordsError>
     ensures { Gives Memory (λ request. request) result (asked_of (map string_bytes words.now)) }
 {
@@ -170,6 +263,8 @@ pub(crate) fn asked_of(alloc: Global, words: &[String]) -> Result<Request, Words
                 request_for(alloc, Form::Picture, others)
             } else if word.as_bytes() == b"--picture=text".as_slice() {
                 request_for(alloc, Form::TreePicture, others)
+            } else if word.as_bytes() == b"view".as_slice() {
+                request_for(alloc, Form::View, others)
             } else {
                 request_for(alloc, Form::Text, words)
             }

@@ -1,14 +1,13 @@
-//! Runs and their branches: which branch leads, and why, and what of the others is given up.
-ghost use Rattle.std.specs.Prelude.{◌≡◌, ◌++◌, map, OnOk};
+//! Runs and their branches: which branch leads, and why.
+ghost use Rattle.std.specs.Prelude.{◌≡◌, ◌++◌, OnOk};
 ghost use Rattle.std.specs.List.{flat_map};
 ghost use Rattle.std.specs.Option.{option_copied};
 ghost use Rattle.ndc_explain.specs.Branches.{branch_told, branches_told, leader, leading_line, losing_line, run_told};
 
-use crate::loss::push_losses;
 use crate::piece::{Piece, push_pieces};
 use crate::writer::writer_name;
 use ndc_domain::Clusters;
-use ndc_event::{BatchKey, Event, OutOfMemory, RunId};
+use ndc_event::OutOfMemory;
 use ndc_model_sets::{BranchView, RunView};
 use ndc_text::line::push_run_line;
 use std::alloc::Global;
@@ -125,34 +124,30 @@ fn push_branches(
     }
 }
 
-/// Appends the lines of a run.
-#[tactic(auto, unfolding(crate::specs::Branches::run_told))]
-fn push_run<'x>(
+/// Appends the lines of a run and of its branches.
+fn push_run(
     alloc: Global,
     text: &mut Vec<u8>,
-    clusters: &'x Option<Clusters>,
-    lost: &[(RunId, BatchKey, &'x Event)],
+    clusters: &Option<Clusters>,
     run: &RunView,
 ) -> Result<(), OutOfMemory>
-    ensures { OnOk result (text.new.items ≡ text.old.items ++ run_told clusters.now (map (λ entry. (entry.0, entry.1, entry.2.now)) lost.now) run.now) }
+    ensures { OnOk result (text.new.items ≡ text.old.items ++ run_told clusters.now run.now) }
 {
     push_run_line(alloc, text, run)?;
-    push_branches(text, clusters, run.branches.as_slice())?;
-    push_losses(text, clusters, run.run, lost)
+    push_branches(text, clusters, run.branches.as_slice())
 }
 
 /// Appends the lines of runs.
-pub(crate) fn push_runs<'x>(
+pub(crate) fn push_runs(
     alloc: Global,
     text: &mut Vec<u8>,
-    clusters: &'x Option<Clusters>,
-    lost: &[(RunId, BatchKey, &'x Event)],
+    clusters: &Option<Clusters>,
     runs: &[RunView],
 ) -> Result<(), OutOfMemory>
-    ensures { OnOk result (text.new.items ≡ text.old.items ++ flat_map (run_told clusters.now (map (λ entry. (entry.0, entry.1, entry.2.now)) lost.now)) runs.now) }
+    ensures { OnOk result (text.new.items ≡ text.old.items ++ flat_map (run_told clusters.now) runs.now) }
 {
     for run in runs {
-        push_run(alloc, text, clusters, lost, run)?;
+        push_run(alloc, text, clusters, run)?;
     }
     Ok(())
 }

@@ -1,5 +1,5 @@
 //! The faults that end the program, and the lines that tell of them.
-use ndc_dump::{InputFault, KeyCause, LineCause, tell_batch, tell_line};
+use ndc_dump::{KeyCause, LineCause, tell_batch, tell_line};
 use ndc_event::BatchKey;
 use ndc_port::{Failed, Sink, write_all};
 
@@ -20,23 +20,6 @@ pub(crate) enum Fault {
     Limit,
     /// Memory ran out.
     Memory,
-}
-
-impl From<InputFault> for Fault {
-    ghost use Rattle.std.specs.Prelude.{◌≡◌};
-    ghost use Rattle.ndc_explain.specs.Top.{of_input};
-
-    ghost from_gives = { λ fault e. e ≡ of_input fault };
-
-    fn from(fault: InputFault) -> Fault {
-        match fault {
-            InputFault::Read => Fault::Read,
-            InputFault::Limit => Fault::Limit,
-            InputFault::Line { line, cause } => Fault::DumpLine { line, cause },
-            InputFault::Key { key, cause } => Fault::DumpBatch { key, cause },
-            InputFault::Memory => Fault::Memory,
-        }
-    }
 }
 
 impl Fault {
@@ -70,7 +53,7 @@ impl Fault {
         match self {
             Fault::Words => write_all(
                 err,
-                b"ndc_explain: words: [--picture|--picture=text] [--clusters NAME=INITIAL,.. --increment INCREMENT]\n",
+                b"ndc_explain: words: [view|--picture|--picture=text] [--all] [--bare] [--limit BYTES] [--clusters NAME=INITIAL,.. --increment INCREMENT]\n",
             ),
             Fault::DumpLine { line, cause } => tell_line(err, b"ndc_explain", line, cause),
             Fault::DumpBatch { key, cause } => tell_batch(err, b"ndc_explain", key, cause),

@@ -385,7 +385,7 @@ pub(crate) fn push_tree_picture(
 ) -> Result<(), OutOfMemory>
     ensures { OnOk result (text.new.items ≡ text.old.items ++ tree_picture_of clusters.now dump.now) }
 {
-    let keys = standing(alloc, true, &dump.view)?;
+    let keys = standing(alloc, &dump.view)?;
     let blocks = blocks_of(alloc, dump.view.batches.as_slice())?;
     let mut graph = Graph::new(alloc);
     graph.add_all(alloc, clusters, &keys, blocks.as_slice())?;

@@ -1,5 +1,5 @@
 //! Laws of explanations. The functions do nothing: what each ensures is the law.
-ghost use Rattle.std.specs.Prelude.{◌≡◌, true, List};
+ghost use Rattle.std.specs.Prelude.{◌≡◌, ◌&&◌, Bool, true, false, not, map, List};
 ghost use Rattle.std.specs.List.{list_all};
 ghost use Rattle.ndc_event.specs.declared.batch.Batch.{Batch};
 ghost use Rattle.ndc_event.specs.declared.key.Origin.{Origin};
@@ -14,6 +14,17 @@ ghost use Rattle.ndc_state.specs.Origins.{is_among};
 ghost use Rattle.ndc_explain.specs.Blocks.{batches_in, blocks_of, is_filled};
 ghost use Rattle.ndc_explain.specs.Explanation.{findings, waits};
 ghost use Rattle.ndc_explain.specs.Layout.{is_placed, layout_of};
+ghost use Rattle.ndc_explain.specs.Losses.{is_told, is_told_as};
+ghost use Rattle.ndc_explain.specs.Standing.{standing};
+ghost use Rattle.ndc_explain_sides.specs.Sides.{Lost, events_beside, placed_of};
+
+/// Each event that stands on no current branch, but for signals, is told exactly once, or is a decision's: those that are
+/// found lost are, one after the other, the events of the batches on no current branch; and one that is told is told either
+/// as what happened on both sides or as what has to be driven again.
+pub fn each_event_is_told_once()
+    ensures lost { (view : View) → map placed_of (findings view).sides.lost ≡ events_beside (standing view) view.batches }
+    ensures once { (all : Bool) (loss : Lost) → is_told_as all true loss ≡ (is_told all loss.event && not (is_told_as all false loss)) }
+{}
 
 /// Each signal is told exactly once: an origin is among those told exactly where a signal of the batches has it, and
 /// none is told twice.

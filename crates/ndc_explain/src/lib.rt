@@ -1,5 +1,5 @@
-//! The explanation of a dump: which branch of each run leads and why, what of the others is given up, and what became
-//! of each signal; its picture; and the top call of the program that reads a dump and writes these.
+//! The explanation of a dump: which branch of each run leads and why, what is to be driven again, and what became of
+//! each signal; its picture; and the top call of the program that reads a dump and writes these.
 #![tactic(auto)]
 
 mod asked;
@@ -10,10 +10,11 @@ mod fault;
 mod graph;
 pub mod laws;
 mod layout;
-mod loss;
+mod losses;
 mod picture;
 mod piece;
 mod places;
+mod reading;
 mod settlers;
 mod signals;
 mod standing;

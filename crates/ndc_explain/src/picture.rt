@@ -110,7 +110,7 @@ fn push_legend(text: &mut Vec<u8>) -> Result<(), OutOfMemory>
                 "<path class='current' d='M20 64H70'/><text x='80' y='68'>on a current branch</text>\n",
             ),
             Piece::Plain(
-                "<path class='lost' d='M20 88H70'/><text x='80' y='92'>on a branch that lost</text>\n",
+                "<path class='lost' d='M20 88H70'/><text x='80' y='92'>on a branch that lost, or in a zombie</text>\n",
             ),
             Piece::Plain(
                 "<path class='carrier' d='M20 112H70'/><text x='80' y='116'>a run continues as the next</text>\n",
@@ -460,7 +460,7 @@ fn drawn<'v>(alloc: Global, view: &'v View) -> Result<Drawing<'v>, OutOfMemory>
 {
     let blocks = blocks_of(alloc, view.batches.as_slice())?;
     let layout = layout_of(alloc, blocks.as_slice())?;
-    let keys = standing(alloc, true, view)?;
+    let keys = standing(alloc, view)?;
     Ok(Drawing {
         blocks,
         layout,

@@ -40,23 +40,23 @@ pub(crate) fn insert(keys: &mut KeySet, key: Option<BatchKey>) -> Result<(), Out
     }
 }
 
-/// Lists the tip of the current branch of a run, unless it is a zombie and these don't count.
-fn insert_tip(keys: &mut KeySet, zombies: bool, run: &RunView) -> Result<(), OutOfMemory>
-    ensures { OnOk result (keys.new ≡ with_tip zombies run.now keys.old) }
+/// Lists the tip of the current branch of a run, unless it is a zombie.
+fn insert_tip(keys: &mut KeySet, run: &RunView) -> Result<(), OutOfMemory>
+    ensures { OnOk result (keys.new ≡ with_tip run.now keys.old) }
 {
-    if zombies || !is_zombie(run.status) {
+    if !is_zombie(run.status) {
         insert(keys, current_key(run.branches.as_slice()))
     } else {
         Ok(())
     }
 }
 
-/// Lists the tips of the current branches of runs.
-fn insert_tips(keys: &mut KeySet, zombies: bool, runs: &[RunView]) -> Result<(), OutOfMemory>
-    ensures { OnOk result (keys.new ≡ with_tips zombies runs.now keys.old) }
+/// Lists the tips of the current branches of those of the runs that are no zombies.
+fn insert_tips(keys: &mut KeySet, runs: &[RunView]) -> Result<(), OutOfMemory>
+    ensures { OnOk result (keys.new ≡ with_tips runs.now keys.old) }
 {
     for run in runs {
-        insert_tip(keys, zombies, run)?;
+        insert_tip(keys, run)?;
     }
     Ok(())
 }
@@ -84,12 +84,12 @@ fn insert_parents(keys: &mut KeySet, batches: &[Batch]) -> Result<(), OutOfMemor
     Ok(())
 }
 
-/// The keys of the batches on current branches: of all runs, or of those that are no zombies.
-pub(crate) fn standing(alloc: Global, zombies: bool, view: &View) -> Result<KeySet, OutOfMemory>
-    ensures { IfOk result (λ keys. keys ≡ standing zombies view.now) }
+/// The keys of the batches on current branches of runs that are no zombies.
+pub(crate) fn standing(alloc: Global, view: &View) -> Result<KeySet, OutOfMemory>
+    ensures { IfOk result (λ keys. keys ≡ standing view.now) }
 {
     let mut keys = KeySet::new(alloc);
-    insert_tips(&mut keys, zombies, view.runs.as_slice())?;
+    insert_tips(&mut keys, view.runs.as_slice())?;
     insert_parents(&mut keys, view.batches.as_slice())?;
     Ok(keys)
 }

@@ -1,6 +1,7 @@
 //! The explanation of a dump.
 ghost use Rattle.std.specs.Prelude.{◌≡◌, ◌++◌, not, IfOk, OnOk};
 ghost use Rattle.std.specs.List.{flat_map};
+ghost use Rattle.ndc_text.specs.Views.{dump_text};
 ghost use Rattle.ndc_explain.specs.Graph.{tree_picture_of};
 ghost use Rattle.ndc_explain.specs.Picture.{picture_of};
 ghost use Rattle.ndc_explain.specs.Told.{told_of};
@@ -9,15 +10,16 @@ ghost use Rattle.ndc_explain.specs.Explanation.{counts_line, explanation_of, fin
 use crate::asked::{Form, Request};
 use crate::branches::push_runs;
 use crate::graph::push_tree_picture;
-use crate::loss::given_up;
+use crate::losses::{alone_count, loss_count, push_sides};
 use crate::picture::push_picture;
 use crate::piece::{Piece, push_pieces};
 use crate::settlers::{Settlers, settlers_of};
 use crate::signals::{each_signal, push_fates, waiting_count};
 use crate::standing::standing;
 use ndc_domain::Clusters;
-use ndc_dump::Dump;
-use ndc_event::{BatchKey, Event, Name, OutOfMemory, RunId};
+use ndc_dump::{Dump, dump_text};
+use ndc_event::{Name, OutOfMemory};
+use ndc_explain_sides::{Sides, sides_of};
 use ndc_model_sets::{RunStatus, RunView, View};
 use ndc_reapply::Stray;
 use ndc_text::dump::push_heading;
@@ -29,15 +31,15 @@ use std::marker::Model;
 pub(crate) struct Explanation {
     /// Its text.
     pub(crate) text: Vec<u8>,
-    /// Whether an event is given up or a signal waits.
+    /// Whether something is to be driven again, or a signal waits.
     pub(crate) leaves_any: bool,
 }
 
 /// What a view holds beside its runs.
 #[derive(Drop)]
 struct Found<'v> {
-    /// The events that are given up, each with its run and its batch's key.
-    lost: Vec<(RunId, BatchKey, &'v Event)>,
+    /// What both sides had.
+    sides: Sides<'v>,
     /// The signals, each once by its origin.
     signals: Vec<Stray>,
     /// What settles them.
@@ -45,13 +47,12 @@ struct Found<'v> {
 }
 
 impl<'v> Model for Found<'v> {
-    ghost use Rattle.std.specs.Prelude.{map};
     ghost use Rattle.ndc_explain.specs.Explanation.{Findings};
 
     ghost Value = { Findings };
 
     ghost view = { λ found. record {
-      lost = map (λ entry. (entry.0, entry.1, entry.2.now)) found.lost.items;
+      sides = found.sides;
       signals = found.signals.items;
       settlers = found.settlers;
     } };
@@ -91,12 +92,11 @@ fn findings(alloc: Global, view: &View) -> Result<Found, OutOfMemory>
     ensures { IfOk result (λ found. found ≡ findings view.now) }
 {
     let batches = view.batches.as_slice();
-    let current = standing(alloc, true, view)?;
-    let settling = standing(alloc, false, view)?;
+    let keys = standing(alloc, view)?;
     Ok(Found {
-        lost: given_up(alloc, &current, batches)?,
+        sides: sides_of(alloc, &keys, batches)?,
         signals: each_signal(alloc, batches)?,
-        settlers: settlers_of(alloc, &settling, batches)?,
+        settlers: settlers_of(alloc, &keys, batches)?,
     })
 }
 
@@ -104,7 +104,7 @@ impl<'v> Found<'v> {
     ghost use Rattle.std.specs.Prelude.{◌≡◌, ◌++◌, OnOk};
     ghost use Rattle.std.specs.List.{flat_map};
     ghost use Rattle.ndc_explain.specs.Explanation.{counts_line, leaves_any, waiting};
-    ghost use Rattle.ndc_explain.specs.Branches.{run_told};
+    ghost use Rattle.ndc_explain.specs.Losses.{sides_told};
     ghost use Rattle.ndc_explain.specs.Signals.{signal_line};
 
     /// How many signals wait.
@@ -114,24 +114,23 @@ impl<'v> Found<'v> {
         waiting_count(&self.settlers, self.signals.as_slice())
     }
 
-    /// Whether something is given up or waits.
+    /// Whether something is to be driven again, or a signal waits.
     fn leaves_any(&self) -> bool
         ensures { result ≡ leaves_any self.now }
     {
-        0 < self.lost.len() || 0 < self.waiting()
+        0 < loss_count(false, false, self.sides.lost.as_slice()) || 0 < self.waiting()
     }
 
-    /// Appends the lines of runs, with the events of each that are given up.
-    fn push_runs(
+    /// Appends the lines of what both sides had.
+    fn push_sides(
         &self,
-        alloc: Global,
         text: &mut Vec<u8>,
         clusters: &Option<Clusters>,
-        runs: &[RunView],
+        all: bool,
     ) -> Result<(), OutOfMemory>
-        ensures { OnOk result (text.new.items ≡ text.old.items ++ flat_map (run_told clusters.now self.now.lost) runs.now) }
+        ensures { OnOk result (text.new.items ≡ text.old.items ++ sides_told clusters.now all self.now.sides) }
     {
-        push_runs(alloc, text, clusters, self.lost.as_slice(), runs)
+        push_sides(text, clusters, all, &self.sides)
     }
 
     /// Appends the lines of the signals of a workflow, whose current run is open or not.
@@ -157,9 +156,10 @@ impl<'v> Found<'v> {
     }
 
     /// Appends the line of counts.
-    fn push_counts(&self, text: &mut Vec<u8>, view: &View) -> Result<(), OutOfMemory>
-        ensures { OnOk result (text.new.items ≡ text.old.items ++ counts_line view.now self.now) }
+    fn push_counts(&self, text: &mut Vec<u8>, all: bool, view: &View) -> Result<(), OutOfMemory>
+        ensures { OnOk result (text.new.items ≡ text.old.items ++ counts_line all view.now self.now) }
     {
+        let lost = self.sides.lost.as_slice();
         push_pieces(
             text,
             &[
@@ -167,8 +167,12 @@ impl<'v> Found<'v> {
                 Piece::Number(view.batches.as_slice().len() as u64),
                 Piece::Plain(" runs "),
                 Piece::Number(view.runs.as_slice().len() as u64),
-                Piece::Plain(" given up "),
-                Piece::Number(self.lost.len() as u64),
+                Piece::Plain(" re-drive "),
+                Piece::Number(loss_count(all, false, lost) as u64),
+                Piece::Plain(" on both "),
+                Piece::Number(loss_count(all, true, lost) as u64),
+                Piece::Plain(" only current "),
+                Piece::Number(alone_count(all, self.sides.alone.as_slice()) as u64),
                 Piece::Plain(" signals "),
                 Piece::Number(self.signals.len() as u64),
                 Piece::Plain(" waiting "),
@@ -184,28 +188,32 @@ fn push_findings(
     alloc: Global,
     text: &mut Vec<u8>,
     clusters: &Option<Clusters>,
+    all: bool,
     dump: &Dump,
     found: &Found,
 ) -> Result<(), OutOfMemory>
-    ensures { OnOk result (text.new.items ≡ text.old.items ++ findings_told clusters.now dump.now found.now) }
+    ensures { OnOk result (text.new.items ≡ text.old.items ++ findings_told clusters.now all dump.now found.now) }
 {
+    found.push_sides(text, clusters, all)?;
     found.push_fates(alloc, text, clusters, &dump.workflow, has_open(&dump.view))?;
-    found.push_counts(text, &dump.view)?;
+    found.push_counts(text, all, &dump.view)?;
     Ok(())
 }
 
 /// Explains a dump, with the names of the clusters that wrote where these are given: the workflow; each run, which of
-/// its branches leads, why each other one lost, and each event of a losing branch but for signals, which stands in no
-/// state of a current branch; each signal, once, with the batch on a current branch that has it or a copy of it, or
-/// with what it waits for; and a line of counts.
+/// its branches leads and why each other one lost; what both sides had but for signals: each event that stands on no
+/// current branch, with the event beside it on a current one, and what happened on a current one alone; each signal,
+/// once, with the batch on a current branch that has it or a copy of it, or with what it waits for; and a line of
+/// counts. Decisions are left out unless all are told.
 ///
-/// It takes time of the dump, of sorting its signals, and for each run of the events that are given up.
+/// It takes time of the dump, and of sorting its signals.
 pub(crate) fn explain(
     alloc: Global,
     clusters: &Option<Clusters>,
+    all: bool,
     dump: &Dump,
 ) -> Result<Explanation, OutOfMemory>
-    ensures text { IfOk result (λ told. told.text.items ≡ explanation_of clusters.now dump.now) }
+    ensures text { IfOk result (λ told. told.text.items ≡ explanation_of clusters.now all dump.now) }
     ensures leaves { IfOk result (λ told. told.leaves_any ≡ leaves_any (findings dump.now.view)) }
 {
     let found = findings(alloc, &dump.view)?;
@@ -216,8 +224,8 @@ pub(crate) fn explain(
         &dump.domain,
         &dump.workflow,
     )?;
-    found.push_runs(alloc, &mut text, clusters, dump.view.runs.as_slice())?;
-    push_findings(alloc, &mut text, clusters, dump, &found)?;
+    push_runs(alloc, &mut text, clusters, dump.view.runs.as_slice())?;
+    push_findings(alloc, &mut text, clusters, all, dump, &found)?;
     Ok(Explanation {
         text,
         leaves_any: found.leaves_any(),
@@ -268,6 +276,19 @@ pub(crate) fn draw_tree(
     })
 }
 
+/// The dump itself, with its view.
+fn show(alloc: Global, dump: &Dump) -> Result<Explanation, OutOfMemory>
+    ensures text { IfOk result (λ told. told.text.items ≡ dump_text dump.now.domain dump.now.workflow dump.now.view) }
+    ensures leaves { IfOk result (λ told. told.leaves_any ≡ leaves_any (findings dump.now.view)) }
+{
+    let found = findings(alloc, &dump.view)?;
+    let text = dump_text(alloc, &dump.domain, &dump.workflow, &dump.view)?;
+    Ok(Explanation {
+        text,
+        leaves_any: found.leaves_any(),
+    })
+}
+
 /// Tells a dump in the form that was asked for.
 pub(crate) fn told(
     alloc: Global,
@@ -278,8 +299,9 @@ pub(crate) fn told(
     ensures leaves { IfOk result (λ told. told.leaves_any ≡ leaves_any (findings dump.now.view)) }
 {
     match request.form {
-        Form::Text => explain(alloc, &request.clusters, dump),
+        Form::Text => explain(alloc, &request.clusters, request.all, dump),
         Form::Picture => draw(alloc, &request.clusters, dump),
         Form::TreePicture => draw_tree(alloc, &request.clusters, dump),
+        Form::View => show(alloc, dump),
     }
 }

@@ -1,6 +1,6 @@
 use Rattle.std.proofs.Common.{rules}
 use Rattle.ndc_explain.specs.Branches.{branch_told}
-use Rattle.ndc_explain.proofs.Listing.{pushed_more}
+use Rattle.ndc_explain_sides.proofs.Listing.{pushed_more}
 use Rattle.ndc_explain.proofs.branches.push_beside.Goals as goal
 
 pub loop-branch-preserved : goal.loop-branch-preserved

@@ -1,6 +1,6 @@
 use Rattle.std.proofs.Common.{rules}
 use Rattle.ndc_explain.specs.Signals.{signal_line}
-use Rattle.ndc_explain.proofs.Listing.{pushed_more}
+use Rattle.ndc_explain_sides.proofs.Listing.{pushed_more}
 use Rattle.ndc_explain.proofs.signals.push_fates.Goals as goal
 
 pub loop-signal-preserved : goal.loop-signal-preserved

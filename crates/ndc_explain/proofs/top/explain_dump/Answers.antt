@@ -10,6 +10,6 @@ returns-in_err-dump-clause-fault g c =
     let source = g.S.Source in
     let out = c.args.out.now in
     let old : Streams = record { left = source.left c.args.source.now; source_faults = source.faults c.args.source.now; written = g.K.Sink.written out; out_faults = g.K.Sink.faults out } in
-    let new : Streams = record { left = source.left c.read_input.new.source; source_faults = source.faults c.read_input.new.source; written = g.K.Sink.written out; out_faults = g.K.Sink.faults out } in
+    let new : Streams = record { left = source.left c.read_asked.new.source; source_faults = source.faults c.read_asked.new.source; written = g.K.Sink.written out; out_faults = g.K.Sink.faults out } in
     let p = err_from_is_err_and c.from_residual.result c.from_residual.ensures.1 in
     rw (p.1, p.2) (input_fault c.args.request.now old new c.in_err-dump.field-0.0 refl c.in_err-dump.ensures.fault)

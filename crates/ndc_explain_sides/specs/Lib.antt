@@ -1,0 +1,4 @@
+pub mod Subjects
+pub mod Partings
+pub mod Traces
+pub mod Sides
