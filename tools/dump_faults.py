@@ -58,11 +58,13 @@ def check_batch(it):
             raise Wrong("MixedVersions", f"event {event['eventId']} has version {event['version']}, and its batch {it.key[0]}")
     check_first(it)
     if it.parent and (it.parent[0] > it.key[0] or it.parent[1] >= it.key[1]):
-        raise Wrong("BadParent", f"the parent of {named(it.key)} is {named(it.parent)}; a parent's version is not above that of the batch, and its task is below")
+        why = "a parent's version is not above that of the batch, and its task is below"
+        raise Wrong("BadParent", f"the parent of {named(it.key)} is {named(it.parent)}; {why}")
     if it.carrier and it.parent:
         raise Wrong("BadCarrier", "the batch has a carrier and a parent; a carried batch begins a run, and has no parent")
     if it.carrier and it.carrier != (it.key[0], it.key[1] - 1):
-        raise Wrong("BadCarrier", f"the carrier {named(it.carrier)} of {named(it.key)} is not the batch just before: of the same version, with the task {it.key[1] - 1}")
+        before = f"the batch just before, {it.key[0]}.{it.key[1] - 1}"
+        raise Wrong("BadCarrier", f"the carrier {named(it.carrier)} of {named(it.key)} is not {before}")
 
 
 def check_first(it):
@@ -126,7 +128,8 @@ def check_formed(of):
     for it in (one for one in of.batches if one.parent):
         parent = of.by_key[it.parent]
         if parent.run != it.run:
-            raise Unsound(it, "NotWellFormed", f"its parent {named(it.parent)} is of run {run_text(parent.run)}, and it is of run {run_text(it.run)}")
+            runs = f"is of run {run_text(parent.run)}, and it is of run {run_text(it.run)}"
+            raise Unsound(it, "NotWellFormed", f"its parent {named(it.parent)} {runs}")
         if parent.last + 1 != it.first:
             raise Unsound(it, "NotWellFormed", f"its parent {named(it.parent)} ends with event {parent.last}, and it begins with event {it.first}")
 
@@ -136,7 +139,8 @@ def check_chains(of):
     for it in of.batches:
         before = last.get((it.run, it.key[0]))
         if before and it.parent != before:
-            raise Unsound(it, "SplitVersion", f"{named(before)} is of the same run and version, and is not its parent: batches of one run and version form one chain")
+            why = f"{named(before)} is of the same run and version, and is not its parent"
+            raise Unsound(it, "SplitVersion", f"{why}: batches of one run and version form one chain")
         last[it.run, it.key[0]] = it.key
 
 
@@ -145,7 +149,8 @@ def check_origins(of):
         for event in it.signals:
             origin = it.origin_of(event)
             if origin in seen:
-                raise Unsound(it, "OriginTwice", f"event {event['eventId']} is the signal of {event_text(origin)}, and so is {seen[origin]} on the path to it")
+                why = f"event {event['eventId']} is the signal of {event_text(origin)}, and so is {seen[origin]}"
+                raise Unsound(it, "OriginTwice", f"{why} on the path to it")
             seen[origin] = f"event {event['eventId']} of batch {named(it.key)}"
         return seen
 
@@ -164,7 +169,8 @@ def check_copies(of):
 def check_copy(batch, event, first):
     told = f"event {event['eventId']} repeats {event_text(batch.origin_of(event))}, "
     if first["eventType"] != "WorkflowExecutionSignaled" or "origin" in first:
-        raise Unsound(batch, "OriginUnfit", told + f"which is no original signal but a {first['eventType']}" + (" that is a copy itself" if "origin" in first else ""))
+        copy = " that is a copy itself" if "origin" in first else ""
+        raise Unsound(batch, "OriginUnfit", told + f"which is no original signal but a {first['eventType']}{copy}")
     for name in ("signalName", "input"):
         if event[name] != first[name]:
             raise Unsound(batch, "OriginUnfit", told + f"whose `{name}` is {first[name]}, and not {event[name]}")

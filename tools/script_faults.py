@@ -123,7 +123,8 @@ class Header:
         wanted = HEADER[self.read]
         if words[0] != wanted.split(" ")[0]:
             why = other_text(words) if number == 1 else None
-            raise Wrong(why or with_nearest(f"the header goes on with `{wanted}`, and not with `{words[0]}`", words[0], [wanted.split(" ")[0]]), words[0].columns, wanted, "BadHeader")
+            why = why or with_nearest(f"the header goes on with `{wanted}`, and not with `{words[0]}`", words[0], [wanted.split(" ")[0]])
+            raise Wrong(why, words[0].columns, wanted, "BadHeader")
         if len(words) != 2:
             raise wrong_count(words, wanted.split(" ")[1:], wanted, "BadHeader")
         getattr(self, f"take_{words[0]}")(words[1])

@@ -43,6 +43,10 @@ def test_trace_has_rows_of_faults_and_of_who_writes():
     same({it: rows.get(str(it)) for it in range(11, 24)}, {11: None, 19: None, **wanted})
 
 
+def test_trace_names_a_burst():
+    holds("13 burst A .. end          +1.2 -> 1.2", traced("burst A\nsignal A alpha w1 p x\n\nend\n", status=0))
+
+
 def test_trace_fits_a_page():
     for most in (60, 80, 120):
         for name in EXAMPLES:
