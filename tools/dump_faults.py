@@ -52,7 +52,7 @@ def check_batch(it):
         raise Wrong("NoEvents", "the batch has no event")
     for one, two in zip(it.events, it.events[1:]):
         if two["eventId"] != one["eventId"] + 1:
-            raise Wrong("IdsNotConsecutive", f"behind event {one['eventId']} comes {two['eventId']}; ids rise by one")
+            raise Wrong("IdsNotConsecutive", f"after event {one['eventId']} comes {two['eventId']}; ids rise by one")
     for event in it.events:
         if event["version"] != it.key[0]:
             raise Wrong("MixedVersions", f"event {event['eventId']} has version {event['version']}, and its batch {it.key[0]}")
@@ -93,16 +93,16 @@ class Set:
                 it.carrier = before.key
 
     def along_paths(self, begin, step):
-        """Goes along all paths, in the order of keys: what stands behind a batch is made by `step` of what stands behind its
+        """Goes along all paths, in the order of keys: what stands after a batch is made by `step` of what stands after its
         parent, which is copied where several batches have that parent."""
-        left, behind = {}, {}
+        left, after = {}, {}
         for it in self.batches:
             left[it.parent] = left.get(it.parent, 0) + 1
         for it in self.batches:
             left[it.parent] -= 1
-            before = begin() if it.parent is None else behind[it.parent].copy() if left[it.parent] else behind.pop(it.parent)
-            behind[it.key] = step(it, before)
-        return behind
+            before = begin() if it.parent is None else after[it.parent].copy() if left[it.parent] else after.pop(it.parent)
+            after[it.key] = step(it, before)
+        return after
 
 
 def goes_on_as(batch, run):
@@ -177,7 +177,7 @@ def check_copy(batch, event, first):
 
 
 def check_replay(of):
-    """The state behind each batch; a state that an event does not fit ends the search, since no smaller key has one."""
+    """The state after each batch; a state that an event does not fit ends the search, since no smaller key has one."""
     def step(it, state):
         try:
             for event in it.events:
@@ -228,12 +228,12 @@ def heading_fault(first):
     if words[:1] == ["dump"] and len(words) == 4 and words != first.split(" "):
         return "single spaces stand between the words, and none at the ends"
     if words[:1] == ["dump"] and len(words) != 4:
-        return "a domain and a workflow stand behind the form, and nothing else"
+        return "a domain and a workflow stand after the form, and nothing else"
     return "the first line of a dump tells its form, domain and workflow, names of 1 to 200 bytes from `!` to `~`"
 
 
 def read_batches(lines, heading):
-    """The batches behind the first line, up to a line that begins otherwise; raises Wrong, with the line's number set."""
+    """The batches after the first line, up to a line that begins otherwise; raises Wrong, with the line's number set."""
     form, domain, workflow = heading
     batches = []
     for number, line in enumerate(lines[1:], 2):
@@ -256,7 +256,7 @@ def check_place(it, before, domain, workflow):
     if before and it.key == before.key:
         raise Wrong("SameKey", f"the line before has the key {named(it.key)} too")
     if before and it.key < before.key:
-        raise Wrong("BadOrder", f"{named(it.key)} stands behind {named(before.key)}; batches stand in the order of their keys")
+        raise Wrong("BadOrder", f"{named(it.key)} stands after {named(before.key)}; batches stand in the order of their keys")
 
 
 def check_set(of, form):
@@ -268,7 +268,7 @@ def check_set(of, form):
 
 
 def view_fault(of, lines, text):
-    """The first line behind the batches that is not what they show."""
+    """The first line after the batches that is not what they show."""
     first, wanted = len(of.batches) + 1, view_lines(of)
     for place, line in enumerate(wanted):
         number = first + place + 1
@@ -278,7 +278,7 @@ def view_fault(of, lines, text):
         if number == len(lines) and not text.endswith("\n"):
             return Fault(number, "BadView", "the line has no line end", (len(line), len(line) + 1))
     if len(lines) > first + len(wanted):
-        return Fault(first + len(wanted) + 1, "BadView", "something stands behind the line `end`", (0, 1))
+        return Fault(first + len(wanted) + 1, "BadView", "something stands after the line `end`", (0, 1))
     return None
 
 
@@ -307,7 +307,7 @@ def dump_fault(text):
         heading = heading_of(lines)
         if len(lines) < 2 or not lines[1].startswith("{"):
             column = None if len(lines) < 2 else (0, 1)
-            return Fault(2, "BadFrame", "no batch stands behind the first line", column, ['wanted: {"domain":..'])
+            return Fault(2, "BadFrame", "no batch stands after the first line", column, ['wanted: {"domain":..'])
         batches = read_batches(lines, heading)
         of = Set(batches)
         check_set(of, heading[0])

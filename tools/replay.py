@@ -131,7 +131,7 @@ def run_text(run):
 
 
 def view_lines(of):
-    """The lines behind the batches of a sound set: runs with their branches and states, and the end."""
+    """The lines after the batches of a sound set: runs with their branches and states, and the end."""
     parents = {it.parent for it in of.batches}
     runs = {}
     for key, shown in sorted(of.along_paths(Shown, lambda batch, before: before.with_batch(batch)).items()):
