@@ -14,7 +14,7 @@ class Batch:
     def __init__(self, made, number):
         self.number, self.key, self.run = number, key_in(made), run_of(made["run"])
         self.parent, self.carrier = (key_in(made[it]) if made.get(it) else None for it in ("parent", "carrier"))
-        self.events, self.domain, self.workflow, self.made = made["events"], made["domain"], made["workflow"], made
+        self.events, self.domain, self.workflow = made["events"], made["domain"], made["workflow"]
 
     @property
     def first(self):
@@ -84,13 +84,6 @@ class Set:
     def __init__(self, batches):
         self.batches = batches
         self.by_key = {it.key: it for it in batches}
-
-    def give_carriers(self):
-        """What form 1 leaves out: a first batch is carried by the batch just before, where that goes on as its run."""
-        for it in self.batches:
-            before = self.by_key.get((it.key[0], it.key[1] - 1))
-            if not it.parent and before and goes_on_as(before, it.run):
-                it.carrier = before.key
 
     def along_paths(self, begin, step):
         """Goes along all paths, in the order of keys: what stands after a batch is made by `step` of what stands after its
@@ -260,9 +253,8 @@ def check_place(it, before, domain, workflow):
 
 
 def check_set(of, form):
+    """The causes of a batch beside the others, in the program's order; form 1 has no carriers."""
     tests = [check_parents, check_formed, check_chains, check_origins, check_copies, check_replay]
-    if form == 1:
-        of.give_carriers()
     for test in tests + ([check_carriers] if form == 2 else []):
         test(of)
 
