@@ -11,7 +11,10 @@ MOST_DEPTH = 127
 NAME = re.compile("[!-~]{1,200}")
 HYPHENATED = re.compile("[0-9a-f]{8}-[0-9a-f]{4}-[0-9a-f]{4}-[0-9a-f]{4}-[0-9a-f]{12}")
 # The keys of each object, with what they hold; those that may be missing end with a question mark.
-BATCH = {"carrier?": "an object", "domain": "a name", "events": "an array", "parent": "null or an object", "run": "a run", "task": "a task", "version": "a version", "workflow": "a name"}
+BATCH = {
+    "carrier?": "an object", "domain": "a name", "events": "an array", "parent": "null or an object", "run": "a run", "task": "a task",
+    "version": "a version", "workflow": "a name",
+}
 KEY = {"task": "a task", "version": "a version"}
 ORIGIN = {"event": "an event's id", "run": "a run", "version": "a version"}
 EVENT = {"eventId": "an event's id", "eventType": "a kind", "version": "a version"}
@@ -161,26 +164,37 @@ def range_fault(name, value, wanted):
 
 
 def check_object(value, keys, place):
-    """The tests of one object, in turn."""
-    needed = {it.removesuffix("?"): wanted for it, wanted in keys.items()}
+    """The tests of one object, in turn; `place` says which one it is."""
     if not isinstance(value, Object):
         raise Wrong("WrongKind", f"{place} is {kind_of(value)}, and no object")
-    missing = [it for it in keys if not it.endswith("?") and it not in value]
-    extra = [it for it in value if it not in needed]
+    wanted = {it.removesuffix("?"): kind for it, kind in keys.items()}
+    check_keys(value, [it for it in keys if not it.endswith("?")], wanted, place)
+    for name, one in value.items():
+        if not has_kind(one, wanted[name]):
+            raise Wrong("WrongKind", f"`{name}` of {place} is {told_of(one)}, and wanted is {wanted[name]}", name=name)
+    for name, one in value.items():
+        why = range_fault(name, one, wanted[name])
+        if why:
+            raise Wrong("Range", f"{why} (in {place})", name=name)
+
+
+def check_keys(value, needed, wanted, place):
+    """Whether a key of an object is missing, and then whether there is one that it does not have."""
+    missing, extra = [it for it in needed if it not in value], [it for it in value if it not in wanted]
     if missing:
         near = nearest(missing[0], extra)
         raise Wrong("MissingKey", f"{place} lacks the key `{missing[0]}`" + (f"; it has a key `{near}`" if near else ""), name=near)
     if extra:
-        more = " in a dump of form 1" if extra[0] == "carrier" else ""
-        raise Wrong("ExtraKey", f"{place} has the key `{extra[0][:60]}`, which it does not have{more}; its keys are " + ", ".join(sorted(needed)), name=extra[0])
-    for name, one in value.items():
-        if not has_kind(one, needed[name]):
-            what = f"the number {one.text[:30]}, with a sign, a fraction, an exponent or more than 64 bits" if isinstance(one, Number) else kind_of(one)
-            raise Wrong("WrongKind", f"`{name}` of {place} is {what}, and wanted is {needed[name]}", name=name)
-    for name, one in value.items():
-        why = range_fault(name, one, needed[name])
-        if why:
-            raise Wrong("Range", f"{why} (in {place})", name=name)
+        form = " in a dump of form 1" if extra[0] == "carrier" else ""
+        why = f"{place} has the key `{extra[0][:60]}`, which is one too many{form}; its keys are " + ", ".join(sorted(wanted))
+        raise Wrong("ExtraKey", why, name=extra[0])
+
+
+def told_of(value):
+    """What a value is, where it is not what is wanted."""
+    if isinstance(value, Number):
+        return f"the number {value.text[:30]}, with a sign, a fraction, an exponent or more than 64 bits"
+    return kind_of(value)
 
 
 def event_keys(kind):

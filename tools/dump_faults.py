@@ -14,7 +14,7 @@ class Batch:
     def __init__(self, made, number):
         self.number, self.key, self.run = number, key_in(made), run_of(made["run"])
         self.parent, self.carrier = (key_in(made[it]) if made.get(it) else None for it in ("parent", "carrier"))
-        self.events, self.domain, self.workflow, self.made = made["events"], made["domain"], made["workflow"], made
+        self.events, self.domain, self.workflow = made["events"], made["domain"], made["workflow"]
 
     @property
     def first(self):
@@ -52,17 +52,19 @@ def check_batch(it):
         raise Wrong("NoEvents", "the batch has no event")
     for one, two in zip(it.events, it.events[1:]):
         if two["eventId"] != one["eventId"] + 1:
-            raise Wrong("IdsNotConsecutive", f"behind event {one['eventId']} comes {two['eventId']}; ids rise by one")
+            raise Wrong("IdsNotConsecutive", f"after event {one['eventId']} comes {two['eventId']}; ids rise by one")
     for event in it.events:
         if event["version"] != it.key[0]:
             raise Wrong("MixedVersions", f"event {event['eventId']} has version {event['version']}, and its batch {it.key[0]}")
     check_first(it)
     if it.parent and (it.parent[0] > it.key[0] or it.parent[1] >= it.key[1]):
-        raise Wrong("BadParent", f"the parent of {named(it.key)} is {named(it.parent)}; a parent's version is not above that of the batch, and its task is below")
+        why = "a parent's version is not above that of the batch, and its task is below"
+        raise Wrong("BadParent", f"the parent of {named(it.key)} is {named(it.parent)}; {why}")
     if it.carrier and it.parent:
         raise Wrong("BadCarrier", "the batch has a carrier and a parent; a carried batch begins a run, and has no parent")
     if it.carrier and it.carrier != (it.key[0], it.key[1] - 1):
-        raise Wrong("BadCarrier", f"the carrier {named(it.carrier)} of {named(it.key)} is not the batch just before: of the same version, with the task {it.key[1] - 1}")
+        before = f"the batch just before, {it.key[0]}.{it.key[1] - 1}"
+        raise Wrong("BadCarrier", f"the carrier {named(it.carrier)} of {named(it.key)} is not {before}")
 
 
 def check_first(it):
@@ -83,24 +85,17 @@ class Set:
         self.batches = batches
         self.by_key = {it.key: it for it in batches}
 
-    def give_carriers(self):
-        """What form 1 leaves out: a first batch is carried by the batch just before, where that goes on as its run."""
-        for it in self.batches:
-            before = self.by_key.get((it.key[0], it.key[1] - 1))
-            if not it.parent and before and goes_on_as(before, it.run):
-                it.carrier = before.key
-
     def along_paths(self, begin, step):
-        """Goes along all paths, in the order of keys: what stands behind a batch is made by `step` of what stands behind its
+        """Goes along all paths, in the order of keys: what stands after a batch is made by `step` of what stands after its
         parent, which is copied where several batches have that parent."""
-        left, behind = {}, {}
+        left, after = {}, {}
         for it in self.batches:
             left[it.parent] = left.get(it.parent, 0) + 1
         for it in self.batches:
             left[it.parent] -= 1
-            before = begin() if it.parent is None else behind[it.parent].copy() if left[it.parent] else behind.pop(it.parent)
-            behind[it.key] = step(it, before)
-        return behind
+            before = begin() if it.parent is None else after[it.parent].copy() if left[it.parent] else after.pop(it.parent)
+            after[it.key] = step(it, before)
+        return after
 
 
 def goes_on_as(batch, run):
@@ -126,7 +121,8 @@ def check_formed(of):
     for it in (one for one in of.batches if one.parent):
         parent = of.by_key[it.parent]
         if parent.run != it.run:
-            raise Unsound(it, "NotWellFormed", f"its parent {named(it.parent)} is of run {run_text(parent.run)}, and it is of run {run_text(it.run)}")
+            runs = f"is of run {run_text(parent.run)}, and it is of run {run_text(it.run)}"
+            raise Unsound(it, "NotWellFormed", f"its parent {named(it.parent)} {runs}")
         if parent.last + 1 != it.first:
             raise Unsound(it, "NotWellFormed", f"its parent {named(it.parent)} ends with event {parent.last}, and it begins with event {it.first}")
 
@@ -136,7 +132,8 @@ def check_chains(of):
     for it in of.batches:
         before = last.get((it.run, it.key[0]))
         if before and it.parent != before:
-            raise Unsound(it, "SplitVersion", f"{named(before)} is of the same run and version, and is not its parent: batches of one run and version form one chain")
+            why = f"{named(before)} is of the same run and version, and is not its parent"
+            raise Unsound(it, "SplitVersion", f"{why}: batches of one run and version form one chain")
         last[it.run, it.key[0]] = it.key
 
 
@@ -145,7 +142,8 @@ def check_origins(of):
         for event in it.signals:
             origin = it.origin_of(event)
             if origin in seen:
-                raise Unsound(it, "OriginTwice", f"event {event['eventId']} is the signal of {event_text(origin)}, and so is {seen[origin]} on the path to it")
+                why = f"event {event['eventId']} is the signal of {event_text(origin)}, and so is {seen[origin]}"
+                raise Unsound(it, "OriginTwice", f"{why} on the path to it")
             seen[origin] = f"event {event['eventId']} of batch {named(it.key)}"
         return seen
 
@@ -164,14 +162,15 @@ def check_copies(of):
 def check_copy(batch, event, first):
     told = f"event {event['eventId']} repeats {event_text(batch.origin_of(event))}, "
     if first["eventType"] != "WorkflowExecutionSignaled" or "origin" in first:
-        raise Unsound(batch, "OriginUnfit", told + f"which is no original signal but a {first['eventType']}" + (" that is a copy itself" if "origin" in first else ""))
+        copy = " that is a copy itself" if "origin" in first else ""
+        raise Unsound(batch, "OriginUnfit", told + f"which is no original signal but a {first['eventType']}{copy}")
     for name in ("signalName", "input"):
         if event[name] != first[name]:
             raise Unsound(batch, "OriginUnfit", told + f"whose `{name}` is {first[name]}, and not {event[name]}")
 
 
 def check_replay(of):
-    """The state behind each batch; a state that an event does not fit ends the search, since no smaller key has one."""
+    """The state after each batch; a state that an event does not fit ends the search, since no smaller key has one."""
     def step(it, state):
         try:
             for event in it.events:
@@ -222,12 +221,12 @@ def heading_fault(first):
     if words[:1] == ["dump"] and len(words) == 4 and words != first.split(" "):
         return "single spaces stand between the words, and none at the ends"
     if words[:1] == ["dump"] and len(words) != 4:
-        return "a domain and a workflow stand behind the form, and nothing else"
+        return "a domain and a workflow stand after the form, and nothing else"
     return "the first line of a dump tells its form, domain and workflow, names of 1 to 200 bytes from `!` to `~`"
 
 
 def read_batches(lines, heading):
-    """The batches behind the first line, up to a line that begins otherwise; raises Wrong, with the line's number set."""
+    """The batches after the first line, up to a line that begins otherwise; raises Wrong, with the line's number set."""
     form, domain, workflow = heading
     batches = []
     for number, line in enumerate(lines[1:], 2):
@@ -250,19 +249,18 @@ def check_place(it, before, domain, workflow):
     if before and it.key == before.key:
         raise Wrong("SameKey", f"the line before has the key {named(it.key)} too")
     if before and it.key < before.key:
-        raise Wrong("BadOrder", f"{named(it.key)} stands behind {named(before.key)}; batches stand in the order of their keys")
+        raise Wrong("BadOrder", f"{named(it.key)} stands after {named(before.key)}; batches stand in the order of their keys")
 
 
 def check_set(of, form):
+    """The causes of a batch beside the others, in the program's order; form 1 has no carriers."""
     tests = [check_parents, check_formed, check_chains, check_origins, check_copies, check_replay]
-    if form == 1:
-        of.give_carriers()
     for test in tests + ([check_carriers] if form == 2 else []):
         test(of)
 
 
 def view_fault(of, lines, text):
-    """The first line behind the batches that is not what they show."""
+    """The first line after the batches that is not what they show."""
     first, wanted = len(of.batches) + 1, view_lines(of)
     for place, line in enumerate(wanted):
         number = first + place + 1
@@ -272,7 +270,7 @@ def view_fault(of, lines, text):
         if number == len(lines) and not text.endswith("\n"):
             return Fault(number, "BadView", "the line has no line end", (len(line), len(line) + 1))
     if len(lines) > first + len(wanted):
-        return Fault(first + len(wanted) + 1, "BadView", "something stands behind the line `end`", (0, 1))
+        return Fault(first + len(wanted) + 1, "BadView", "something stands after the line `end`", (0, 1))
     return None
 
 
@@ -301,7 +299,7 @@ def dump_fault(text):
         heading = heading_of(lines)
         if len(lines) < 2 or not lines[1].startswith("{"):
             column = None if len(lines) < 2 else (0, 1)
-            return Fault(2, "BadFrame", "no batch stands behind the first line", column, ['wanted: {"domain":..'])
+            return Fault(2, "BadFrame", "no batch stands after the first line", column, ['wanted: {"domain":..'])
         batches = read_batches(lines, heading)
         of = Set(batches)
         check_set(of, heading[0])

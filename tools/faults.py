@@ -25,9 +25,9 @@ def excerpt(line, columns):
     start, stop = columns
     first = max(0, min(start - SHOWN // 2, len(line) - SHOWN))
     shown = "".join(it if " " <= it <= "~" else "?" for it in line[first : first + SHOWN])
-    before, behind = "..." if first else "", "..." if first + SHOWN < len(line) else ""
+    before, after = "..." if first else "", "..." if first + SHOWN < len(line) else ""
     marks = "^" * max(1, min(stop, first + SHOWN) - start)
-    return [before + shown + behind, " " * (len(before) + start - first) + marks]
+    return [before + shown + after, " " * (len(before) + start - first) + marks]
 
 
 def text_of(name, fault, lines):
@@ -48,7 +48,7 @@ def nearest(word, words):
 
 
 def with_nearest(told, word, words):
-    """What is told of a word, with the nearest one of a list behind it."""
+    """What is told of a word, with the nearest one of a list after it."""
     near = nearest(word, words)
     return f"{told}; the nearest is `{near}`" if near else told
 
@@ -60,13 +60,13 @@ def number_fault(word, name, low, high):
     if not (word.isascii() and word.isdigit()):
         return f"`{word}` is no number; {name} is {low:,} to {high:,}, in decimal digits alone"
     if word[0] == "0" and word != "0":
-        return f"`{word}` has a zero in front; {name} is written without"
+        return f"`{word}` has a leading zero; {name} is written without"
     if not low <= int(word[:30]) <= high:
         return f"{word if len(word) <= 30 else 'the number'} is out of its range: {name} is {low:,} to {high:,}"
     return None
 
 
 def lines_of(text):
-    """The lines of a text; an empty rest behind the last newline is none."""
+    """The lines of a text; an empty rest after the last newline is none."""
     lines = text.split("\n")
     return lines[:-1] if lines[-1] == "" else lines

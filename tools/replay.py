@@ -5,7 +5,10 @@ CLOSING = {
     "WorkflowExecutionTerminated": "terminated", "WorkflowExecutionContinuedAsNew": "continued",
 }
 # What stands in a list of the state, and by which attribute.
-LISTS = {"ActivityTask": ("activity", "activityId"), "Timer": ("timer", "timerId"), "StartChildWorkflowExecution": ("child", "workflowId"), "ChildWorkflowExecution": ("child", "workflowId")}
+LISTS = {
+    "ActivityTask": ("activity", "activityId"), "Timer": ("timer", "timerId"),
+    "StartChildWorkflowExecution": ("child", "workflowId"), "ChildWorkflowExecution": ("child", "workflowId"),
+}
 ADDING = ("ActivityTaskScheduled", "TimerStarted", "StartChildWorkflowExecutionInitiated")
 STARTING = ("ActivityTaskStarted", "ChildWorkflowExecutionStarted")
 ENDING_STARTED = ("ActivityTaskCompleted", "ActivityTaskFailed", "ChildWorkflowExecutionCompleted", "ChildWorkflowExecutionFailed")
@@ -91,7 +94,8 @@ class State:
     def text(self):
         lists = {kind: ",".join(map(pending_text, them.values())) or "-" for kind, them in self.pending.items()}
         decision, cancel = pending_text(self.decision) if self.decision else "-", "yes" if self.cancel else "no"
-        return f"next={self.next} decision={decision} activities={lists['activity']} timers={lists['timer']} children={lists['child']} signals={self.signals} cancel={cancel}"
+        pending = f"activities={lists['activity']} timers={lists['timer']} children={lists['child']}"
+        return f"next={self.next} decision={decision} {pending} signals={self.signals} cancel={cancel}"
 
 
 def pending_text(it):
@@ -127,7 +131,7 @@ def run_text(run):
 
 
 def view_lines(of):
-    """The lines behind the batches of a sound set: runs with their branches and states, and the end."""
+    """The lines after the batches of a sound set: runs with their branches and states, and the end."""
     parents = {it.parent for it in of.batches}
     runs = {}
     for key, shown in sorted(of.along_paths(Shown, lambda batch, before: before.with_batch(batch)).items()):

@@ -38,7 +38,7 @@ class Answer:
 
     @property
     def lines(self):
-        """The answer without its number, and the lines behind it."""
+        """The answer without its number, and the lines after it."""
         return [self.text, *self.further]
 
 

@@ -123,7 +123,8 @@ class Header:
         wanted = HEADER[self.read]
         if words[0] != wanted.split(" ")[0]:
             why = other_text(words) if number == 1 else None
-            raise Wrong(why or with_nearest(f"the header goes on with `{wanted}`, and not with `{words[0]}`", words[0], [wanted.split(" ")[0]]), words[0].columns, wanted, "BadHeader")
+            why = why or with_nearest(f"the header goes on with `{wanted}`, and not with `{words[0]}`", words[0], [wanted.split(" ")[0]])
+            raise Wrong(why, words[0].columns, wanted, "BadHeader")
         if len(words) != 2:
             raise wrong_count(words, wanted.split(" ")[1:], wanted, "BadHeader")
         getattr(self, f"take_{words[0]}")(words[1])
@@ -198,7 +199,7 @@ def wrong_count(words, operands, wanted, cause="BadLine"):
         return Wrong(f"{operands[len(given)]} is missing", (end, end + 1), wanted, cause)
     extra = given[len(operands)]
     if extra.startswith("#"):
-        return Wrong("no comment stands behind words; it has a line of its own", extra.columns, wanted, cause)
+        return Wrong("no comment stands after words; it has a line of its own", extra.columns, wanted, cause)
     if any('"' in it for it in given):
         return Wrong(f"`{extra}` is a word too many; there are no quotes, and a name has no space in it", extra.columns, wanted, cause)
     return Wrong(f"`{extra}` is a word too many", extra.columns, wanted, cause)
@@ -210,7 +211,7 @@ def first_word_fault(word, in_burst, clusters):
     if word in ("cluster", *(it.split(" ")[0] for it in HEADER)):
         why = f"`{word}` begins a line of the header, which has ended above"
     elif word == "end":
-        why = "`end` stands behind a `burst` alone"
+        why = "`end` stands after a `burst` alone"
     elif word in ACTIONS:
         why = f"`{word}` is an action of `respond`, and begins no line"
     elif word in clusters:
@@ -283,7 +284,7 @@ def check_actions(words):
             raise Wrong(f"{form[len(rest) - 1]} of the action `{word}` is missing", (end, end + 1), " ".join([word, *form]))
         rest = rest[1 + len(form) :]
         if rest and word in CLOSING:
-            raise Wrong(f"`{word}` closes the run, and nothing stands behind it; here is `{rest[0]}`", rest[0].columns)
+            raise Wrong(f"`{word}` closes the run, and nothing stands after it; here is `{rest[0]}`", rest[0].columns)
 
 
 def check_clusters(words, header):
@@ -366,7 +367,7 @@ class Reader:
         if words[1] != self.burst:
             raise Wrong(f"the burst is at `{self.burst}`, and so is each line of it; this one is at `{words[1]}`", words[1].columns)
 
-    def fault_behind(self, number, is_empty):
+    def fault_at_end(self, number, is_empty):
         """The fault of a text that ends here, or None."""
         if not self.header.is_past_limit:
             wanted = HEADER[self.header.read]
@@ -391,6 +392,6 @@ def script_faults(text):
     if len(lines) > MOST_LINES:
         yield Fault(MOST_LINES + 1, "LineLimit", f"the script has {len(lines):,} lines, and {MOST_LINES:,} are the most", None)
         return
-    last = reader.fault_behind(len(lines) + 1, not text)
+    last = reader.fault_at_end(len(lines) + 1, not text)
     if last:
         yield last

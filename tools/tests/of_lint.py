@@ -13,7 +13,7 @@ from faults import text_of  # noqa: E402
 from script_faults import ACTIONS, COMMANDS, OTHERS, script_faults  # noqa: E402
 
 HEAD = "ndc 1\nincrement 10\nshards 2\nlimit 100\ncluster A 1\ncluster B 2\n"
-# Lines behind that header: the line, the column of the word, the cause, and what is told of it.
+# Lines after that header: the line, the column of the word, the cause, and what is told of it.
 BODY = [
     ("singal A alpha w1 p x", 1, "BadLine", "the nearest is `signal`"),
     ("SETTLE", 1, "BadLine", "the nearest is `settle`"),
@@ -29,14 +29,14 @@ BODY = [
     ("A signal alpha w1 p x", 1, "BadLine", "`A` is a cluster"),
     ("timer t A", 1, "BadLine", "an action of `respond`"),
     ("shards 3", 1, "BadLine", "a line of the header"),
-    ("end", 1, "BadLine", "behind a `burst` alone"),
+    ("end", 1, "BadLine", "after a `burst` alone"),
     ("9 ok 1.1", 1, "BadLine", "a report's has"),
     ("levels A B 2", 12, "BadLine", "SHARD is 0 to 1"),
     ("pull A B 0 1000001", 12, "BadLine", "COUNT is 0 to 1,000,000"),
     ("pull A B 0", 11, "BadLine", "COUNT is missing"),
     ("reset A alpha w1 0", 18, "BadLine", "EVENT is 1 to 1,000,000"),
     ("reset A alpha w1 -4", 18, "BadLine", "has a sign"),
-    ("lose A B 0 01", 12, "BadLine", "a zero in front"),
+    ("lose A B 0 01", 12, "BadLine", "a leading zero"),
     ("lose A B 0 1.0", 12, "BadLine", "is no number"),
     ("retain A alpha 1001", 16, "BadLine", "DAYS is 1 to 1,000"),
     ("pull A A", 8, "BadLine", "READER and SOURCE differ"),
@@ -65,7 +65,7 @@ HEADERS = [
     ("ndc 2\n", "1:5", "BadHeader", "the number 1, and not 2"),
     ("ndc 1\nincremnt 10\n", "2:1", "BadHeader", "the nearest is `increment`"),
     ("ndc 1\nincrement 0\n", "2:11", "IncrementLimit", "1 to 1,000,000,000,000"),
-    ("ndc 1\nincrement 01\n", "2:11", "BadHeader", "a zero in front"),
+    ("ndc 1\nincrement 01\n", "2:11", "BadHeader", "a leading zero"),
     (HEAD.replace("shards 2", "shards 65"), "3:8", "BadHeader", "S is 1 to 64"),
     (HEAD.replace("limit 100", "limit 9"), "4:7", "BadHeader", "L is 10 to 204,800"),
     (HEAD.replace("limit 100\n", ""), "4:1", "BadHeader", "goes on with `limit L`"),
@@ -90,7 +90,12 @@ DUMPS = [
     ("WorkflowExecutionStarted", "WorkflowStarted", "2: Range", "the nearest is `WorkflowExecutionStarted`"),
     ('{"domain"', '{ "domain"', "2:2: NotCanonical", "written otherwise"),
     ('"order"', "order", "2:108: NotJson", "no JSON from here"),
-    ('"eventId":2,', '"eventId":3,', "2: IdsNotConsecutive", "behind event 1 comes 3"),
+    ('"order"', '"\\ud800"', "2: NotJson", "half of a pair"),
+    ('"order"', '"\xff"', "2:109: NotJson", "UTF-8"),
+    ('"task":1,"version":1,"workflow"', '"task":1e999,"version":1,"workflow"', "2: NotJson", "greater than a float"),
+    ('"task":1,"version":1,"workflow"', '"task":NaN,"version":1,"workflow"', "2: NotJson", "no value of JSON"),
+    ('"task":1,"version":1,"workflow"', '"task":1,"task":1,"version":1,"workflow"', "2:249: NotCanonical", "the key `task` stands twice"),
+    ('"eventId":2,', '"eventId":3,', "2: IdsNotConsecutive", "after event 1 comes 3"),
     ('"parent":null', '"parent":{"task":1,"version":1}', "2: BadFirst", "its first event is not event 1"),
     ('"eventId":2,"eventType":"DecisionTaskScheduled","version":1', '"eventId":2,"eventType":"DecisionTaskScheduled","version":2', "2: MixedVersions", "event 2 has version 2"),
     ('"workflow":"w1"', '"workflow":"w2"', "2: Foreign", "alpha w2"),
@@ -104,7 +109,7 @@ DUMPS = [
     ("branch 1.2 3@1\n", "", "7:1: BadView", "wanted: branch 1.2 3@1"),
     ("end\n", "end", "11:4: BadView", "no line end"),
     ("end\n", "", "11: BadView", "wanted: end"),
-    ("end\n", "end\nmore\n", "12:1: BadView", "behind the line `end`"),
+    ("end\n", "end\nmore\n", "12:1: BadView", "after the line `end`"),
 ]
 
 
@@ -172,9 +177,9 @@ def test_lint_of_headers():
 
 def test_lint_of_dumps():
     whole = dump_of_conflict()
-    for before, behind, place, part in DUMPS:
+    for before, after, place, part in DUMPS:
         assert before in whole, before
-        told = linted(whole.replace(before, behind, 1), "--dump", status=7)
+        told = linted(whole.replace(before, after, 1), "--dump", status=7)
         holds(part, told)
         assert told.startswith(f"it:{place}: "), f"{place}: {told}"
 

@@ -43,12 +43,22 @@ def test_trace_has_rows_of_faults_and_of_who_writes():
     same({it: rows.get(str(it)) for it in range(11, 24)}, {11: None, 19: None, **wanted})
 
 
+def test_trace_names_a_burst():
+    holds("13 burst A .. end          +1.2 -> 1.2", traced("burst A\nsignal A alpha w1 p x\n\nend\n", status=0))
+
+
 def test_trace_fits_a_page():
     for most in (60, 80, 120):
         for name in EXAMPLES:
             domain, workflow = re.search(r"^start \S+ (\S+) (\S+)", read(name), re.M).groups()
             rows = tool("trace", "--width", str(most), name, domain, workflow).splitlines()
             assert max(map(len, rows)) <= most and len(rows) > 2, (name, most)
+    names = ["A" * 50, *"BCDEFGH"]
+    many = "ndc 1\nincrement 10\nshards 1\nlimit 100\n" + "".join(f"cluster {name} {at}\n" for at, name in enumerate(names))
+    many += f"register {names[0]} alpha {names[0]} 7\nstart {names[0]} alpha w1 order\ndomains B {names[0]}\nfailover B alpha B\nsettle\n"
+    rows = tool("trace", "--width", "103", "-", "alpha", "w1", given=many).splitlines()
+    assert max(map(len, rows)) <= 103 and sum(it.count("A") for it in rows if "register" not in it) >= 100, rows
+    holds("at least 103 characters", refused("trace", "--width", "102", "-", "alpha", "w1", given=many))
     whole = "".join(tool("trace", "--width", "60", LOSS, "alpha", "w1").split())
     assert all("".join(it.split()) in whole for it in ("waits 1.4 for 1.1", "+1.1 +1.2 +1.3 +1.4"))
 
