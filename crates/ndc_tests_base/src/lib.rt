@@ -28,6 +28,8 @@ mod reset;
 #[cfg(test)]
 mod run;
 #[cfg(test)]
+mod runs;
+#[cfg(test)]
 mod state;
 #[cfg(test)]
 mod tree;

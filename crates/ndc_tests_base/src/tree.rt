@@ -1,5 +1,5 @@
 use crate::given::{self, item, key};
-use ndc_event::{BatchKey, OutOfMemory, RunId};
+use ndc_event::{BatchKey, EventKind, Name, OutOfMemory, RunId};
 use ndc_history::Item;
 use ndc_tree::{Inserted, Tree, TreeError};
 use std::alloc::Global;
@@ -50,5 +50,34 @@ fn a_branch_forks_off(rt: HostRuntime) -> Result<(), Fail> {
         path(&tree, alloc, branch)?.as_slice(),
         [first, branch].as_slice()
     );
+    Ok(())
+}
+
+// Whether the event of this version and id is a signal of this name.
+fn is_signal(tree: &Tree, version: u64, id: u64, name: &Name) -> bool {
+    match tree.event(version, id) {
+        None => false,
+        Some(event) => match &event.kind {
+            EventKind::WorkflowExecutionSignaled { signal_name, .. } => signal_name == name,
+            _ => false,
+        },
+    }
+}
+
+// Whether the tree has an event of this version and id.
+fn has(tree: &Tree, version: u64, id: u64) -> bool {
+    tree.event(version, id).is_some()
+}
+
+#[test]
+fn an_event_is_found_on_the_branch_of_its_version(rt: HostRuntime) -> Result<(), Fail> {
+    let alloc = rt.alloc();
+    let (tree, _inserted) = forked(alloc)?;
+    let (ping, pong) = (given::name(alloc, "ping")?, given::name(alloc, "pong")?);
+    assert!(rt; is_signal(&tree, 1, 3, &ping) && is_signal(&tree, 2, 3, &pong));
+    assert!(rt; has(&tree, 1, 1) && has(&tree, 1, 2));
+    assert!(rt; !is_signal(&tree, 1, 2, &ping));
+    assert!(rt; !has(&tree, 1, 0) && !has(&tree, 1, 4));
+    assert!(rt; !has(&tree, 2, 2) && !has(&tree, 3, 3));
     Ok(())
 }
