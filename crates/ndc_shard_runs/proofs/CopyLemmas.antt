@@ -1,7 +1,6 @@
 -- Copied signals fit exactly where what their origins find is their original.
 use Rattle.std.proofs.Common.{◌≡◌, ◌<◌, ◌≤◌, ◌⊎◌, ℕ, Bool, true, false, List, [], ◌∷◌, inl, inr, Option, Some, None, if◌then◌else◌, refl, sym, ◌∙◌, subst, ap, arith}
-use Rattle.std.specs.Prelude.{◌↔◌}
-use Rattle.std.specs.List.{AllByRecursion, list_all}
+use Rattle.std.specs.List.{AllByRecursion}
 use Rattle.std.specs.Str.{bytes_eq}
 use Rattle.std.proofs.lemmas.Bool.{and_from, and_parts, eqb-true, eq-eqb}
 use Rattle.std.proofs.lemmas.Bool.{cases_lt}
@@ -17,13 +16,12 @@ use Rattle.ndc_event.specs.declared.kind.EventKind.TheVariants.{WorkflowExecutio
 use Rattle.ndc_event.specs.declared.name.Name.{Name}
 use Rattle.ndc_model_sets.specs.Branches.{same_run}
 use Rattle.ndc_model_sets.specs.Sound.{IsCopyFit, IsSound, Names}
-use Rattle.ndc_model_sets.specs.Writing.{CopiesFitWith}
-use Rattle.ndc_model_sets.proofs.BranchLemmas.{among-has, has-among, run-same, same-run}
+use Rattle.ndc_model_sets.proofs.BranchLemmas.{run-same, same-run}
 use Rattle.ndc_model_sets.proofs.Lists.{Among, all-among, all-from, each-list_all, list_all-each}
 use Rattle.ndc_tree.specs.Events.{AreVersionsInIdOrder, event_at, event_of as event_of_id}
 use Rattle.ndc_tree.proofs.IdLemmas.{other-batches, own-batches}
 use Rattle.ndc_tree.proofs.RiseLemmas.{event-found, found}
-use Rattle.ndc_shard_runs.specs.Copies.{CopiesFitInto, are_fit_copies, are_fit_to, event_of, is_fit_copy, is_fit_to, is_none_or_original, is_original}
+use Rattle.ndc_shard_runs.specs.Copies.{CopiesFitInto, are_fit_copies, event_of, is_fit_copy, is_none_or_original, is_original}
 use Rattle.ndc_shard_runs.specs.RunMap.{part_of}
 use Rattle.ndc_shard_runs.proofs.OriginLemmas.{found-named, named-found}
 
@@ -129,36 +127,3 @@ module _ (batches : List Batch) (b : Batch) (sound : IsSound batches) (ok : faul
 
   pub fit-tested : CopiesFitInto batches b → are_fit_copies batches b ≡ true
   fit-tested fit = list_all-each (λ event. is_fit_copy batches b event.kind) b.events (λ copy h. fit-one fit copy h copy.kind refl)
-
--- copies in another batch that fit this one
-module _ (b other : Batch) (ok : fault_of b ≡ None) where
-  to-tested : are_fit_to b other ≡ true → AllByRecursion (λ copy. AllByRecursion (IsCopyFit copy b.run) b.events) other.events
-  to-tested all =
-      all-from (λ copy. AllByRecursion (IsCopyFit copy b.run) b.events) other.events
-      (λ copy h. all-from (IsCopyFit copy b.run) b.events
-      (λ event k name input origin e names. original-found name input (event_of origin (b ∷ [])) event (own-found b ok origin event k names)
-      (sym (ap (is_fit_to b) e) ∙ each-list_all (λ x. is_fit_to b x.kind) other.events copy all h)))
-
-  to-one : AllByRecursion (λ copy. AllByRecursion (IsCopyFit copy b.run) b.events) other.events → (copy : Event) → Among copy other.events → (kind : EventKind) → copy.kind ≡ kind → is_fit_to b kind ≡ true
-  to-one fit copy h (WorkflowExecutionSignaled name input (Some origin)) e =
-      found-original name input (event_of origin (b ∷ [])) (λ event at.
-      let n = own-named b ok origin event at in
-      all-among (IsCopyFit copy b.run) b.events event (all-among (λ c. AllByRecursion (IsCopyFit c b.run) b.events) other.events copy fit h) n.0 name input origin e n.1)
-  to-one fit copy h (WorkflowExecutionSignaled name input None) e = refl
-  to-one fit copy h _ e = refl
-
-  to-fit : AllByRecursion (λ copy. AllByRecursion (IsCopyFit copy b.run) b.events) other.events → are_fit_to b other ≡ true
-  to-fit fit = list_all-each (λ x. is_fit_to b x.kind) other.events (λ copy h. to-one fit copy h copy.kind refl)
-
--- both directions
-pub both-ways : (batches : List Batch) (b : Batch) → IsSound batches → fault_of b ≡ None → CopiesFitInto batches b → (list_all (are_fit_to b) batches ≡ true) ↔ CopiesFitWith batches b
-both-ways batches b sound ok into = (
-  λ all. record {
-    own = into.own;
-    others = λ x has. record { mine = into.others x has; theirs = to-tested b x ok (each-list_all (are_fit_to b) batches x all (has-among batches x has)) };
-  },
-  λ fit. list_all-each (are_fit_to b) batches (λ x h. to-fit b x ok (fit.others x (among-has batches x sound.set.ordered h)).theirs),
-)
-
-pub into-part : (batches : List Batch) (b : Batch) → CopiesFitWith batches b → CopiesFitInto batches b
-into-part batches b fit = record { own = fit.own; others = λ x has. (fit.others x has).mine }

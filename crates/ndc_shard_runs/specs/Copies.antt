@@ -40,12 +40,3 @@ is_fit_copy batches b _ = true
 -- whether this holds of each event of a batch
 abbrev pub are_fit_copies : List Batch → Batch → Bool
 are_fit_copies batches b = list_all (λ event. is_fit_copy batches b event.kind) b.events
-
--- whether an event of this kind is no copied signal, or names nothing but its original in a batch
-abbrev pub is_fit_to : Batch → EventKind → Bool
-is_fit_to b (WorkflowExecutionSignaled name input (Some origin)) = is_none_or_original name input (event_of origin (b ∷ []))
-is_fit_to b _ = true
-
--- whether this holds of each event of another batch
-abbrev pub are_fit_to : Batch → Batch → Bool
-are_fit_to b other = list_all (λ event. is_fit_to b event.kind) other.events

@@ -1,18 +1,16 @@
 // Whether the copied signals of a batch fit the events that their origins name.
-ghost use Rattle.std.specs.Prelude.{◌≡◌, [], ◌∷◌, map, None, IfOk, IsTrue, ◌↔◌};
+ghost use Rattle.std.specs.Prelude.{◌≡◌, [], ◌∷◌, None, IsTrue, ◌↔◌};
 ghost use Rattle.std.specs.List.{list_all};
 ghost use Rattle.std.specs.Option.{option_copied};
 ghost use Rattle.ndc_event.specs.Batch.{fault_of};
-ghost use Rattle.ndc_shard_runs.specs.Copies.{are_fit_copies, are_fit_to, event_of, is_fit_copy, is_fit_to, is_none_or_original, is_original};
+ghost use Rattle.ndc_shard_runs.specs.Copies.{are_fit_copies, event_of, is_fit_copy, is_none_or_original, is_original};
 
 use crate::runs::Runs;
-use ndc_event::{Batch, Event, EventKind, Name, Origin, OutOfMemory};
+use ndc_event::{Batch, Event, EventKind, Name, Origin};
 use ndc_tree::event_in;
-use std::alloc::Global;
 
 impl Runs {
-    ghost use Rattle.std.specs.Prelude.{◌≡◌, None, IfOk, IsTrue, ◌↔◌};
-    ghost use Rattle.ndc_model_sets.specs.Writing.{CopiesFitWith};
+    ghost use Rattle.std.specs.Prelude.{◌≡◌, None, IsTrue, ◌↔◌};
     ghost use Rattle.ndc_event.specs.Batch.{fault_of};
     ghost use Rattle.ndc_shard_runs.specs.Copies.{are_fit_copies, CopiesFitInto, is_fit_copy};
 
@@ -25,19 +23,6 @@ impl Runs {
         // What is learned is sound, so an origin names one event.
         let _key = self.last_key();
         self.are_fit_copies(batch)
-    }
-
-    /// Whether copied signals fit in both directions: those of the batch, as [`Runs::copies_fit`] tells, and those that are
-    /// learned, where the origin of one names an event of the batch. In time of all learned events.
-    pub fn copies_fit_both_ways(&self, alloc: Global, batch: &Batch) -> Result<bool, OutOfMemory>
-        requires { fault_of batch.now ≡ None }
-        ensures { IfOk result (λ fit. IsTrue fit ↔ CopiesFitWith self.now batch.now) }
-    {
-        if !self.copies_fit(batch) {
-            return Ok(false);
-        }
-        let batches = self.batches(alloc)?;
-        Ok(are_all_fit_to(batch, batches.as_slice()))
     }
 
     /// Whether none of the batch's events is a copied signal that does not fit.
@@ -72,50 +57,6 @@ impl Runs {
             },
             _ => true,
         }
-    }
-}
-
-/// Whether the copied signals of these batches fit this one.
-fn are_all_fit_to(batch: &Batch, others: &[&Batch]) -> bool
-    requires { fault_of batch.now ≡ None }
-    ensures { result ≡ list_all (are_fit_to batch.now) (map (λ b. b.now) others.now) }
-{
-    for other in others {
-        if !are_fit_to(batch, other.events.as_slice()) {
-            return false;
-        }
-    }
-    true
-}
-
-/// Whether the copied signals among these events fit the batch.
-fn are_fit_to(batch: &Batch, events: &[Event]) -> bool
-    requires { fault_of batch.now ≡ None }
-    ensures { result ≡ list_all (λ event. is_fit_to batch.now event.kind) events.now }
-{
-    for event in events {
-        if !is_fit_to(batch, &event.kind) {
-            return false;
-        }
-    }
-    true
-}
-
-/// Whether an event of this kind is no copied signal, or one that fits the batch.
-fn is_fit_to(batch: &Batch, kind: &EventKind) -> bool
-    requires { fault_of batch.now ≡ None }
-    ensures { result ≡ is_fit_to batch.now kind.now }
-{
-    match kind {
-        EventKind::WorkflowExecutionSignaled {
-            signal_name,
-            input,
-            origin,
-        } => match origin.as_ref() {
-            None => true,
-            Some(origin) => { is_none_or_original(own_event(batch, origin), signal_name, input) }
-        },
-        _ => true,
     }
 }
 

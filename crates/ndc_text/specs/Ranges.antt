@@ -1,6 +1,5 @@
 -- The ranges of what a batch text holds.
-use Rattle.std.specs.Prelude.{ℕ, ◌/◌, ◌%◌, ◌^◌, Bool, true, ◌&&◌, nat_le, List, [], ◌∷◌, Option, Some, None, IsTrue, ⊤}
-use Rattle.std.specs.List.{list_all}
+use Rattle.std.specs.Prelude.{ℕ, ◌/◌, ◌%◌, ◌^◌, Bool, ◌&&◌, nat_le, List, [], ◌∷◌, Option, Some, None, IsTrue, ⊤}
 use Rattle.ndc_event.specs.Name.{is_name}
 use Rattle.ndc_event.specs.declared.batch.Batch.{Batch}
 use Rattle.ndc_event.specs.declared.batch.Event.{Event}
@@ -86,33 +85,3 @@ pub record InRange (b : Batch) : Type 0 where
   pub carrier : OptionKeyFits b.carrier
   pub parent : OptionKeyFits b.parent
   pub events : EventsFit b.events
-
--- whether a key's numbers are in range
-abbrev pub is_key_in_range : BatchKey → Bool
-is_key_in_range key = is_id key.task && is_version key.version
-
--- those of a key, where there is one
-abbrev pub is_option_in_range : Option BatchKey → Bool
-is_option_in_range None = true
-is_option_in_range (Some key) = is_key_in_range key
-
--- those of an origin, where there is one
-abbrev pub is_origin_in_range : Option Origin → Bool
-is_origin_in_range None = true
-is_origin_in_range (Some o) = is_id o.event && (is_run o.run.value && is_version o.version)
-
--- those in the attributes of an event
-abbrev pub is_kind_in_range : EventKind → Bool
-is_kind_in_range (WorkflowExecutionSignaled name input origin) = is_origin_in_range origin
-is_kind_in_range (WorkflowExecutionContinuedAsNew run type) = is_run run.value
-is_kind_in_range _ = true
-
--- those of an event
-abbrev pub is_event_in_range : Event → Bool
-is_event_in_range e = is_id e.id && (is_version e.version && is_kind_in_range e.kind)
-
--- those of a batch and of its events
-abbrev pub is_in_range : Batch → Bool
-is_in_range b =
-    (is_run b.run.value && is_key_in_range b.key)
-    && ((is_option_in_range b.parent && is_option_in_range b.carrier) && list_all is_event_in_range b.events)

@@ -10,7 +10,6 @@ mod laws;
 pub mod line;
 mod member;
 mod print;
-mod range;
 mod read;
 mod tag;
 
@@ -22,5 +21,4 @@ pub use laws::{
     read_bare_where_printed, read_where_printed, refused_for_a_fault,
 };
 pub use print::print_batch;
-pub use range::is_in_range;
 pub use read::{read_batch, read_batch_1};

@@ -13,9 +13,9 @@ use std::alloc::Global;
 use uuid::Uuid;
 
 /// The greatest event id and task.
-pub(crate) const MAX_ID: u64 = 1_000_000_000_000;
+const MAX_ID: u64 = 1_000_000_000_000;
 /// The greatest version.
-pub(crate) const MAX_VERSION: u64 = 10_000_000_000_000;
+const MAX_VERSION: u64 = 10_000_000_000_000;
 
 /// Whether something stands at the key.
 fn has_key(value: &Value, key: &str) -> bool
