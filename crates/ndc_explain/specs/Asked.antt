@@ -93,7 +93,7 @@ bared form all [] = limited form all false []
 bared form all (word ∷ words) = if bytes_eq word (codes "--bare") then limited form all true words else limited form all false (word ∷ words)
 
 -- this form: with all events where `--all` stands before the others
-abbrev pub request_for : Form → List (List ℕ) → Result Request WordsError
+unfoldable pub request_for : Form → List (List ℕ) → Result Request WordsError
 request_for form [] = bared form false []
 request_for form (word ∷ words) = if bytes_eq word (codes "--all") then bared form true words else bared form false (word ∷ words)
 

@@ -236,6 +236,7 @@ fn bared(alloc: Global, form: Form, all: bool, words: &[String]) -> Result<Reque
 }
 
 /// This form: with all events where `--all` stands before the others.
+#[tactic(auto, unfolding(crate::specs::Asked::request_for))]
 fn request_for(alloc: Global, form: Form, words: &[String]) -> Result<Request, WordsError>
     ensures { Gives Memory (λ request. request) result (request_for form (map string_bytes words.now)) }
 {
