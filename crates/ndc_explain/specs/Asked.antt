@@ -93,9 +93,14 @@ bared form all [] = limited form all false []
 bared form all (word ∷ words) = if bytes_eq word (codes "--bare") then limited form all true words else limited form all false (word ∷ words)
 
 -- this form: with all events where `--all` stands before the others
-abbrev pub request_for : Form → List (List ℕ) → Result Request WordsError
+unfoldable pub request_for : Form → List (List ℕ) → Result Request WordsError
 request_for form [] = bared form false []
 request_for form (word ∷ words) = if bytes_eq word (codes "--all") then bared form true words else bared form false (word ∷ words)
+
+-- the dump itself where `view` stands before the others, or else text
+unfoldable pub view_or_text : List (List ℕ) → Result Request WordsError
+view_or_text [] = request_for Text []
+view_or_text (word ∷ words) = if bytes_eq word (codes "view") then request_for View words else request_for Text (word ∷ words)
 
 -- what the words ask for: a picture where `--picture` or `--picture=text` stands before the others, the dump itself where `view` does, or else text
 abbrev pub asked_of : List (List ℕ) → Result Request WordsError
@@ -103,5 +108,4 @@ asked_of [] = request_for Text []
 asked_of (word ∷ words) =
     if bytes_eq word (codes "--picture") then request_for Picture words
     else if bytes_eq word (codes "--picture=text") then request_for TreePicture words
-    else if bytes_eq word (codes "view") then request_for View words
-    else request_for Text (word ∷ words)
+    else view_or_text (word ∷ words)

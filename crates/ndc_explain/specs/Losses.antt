@@ -15,7 +15,7 @@ use Rattle.ndc_explain.specs.Pieces.{behind_space, by_text}
 use Rattle.ndc_explain.specs.Writers.{writer_name}
 
 -- an event with its kind and its names, which are an id, a type, a result or a reason, and its batch
-abbrev pub event_text : Option ClusterList → BatchKey → Event → List ℕ
+unfoldable pub event_text : Option ClusterList → BatchKey → Event → List ℕ
 event_text clusters key event =
     concat (
     codes "event " ∷ item_text (item_of event) ∷ codes " " ∷ kind_name event.kind ∷ behind_space (unwrap_or (first_name event.kind) [])
@@ -37,10 +37,13 @@ is_told_as all both loss = is_told all loss.event && (if both then loss.is_both 
 abbrev pub loss_head : Bool → List ℕ
 loss_head both = if both then codes "on both: " else codes "re-drive: "
 
+-- the end of a line, with the event that stands beside
+unfoldable pub beside_end : Option ClusterList → Option Traced → List ℕ
+beside_end clusters beside = codes "; beside it: " ++ (beside_text clusters beside ++ codes "\n")
+
 -- the line of a lost event, with what stands beside it
 unfoldable pub loss_line : Option ClusterList → Bool → Lost → List ℕ
-loss_line clusters both loss =
-    loss_head both ++ (event_text clusters loss.key loss.event ++ (codes "; beside it: " ++ (beside_text clusters loss.beside ++ codes "\n")))
+loss_line clusters both loss = loss_head both ++ (event_text clusters loss.key loss.event ++ beside_end clusters loss.beside)
 
 -- its line, where it is told so
 abbrev pub loss_told : Option ClusterList → Bool → Bool → Lost → List ℕ

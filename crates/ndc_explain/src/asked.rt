@@ -6,7 +6,7 @@ ghost use Rattle.ndc_domain.specs.Clusters.{clusters_of};
 ghost use Rattle.ndc_event.specs.Outcome.{Gives};
 ghost use Rattle.ndc_tool_words.specs.declared.error.WordsError.TheVariants.{Memory};
 ghost use Rattle.ndc_script_words.specs.Number.{number_of};
-ghost use Rattle.ndc_explain.specs.Asked.{asked_of, bared, clusters_on, clusters_or, limited, member_in, member_of, member_with, members_on, name_on, named_by, number_or, request_for, request_with, request_within};
+ghost use Rattle.ndc_explain.specs.Asked.{asked_of, bared, clusters_on, clusters_or, limited, member_in, member_of, member_with, members_on, name_on, named_by, number_or, request_for, request_with, request_within, view_or_text};
 
 use ndc_domain::Clusters;
 use ndc_event::{Name, NameError, OutOfMemory};
@@ -236,6 +236,7 @@ fn bared(alloc: Global, form: Form, all: bool, words: &[String]) -> Result<Reque
 }
 
 /// This form: with all events where `--all` stands before the others.
+#[tactic(auto, unfolding(crate::specs::Asked::request_for))]
 fn request_for(alloc: Global, form: Form, words: &[String]) -> Result<Request, WordsError>
     ensures { Gives Memory (λ request. request) result (request_for form (map string_bytes words.now)) }
 {
@@ -246,6 +247,23 @@ fn request_for(alloc: Global, form: Form, words: &[String]) -> Result<Request, W
                 bared(alloc, form, true, others)
             } else {
                 bared(alloc, form, false, words)
+            }
+        }
+    }
+}
+
+/// The dump itself where `view` stands before the others, or else text.
+#[tactic(auto, unfolding(crate::specs::Asked::view_or_text))]
+fn view_or_text(alloc: Global, words: &[String]) -> Result<Request, WordsError>
+    ensures { Gives Memory (λ request. request) result (view_or_text (map string_bytes words.now)) }
+{
+    match words {
+        [] => request_for(alloc, Form::Text, words),
+        [word, others @ ..] => {
+            if word.as_bytes() == b"view".as_slice() {
+                request_for(alloc, Form::View, others)
+            } else {
+                request_for(alloc, Form::Text, words)
             }
         }
     }
@@ -263,10 +281,8 @@ pub(crate) fn asked_of(alloc: Global, words: &[String]) -> Result<Request, Words
                 request_for(alloc, Form::Picture, others)
             } else if word.as_bytes() == b"--picture=text".as_slice() {
                 request_for(alloc, Form::TreePicture, others)
-            } else if word.as_bytes() == b"view".as_slice() {
-                request_for(alloc, Form::View, others)
             } else {
-                request_for(alloc, Form::Text, words)
+                view_or_text(alloc, words)
             }
         }
     }

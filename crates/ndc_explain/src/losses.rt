@@ -1,7 +1,7 @@
 //! What both sides had: what is to be driven again, what happened on both, and what happened on a current branch alone.
 ghost use Rattle.std.specs.Prelude.{◌≡◌, ◌++◌, OnOk, true, false};
 ghost use Rattle.std.specs.List.{flat_map};
-ghost use Rattle.ndc_explain.specs.Losses.{alone_count, alone_line, alone_told, beside_text, event_text, is_told, is_told_as, loss_count, loss_head, loss_line, loss_told, sides_told};
+ghost use Rattle.ndc_explain.specs.Losses.{alone_count, alone_line, alone_told, beside_end, beside_text, event_text, is_told, is_told_as, loss_count, loss_head, loss_line, loss_told, sides_told};
 
 use crate::piece::{Piece, push_pieces};
 use crate::writer::writer_name;
@@ -54,6 +54,7 @@ pub(crate) fn alone_count(all: bool, alone: &[Trace]) -> usize
 }
 
 /// Appends an event with its kind, its names and its batch.
+#[tactic(auto, unfolding(crate::specs::Losses::event_text))]
 fn push_event<'x>(
     text: &mut Vec<u8>,
     clusters: &'x Option<Clusters>,
@@ -95,6 +96,20 @@ fn push_beside(
     }
 }
 
+/// Appends the end of a line, with the event that stands beside.
+#[tactic(auto, unfolding(crate::specs::Losses::beside_end))]
+fn push_beside_end(
+    text: &mut Vec<u8>,
+    clusters: &Option<Clusters>,
+    beside: &Option<Trace>,
+) -> Result<(), OutOfMemory>
+    ensures { OnOk result (text.new.items ≡ text.old.items ++ beside_end clusters.now beside.now) }
+{
+    text.extend_from_slice(b"; beside it: ")?;
+    push_beside(text, clusters, beside)?;
+    text.extend_from_slice(b"\n")
+}
+
 /// With what the line of a lost event begins.
 fn loss_head(both: bool) -> &'static str
     ensures { result.now ≡ loss_head both }
@@ -114,9 +129,7 @@ fn push_loss(
 {
     text.extend_from_slice(loss_head(both).as_bytes())?;
     push_event(text, clusters, loss.key, loss.event)?;
-    text.extend_from_slice(b"; beside it: ")?;
-    push_beside(text, clusters, &loss.beside)?;
-    text.extend_from_slice(b"\n")
+    push_beside_end(text, clusters, &loss.beside)
 }
 
 /// Appends the line of a lost event, where it is told so.

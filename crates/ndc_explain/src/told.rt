@@ -93,10 +93,13 @@ fn findings(alloc: Global, view: &View) -> Result<Found, OutOfMemory>
 {
     let batches = view.batches.as_slice();
     let keys = standing(alloc, view)?;
+    let sides = sides_of(alloc, &keys, batches)?;
+    let signals = each_signal(alloc, batches)?;
+    let settlers = settlers_of(alloc, &keys, batches)?;
     Ok(Found {
-        sides: sides_of(alloc, &keys, batches)?,
-        signals: each_signal(alloc, batches)?,
-        settlers: settlers_of(alloc, &keys, batches)?,
+        sides,
+        signals,
+        settlers,
     })
 }
 
