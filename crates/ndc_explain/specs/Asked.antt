@@ -102,10 +102,12 @@ unfoldable pub view_or_text : List (List ℕ) → Result Request WordsError
 view_or_text [] = request_for Text []
 view_or_text (word ∷ words) = if bytes_eq word (codes "view") then request_for View words else request_for Text (word ∷ words)
 
+-- the picture in characters where `--picture=text` stands before the others, or else the dump itself or text
+unfoldable pub tree_or_view : List (List ℕ) → Result Request WordsError
+tree_or_view [] = view_or_text []
+tree_or_view (word ∷ words) = if bytes_eq word (codes "--picture=text") then request_for TreePicture words else view_or_text (word ∷ words)
+
 -- what the words ask for: a picture where `--picture` or `--picture=text` stands before the others, the dump itself where `view` does, or else text
 abbrev pub asked_of : List (List ℕ) → Result Request WordsError
-asked_of [] = request_for Text []
-asked_of (word ∷ words) =
-    if bytes_eq word (codes "--picture") then request_for Picture words
-    else if bytes_eq word (codes "--picture=text") then request_for TreePicture words
-    else view_or_text (word ∷ words)
+asked_of [] = tree_or_view []
+asked_of (word ∷ words) = if bytes_eq word (codes "--picture") then request_for Picture words else tree_or_view (word ∷ words)

@@ -6,7 +6,7 @@ ghost use Rattle.ndc_domain.specs.Clusters.{clusters_of};
 ghost use Rattle.ndc_event.specs.Outcome.{Gives};
 ghost use Rattle.ndc_tool_words.specs.declared.error.WordsError.TheVariants.{Memory};
 ghost use Rattle.ndc_script_words.specs.Number.{number_of};
-ghost use Rattle.ndc_explain.specs.Asked.{asked_of, bared, clusters_on, clusters_or, limited, member_in, member_of, member_with, members_on, name_on, named_by, number_or, request_for, request_with, request_within, view_or_text};
+ghost use Rattle.ndc_explain.specs.Asked.{asked_of, bared, clusters_on, clusters_or, limited, member_in, member_of, member_with, members_on, name_on, named_by, number_or, request_for, request_with, request_within, tree_or_view, view_or_text};
 
 use ndc_domain::Clusters;
 use ndc_event::{Name, NameError, OutOfMemory};
@@ -269,20 +269,35 @@ fn view_or_text(alloc: Global, words: &[String]) -> Result<Request, WordsError>
     }
 }
 
+/// The picture in characters where `--picture=text` stands before the others, or else the dump itself or text.
+#[tactic(auto, unfolding(crate::specs::Asked::tree_or_view))]
+fn tree_or_view(alloc: Global, words: &[String]) -> Result<Request, WordsError>
+    ensures { Gives Memory (λ request. request) result (tree_or_view (map string_bytes words.now)) }
+{
+    match words {
+        [] => view_or_text(alloc, words),
+        [word, others @ ..] => {
+            if word.as_bytes() == b"--picture=text".as_slice() {
+                request_for(alloc, Form::TreePicture, others)
+            } else {
+                view_or_text(alloc, words)
+            }
+        }
+    }
+}
+
 /// What the words ask for: a picture where `--picture` or `--picture=text` stands before the others, the dump itself where
 /// `view` does, or else text.
 pub(crate) fn asked_of(alloc: Global, words: &[String]) -> Result<Request, WordsError>
     ensures { Gives Memory (λ request. request) result (asked_of (map string_bytes words.now)) }
 {
     match words {
-        [] => request_for(alloc, Form::Text, words),
+        [] => tree_or_view(alloc, words),
         [word, others @ ..] => {
             if word.as_bytes() == b"--picture".as_slice() {
                 request_for(alloc, Form::Picture, others)
-            } else if word.as_bytes() == b"--picture=text".as_slice() {
-                request_for(alloc, Form::TreePicture, others)
             } else {
-                view_or_text(alloc, words)
+                tree_or_view(alloc, words)
             }
         }
     }
