@@ -2,10 +2,12 @@
 ghost use Rattle.std.specs.Prelude.{◌≡◌, true, false, IfOk};
 ghost use Rattle.ndc_example_world.specs.Shown.{is_member, shown_of};
 ghost use Rattle.ndc_laws.specs.Promised.{LearnedTheSame};
+ghost use Rattle.ndc_world.specs.Standing.{IsSettledWorld};
 ghost use Rattle.ndc_model.specs.World.{cell_of};
 ghost use Rattle.ndc_model_cells.specs.Cells.{learned_of};
 ghost use Rattle.ndc_script_types.specs.WellFormed.{IsCluster, IsWellFormedHeader};
 
+use crate::error::StoryError;
 use crate::telling::{push_answer, push_count};
 use ndc_domain::ClusterNo;
 use ndc_dump::dump_text;
@@ -119,6 +121,35 @@ pub(crate) fn show_the_same(
         workflow,
     )?;
     Ok(here.as_slice() == there.as_slice())
+}
+
+/// Whether two clusters of a settled world show the same of a workflow. Where both are members of its domain, they do: that is
+/// promised, and proved here. Where one is not, [`StoryError::NoMember`].
+pub(crate) fn settled_alike(
+    alloc: Global,
+    world: &ShardWorld,
+    header: &Header,
+    one: ClusterNo,
+    two: ClusterNo,
+    domain: &Name,
+    workflow: &Name,
+) -> Result<bool, StoryError>
+    requires unspent { world.now.spent ≡ false }
+    requires header { world.now.header ≡ header.now }
+    requires fit { IsWellFormedHeader header.now }
+    requires settled { IsSettledWorld world.now }
+    requires one { IsCluster header.now one }
+    requires two { IsCluster header.now two }
+    ensures { IfOk result (λ same. same ≡ true) }
+{
+    if !is_member(world, header, one, domain) {
+        return Err(StoryError::NoMember);
+    }
+    if !is_member(world, header, two, domain) {
+        return Err(StoryError::NoMember);
+    }
+    let same = show_the_same(alloc, world, header, one, two, domain, workflow)?;
+    Ok(same)
 }
 
 /// The dump of what a cell shows of a workflow; nothing where it has learned nothing of it.

@@ -3,7 +3,7 @@ ghost use Rattle.std.specs.Prelude.{◌≡◌, true, IfOk};
 
 use crate::dumping::read_again;
 use crate::error::StoryError;
-use crate::looking::{self, cell, is_member, show_the_same, shown};
+use crate::looking::{self, cell, settled_alike, shown};
 use crate::making::{Made, cluster, command_line, start_of};
 use crate::running;
 use ndc_event::{BatchKey, Name, OutOfMemory};
@@ -105,8 +105,7 @@ impl<'a> Stage<'a> {
     }
 
     /// Lets all clusters come to the same state, and tells what that came to; and whether two of them then show the same of the
-    /// workflow. Where both are members of the domain, they do: that is promised, and proved here. Where one is not,
-    /// [`StoryError::NoMember`].
+    /// workflow, which they do where they are members of the domain. Where one is not, [`StoryError::NoMember`].
     pub(crate) fn settle<R: Threads + Sync>(
         &mut self,
         rt: &R,
@@ -120,14 +119,12 @@ impl<'a> Stage<'a> {
         if self.world.is_spent() {
             return Err(StoryError::Spent);
         }
-        let (one, two) = (cluster(self.header, one)?, cluster(self.header, two)?);
+        let one = cluster(self.header, one)?;
+        let two = cluster(self.header, two)?;
         running::settle(rt, alloc, &mut self.world, text)?;
         let (world, header) = (&self.world, self.header);
         let (domain, workflow) = (self.domain, self.workflow);
-        if !is_member(world, header, one, domain) || !is_member(world, header, two, domain) {
-            return Err(StoryError::NoMember);
-        }
-        let same = show_the_same(alloc, world, header, one, two, domain, workflow)?;
+        let same = settled_alike(alloc, world, header, one, two, domain, workflow)?;
         Ok(same)
     }
 
