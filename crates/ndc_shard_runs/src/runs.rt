@@ -106,6 +106,7 @@ impl Runs {
         self.strays.pass(batch, beside, follows);
         Ok(())
     }
+
     /// Learns a batch that comes next and whose copies and carrier fit, where its run takes it. Refused with
     /// [`RunError::MissingParent`] where its parent is of another run, with [`RunError::NotWellFormed`] where its first id is
     /// not one past the parent's last, or a batch of its version is no ancestor, and then with [`RunError::Invalid`] for the
