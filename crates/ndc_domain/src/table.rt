@@ -77,7 +77,7 @@ fn are_same(ours: &[DomainRecord], theirs: &[DomainRecord]) -> bool
 }
 
 impl DomainTable {
-    ghost use Rattle.std.specs.Prelude.{false, ◌≡◌, ◌↔◌, ◌<◌, ◌^◌, [], All, IfOk, IfSome, IsTrue, OnErr, OnOk, option_copied};
+    ghost use Rattle.std.specs.Prelude.{false, true, ◌≡◌, ◌≢◌, ◌↔◌, ◌<◌, ◌^◌, [], All, IfOk, IfSome, IsTrue, OnErr, OnOk, option_copied};
     ghost use Rattle.ndc_domain.specs.Merge.{merged, merge_count};
     ghost use Rattle.ndc_event.specs.Outcome.{Gives};
     ghost use Rattle.ndc_domain.specs.declared.record.DomainError.TheVariants.{Memory};
@@ -238,9 +238,10 @@ impl DomainTable {
         Ok(())
     }
 
-    /// Whether the other table has anything that this one has not, so that merging it changes this one. Takes no memory.
+    /// Whether the other table has anything that this one has not: merging it changes this one exactly then. Takes no memory.
     pub fn lacks(&self, other: &DomainTable) -> bool
-        ensures { result ≡ false → merged self.now other.now ≡ self.now }
+        ensures nothing { result ≡ false → merged self.now other.now ≡ self.now }
+        ensures something { result ≡ true → merged self.now other.now ≢ self.now }
     {
         let count = merge_count(self.records.as_slice(), other.records.as_slice());
         if count == 0 {

@@ -18,5 +18,5 @@ returns-clause-links c = always-ok c.merge.result links
       | else-lacks w ↦
           ap (λ list. list.items) w.links-is
           ∙ sym (links-same c.args.cluster c.args.ours.now c.args.links.now.items c.records-ours.ensures.table.ordered)
-          ∙ ap (λ (records : List DomainRecord). map (with_late c.args.cluster c.args.ours.now records) c.args.links.now.items) (sym (c.lacks.ensures w.if-lacks.false))
+          ∙ ap (λ (records : List DomainRecord). map (with_late c.args.cluster c.args.ours.now records) c.args.links.now.items) (sym (c.lacks.ensures.nothing w.if-lacks.false))
     ]
