@@ -130,6 +130,13 @@ def clusters_of(lines):
     return [words_of(it)[1] for it in lines[: header_length(lines)] if words_of(it)[:1] == ["cluster"] and len(words_of(it)) == 3]
 
 
+def members_of(lines):
+    """The increment, and the clusters' names and initial versions, as the header has them."""
+    header = [words_of(it) for it in lines[: header_length(lines)]]
+    increment = next((it[1] for it in header if it[:1] == ["increment"]), "")
+    return increment, [(it[1], it[2]) for it in header if it[:1] == ["cluster"]]
+
+
 def read_script(name):
     """The text of a file, or of standard input where the name is -; each byte is a character."""
     if name == "-":

@@ -1,6 +1,4 @@
-mod BlockLaws
-mod Endings
 mod LawProofs
 mod LossLaws
-mod PlaceLaws
+mod StandingLaws
 mod WaitingLaws

@@ -4,6 +4,8 @@ use Rattle.std.specs.List.{concat, flat_map, list_any}
 use Rattle.std.specs.Map.{lookup}
 use Rattle.ndc_domain.specs.Clusters.{ClusterList}
 use Rattle.ndc_event.specs.declared.key.Origin.{Origin}
+use Rattle.ndc_event.specs.declared.name.Name.{Name}
+use Rattle.ndc_model_sets.specs.Current.{is_zombie}
 use Rattle.ndc_model_sets.specs.Origins.{signals}
 use Rattle.ndc_model_sets.specs.declared.view.RunStatus.{RunStatus}
 use Rattle.ndc_model_sets.specs.declared.view.RunStatus.TheVariants.{Running, Zombie, Closed}
@@ -50,9 +52,29 @@ waits found origin = is_among origin (origins_of found.signals) && is_none (look
 abbrev pub waiting : Findings → ℕ
 waiting found = waiting_count found.settlers found.signals
 
+-- whether something is to be driven again
+abbrev pub has_lost : Findings → Bool
+has_lost found = nat_lt 0 (loss_count false false found.sides.lost)
+
+-- whether a signal waits
+abbrev pub has_waiting : Findings → Bool
+has_waiting found = nat_lt 0 (waiting found)
+
 -- whether something is to be driven again, or a signal waits
 abbrev pub leaves_any : Findings → Bool
-leaves_any found = nat_lt 0 (loss_count false false found.sides.lost) || nat_lt 0 (waiting found)
+leaves_any found = has_lost found || has_waiting found
+
+-- whether a run has several branches
+abbrev pub is_forked : RunView → Bool
+is_forked run = nat_lt 1 (length run.branches)
+
+-- whether a run of a view has several branches
+abbrev pub has_forks : View → Bool
+has_forks view = list_any is_forked view.runs
+
+-- whether a run of a view is a zombie
+abbrev pub has_zombies : View → Bool
+has_zombies view = list_any (λ run. is_zombie run.status) view.runs
 
 -- the last line: the counts
 abbrev pub counts_line : Bool → View → Findings → List ℕ
@@ -68,13 +90,15 @@ findings_told clusters all dump found =
     sides_told clusters all found.sides
     ++ (flat_map (signal_line clusters dump.workflow (is_open dump.view.runs) found.settlers) found.signals ++ counts_line all dump.view found)
 
--- the explanation with what was found
-abbrev pub explanation_with : Option ClusterList → Bool → Dump → Findings → List ℕ
-explanation_with clusters all dump found =
-    codes "workflow " ++ dump.domain ++ codes " " ++ dump.workflow ++ codes "\n" ++ flat_map (run_told clusters) dump.view.runs
-    ++ findings_told clusters all dump found
+-- the explanation behind its first line, with what was found: each run, and which of its branches leads; what both sides had; what became of
+-- each signal; the counts; with the events of decisions or without
+abbrev pub explained : Option ClusterList → Bool → Dump → Findings → List ℕ
+explained clusters all dump found = flat_map (run_told clusters) dump.view.runs ++ findings_told clusters all dump found
 
--- the explanation: the workflow; each run, and which of its branches leads; what both sides had; what became of each signal; the counts; with
--- the events of decisions or without
+-- the line that names a workflow
+abbrev pub workflow_line : Name → Name → List ℕ
+workflow_line domain workflow = codes "workflow " ++ domain ++ codes " " ++ workflow ++ codes "\n"
+
+-- the explanation: the workflow, and what is told of it
 abbrev pub explanation_of : Option ClusterList → Bool → Dump → List ℕ
-explanation_of clusters all dump = explanation_with clusters all dump (findings dump.view)
+explanation_of clusters all dump = workflow_line dump.domain dump.workflow ++ explained clusters all dump (findings dump.view)

@@ -5,12 +5,3 @@ pub mod Branches
 pub mod Standing
 pub mod Signals
 pub mod Explanation
-pub mod Blocks
-pub mod Places
-pub mod Layout
-pub mod Picture
-pub mod Graph
-pub mod Asked
-pub mod Told
-pub mod Reading
-pub mod Top

@@ -14,12 +14,20 @@ use Rattle.ndc_explain_sides.specs.Traces.{Traced}
 use Rattle.ndc_explain.specs.Pieces.{behind_space, by_text}
 use Rattle.ndc_explain.specs.Writers.{writer_name}
 
--- an event with its kind and its names, which are an id, a type, a result or a reason, and its batch
-unfoldable pub event_text : Option ClusterList → BatchKey → Event → List ℕ
-event_text clusters key event =
+-- an event with its kind and its names, which are an id, a type, a result or a reason
+unfoldable pub event_named : Event → List ℕ
+event_named event =
     concat (
     codes "event " ∷ item_text (item_of event) ∷ codes " " ∷ kind_name event.kind ∷ behind_space (unwrap_or (first_name event.kind) [])
-    ∷ behind_space (unwrap_or (second_name event.kind) []) ∷ codes " in batch " ∷ key_text key ∷ by_text (writer_name clusters key.version) ∷ [])
+    ∷ behind_space (unwrap_or (second_name event.kind) []) ∷ [])
+
+-- a batch with the cluster that wrote it
+unfoldable pub batch_named : Option ClusterList → BatchKey → List ℕ
+batch_named clusters key = concat (codes "batch " ∷ key_text key ∷ by_text (writer_name clusters key.version) ∷ [])
+
+-- an event with its kind, its names and its batch
+unfoldable pub event_text : Option ClusterList → BatchKey → Event → List ℕ
+event_text clusters key event = event_named event ++ (codes " in " ++ batch_named clusters key)
 
 -- the event of a current branch that stands beside
 abbrev pub beside_text : Option ClusterList → Option Traced → List ℕ

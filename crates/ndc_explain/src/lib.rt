@@ -1,26 +1,18 @@
 //! The explanation of a dump: which branch of each run leads and why, what is to be driven again, and what became of
-//! each signal; its picture; and the top call of the program that reads a dump and writes these.
+//! each signal.
 #![tactic(auto)]
 
-mod asked;
-mod blocks;
 mod branches;
-mod columns;
-mod fault;
-mod graph;
+mod explanation;
 pub mod laws;
-mod layout;
-mod losses;
-mod picture;
-mod piece;
-mod places;
-mod reading;
+pub mod losses;
+pub mod piece;
 mod settlers;
 mod signals;
-mod standing;
+pub mod standing;
 mod summary;
-mod told;
-mod top;
 mod writer;
 
-pub use top::explain_top;
+pub use explanation::{Found, findings, has_forks, has_zombies, push_explained};
+pub use summary::Summary;
+pub use writer::writer_name;

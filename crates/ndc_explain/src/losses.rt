@@ -1,7 +1,7 @@
 //! What both sides had: what is to be driven again, what happened on both, and what happened on a current branch alone.
 ghost use Rattle.std.specs.Prelude.{◌≡◌, ◌++◌, OnOk, true, false};
 ghost use Rattle.std.specs.List.{flat_map};
-ghost use Rattle.ndc_explain.specs.Losses.{alone_count, alone_line, alone_told, beside_end, beside_text, event_text, is_told, is_told_as, loss_count, loss_head, loss_line, loss_told, sides_told};
+ghost use Rattle.ndc_explain.specs.Losses.{alone_count, alone_line, alone_told, batch_named, beside_end, beside_text, event_named, event_text, is_told, is_told_as, loss_count, loss_head, loss_line, loss_told, sides_told};
 
 use crate::piece::{Piece, push_pieces};
 use crate::writer::writer_name;
@@ -53,15 +53,10 @@ pub(crate) fn alone_count(all: bool, alone: &[Trace]) -> usize
     count
 }
 
-/// Appends an event with its kind, its names and its batch.
-#[tactic(auto, unfolding(crate::specs::Losses::event_text))]
-fn push_event<'x>(
-    text: &mut Vec<u8>,
-    clusters: &'x Option<Clusters>,
-    key: BatchKey,
-    event: &'x Event,
-) -> Result<(), OutOfMemory>
-    ensures { OnOk result (text.new.items ≡ text.old.items ++ event_text clusters.now key event.now) }
+/// Appends an event with its kind and its names.
+#[tactic(auto, unfolding(crate::specs::Losses::event_named))]
+pub fn push_event(text: &mut Vec<u8>, event: &Event) -> Result<(), OutOfMemory>
+    ensures { OnOk result (text.new.items ≡ text.old.items ++ event_named event.now) }
 {
     push_pieces(
         text,
@@ -75,11 +70,42 @@ fn push_event<'x>(
             Piece::Plain(event.kind.name()),
             Piece::Name(first_name(&event.kind)),
             Piece::Name(second_name(&event.kind)),
-            Piece::Plain(" in batch "),
+        ],
+    )
+}
+
+/// Appends a batch with the cluster that wrote it.
+#[tactic(auto, unfolding(crate::specs::Losses::batch_named))]
+pub fn push_batch(
+    text: &mut Vec<u8>,
+    clusters: &Option<Clusters>,
+    key: BatchKey,
+) -> Result<(), OutOfMemory>
+    ensures { OnOk result (text.new.items ≡ text.old.items ++ batch_named clusters.now key) }
+{
+    push_pieces(
+        text,
+        &[
+            Piece::Plain("batch "),
             Piece::Key(key),
             Piece::Writer(writer_name(clusters, key.version)),
         ],
     )
+}
+
+/// Appends an event with its kind, its names and its batch.
+#[tactic(auto, unfolding(crate::specs::Losses::event_text))]
+fn push_event_in(
+    text: &mut Vec<u8>,
+    clusters: &Option<Clusters>,
+    key: BatchKey,
+    event: &Event,
+) -> Result<(), OutOfMemory>
+    ensures { OnOk result (text.new.items ≡ text.old.items ++ event_text clusters.now key event.now) }
+{
+    push_event(text, event)?;
+    text.extend_from_slice(b" in ")?;
+    push_batch(text, clusters, key)
 }
 
 /// Appends the event of a current branch that stands beside.
@@ -92,7 +118,7 @@ fn push_beside(
 {
     match beside {
         None => text.extend_from_slice(b"nothing"),
-        Some(trace) => push_event(text, clusters, trace.key, trace.event),
+        Some(trace) => push_event_in(text, clusters, trace.key, trace.event),
     }
 }
 
@@ -128,7 +154,7 @@ fn push_loss(
     ensures { OnOk result (text.new.items ≡ text.old.items ++ loss_line clusters.now both loss.now) }
 {
     text.extend_from_slice(loss_head(both).as_bytes())?;
-    push_event(text, clusters, loss.key, loss.event)?;
+    push_event_in(text, clusters, loss.key, loss.event)?;
     push_beside_end(text, clusters, &loss.beside)
 }
 
@@ -175,7 +201,7 @@ fn push_alone(
     ensures { OnOk result (text.new.items ≡ text.old.items ++ alone_line clusters.now trace.now) }
 {
     text.extend_from_slice(b"only current: ")?;
-    push_event(text, clusters, trace.key, trace.event)?;
+    push_event_in(text, clusters, trace.key, trace.event)?;
     text.extend_from_slice(b"\n")
 }
 

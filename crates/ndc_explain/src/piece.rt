@@ -12,7 +12,7 @@ use ndc_text::line::{push_item, push_key, push_number};
 
 /// A piece of a line.
 #[derive(Clone, Copy)]
-pub(crate) enum Piece<'a> {
+pub enum Piece<'a> {
     /// Fixed words.
     Plain(&'static str),
     /// Bytes as they are.
@@ -187,7 +187,7 @@ fn push_piece(text: &mut Vec<u8>, piece: Piece) -> Result<(), OutOfMemory>
 }
 
 /// Appends pieces one after the other.
-pub(crate) fn push_pieces(text: &mut Vec<u8>, pieces: &[Piece]) -> Result<(), OutOfMemory>
+pub fn push_pieces(text: &mut Vec<u8>, pieces: &[Piece]) -> Result<(), OutOfMemory>
     ensures { OnOk result (text.new.items ≡ text.old.items ++ concat (map piece_text pieces.now)) }
 {
     for piece in pieces {

@@ -11,7 +11,7 @@ use ndc_model_sets::{BranchView, RunStatus, RunView, View};
 use std::alloc::Global;
 
 /// Whether it is the status of a zombie.
-fn is_zombie(status: RunStatus) -> bool
+pub(crate) fn is_zombie(status: RunStatus) -> bool
     ensures { result ≡ is_zombie status }
 {
     match status {
@@ -31,7 +31,7 @@ fn current_key(branches: &[BranchView]) -> Option<BatchKey>
 }
 
 /// Lists the key, where there is one.
-pub(crate) fn insert(keys: &mut KeySet, key: Option<BatchKey>) -> Result<(), OutOfMemory>
+pub fn insert(keys: &mut KeySet, key: Option<BatchKey>) -> Result<(), OutOfMemory>
     ensures { OnOk result (keys.new ≡ with_optional key keys.old) }
 {
     match key {
@@ -85,7 +85,7 @@ fn insert_parents(keys: &mut KeySet, batches: &[Batch]) -> Result<(), OutOfMemor
 }
 
 /// The keys of the batches on current branches of runs that are no zombies.
-pub(crate) fn standing(alloc: Global, view: &View) -> Result<KeySet, OutOfMemory>
+pub fn standing(alloc: Global, view: &View) -> Result<KeySet, OutOfMemory>
     ensures { IfOk result (λ keys. keys ≡ standing view.now) }
 {
     let mut keys = KeySet::new(alloc);

@@ -3,16 +3,17 @@ use ndc_event::{BatchKey, RunId};
 
 /// A block without its events.
 #[derive(Clone, Copy, Debug)]
-pub(crate) struct Summary {
+pub struct Summary {
     /// The key of its first batch.
-    pub(crate) first: BatchKey,
+    pub first: BatchKey,
     /// The key of its last batch.
-    pub(crate) last: BatchKey,
+    pub last: BatchKey,
     /// How many batches it has.
-    pub(crate) count: u64,
-    pub(crate) run: RunId,
+    pub count: u64,
+    /// Its run.
+    pub run: RunId,
     /// The batch that the first one goes below.
-    pub(crate) parent: Option<BatchKey>,
+    pub parent: Option<BatchKey>,
     /// The batch that closed the run before, where that one continued as this run.
-    pub(crate) carrier: Option<BatchKey>,
+    pub carrier: Option<BatchKey>,
 }

@@ -2,7 +2,7 @@
 //! what became of each signal; or draws it.
 #![tactic(auto)]
 
-use ndc_explain::explain_top;
+use ndc_explain_top::explain_top;
 use ndc_port::{StdSink, StdSource};
 use std::process::ExitCode;
 use std::{env, io};

@@ -1,6 +1,0 @@
-use Rattle.std.proofs.Common.{◌≡◌, drop}
-use Rattle.ndc_explain.specs.Layout.{with_blocks}
-use Rattle.ndc_explain.proofs.layout.Layout.add_all.Given as goal
-
-abbrev pub invariant-loop-block : goal.invariant-loop-block
-invariant-loop-block l = with_blocks (drop l.block-index l.blocks) l.self ≡ with_blocks l.blocks l.initial.self

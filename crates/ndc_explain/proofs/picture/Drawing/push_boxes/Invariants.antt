@@ -1,9 +1,0 @@
-use Rattle.std.proofs.Common.{◌≡◌, ◌++◌, drop}
-use Rattle.std.specs.List.{flat_map}
-use Rattle.ndc_explain.specs.Blocks.{summary_of}
-use Rattle.ndc_explain.specs.Picture.{box_of}
-use Rattle.ndc_explain.proofs.picture.Drawing.push_boxes.Given as goal
-
--- the text so far, with what is left, is the whole
-abbrev pub invariant-loop-block : goal.invariant-loop-block
-invariant-loop-block l = l.text.items ++ flat_map (λ block. box_of l.self block (summary_of block)) (drop l.block-index l.self.blocks) ≡ l.initial.text.items ++ flat_map (λ block. box_of l.self block (summary_of block)) l.self.blocks

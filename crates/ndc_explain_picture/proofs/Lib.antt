@@ -1,0 +1,2 @@
+mod BlockLaws
+mod PlaceLaws

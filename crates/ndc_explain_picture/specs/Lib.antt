@@ -1,0 +1,5 @@
+pub mod Blocks
+pub mod Places
+pub mod Layout
+pub mod Picture
+pub mod Graph

@@ -1,0 +1,4 @@
+mod Merged
+mod MergeLemmas
+mod Puts
+mod Readings

@@ -1,0 +1,4 @@
+pub mod Parts
+pub mod Takings
+pub mod Groupings
+pub mod Unions
