@@ -134,19 +134,24 @@ rect_text class left top height =
     codes "<rect class='" ∷ class ∷ codes "' x='" ∷ decimal left ∷ codes "' y='" ∷ decimal top ∷ codes "' width='290' height='" ∷ decimal height ∷ codes "'/>" ∷ [])
 
 -- the key of a run's first batch, by which the run is named
-abbrev pub key_of_run : RunId → BatchKey
+unfoldable pub key_of_run : RunId → BatchKey
 key_of_run run = record { version = run.value / 2 ^ 64; task = run.value % 2 ^ 64 }
 
--- the key and the run of a block, where its text begins: the run by its first batch, with its whole id as a title
+-- the keys of a block, where its text begins
 unfoldable pub name_text : Summary → ℕ → ℕ → List ℕ
 name_text summary left base =
-    concat (
-    codes "<text x='" ∷ decimal left ∷ codes "' y='" ∷ decimal base ∷ codes "'><tspan class='head'>" ∷ span_text summary ∷ codes "</tspan><tspan x='" ∷ decimal left ∷ codes "' dy='15'>run "
-    ∷ key_text (key_of_run summary.run) ∷ codes "<title>" ∷ run_text summary.run ∷ codes "</title></tspan>" ∷ [])
+    concat (codes "<text x='" ∷ decimal left ∷ codes "' y='" ∷ decimal base ∷ codes "'><tspan class='head'>" ∷ span_text summary ∷ codes "</tspan>" ∷ [])
+
+-- a run by its first batch, with its whole id as a title
+unfoldable pub run_named : ℕ → RunId → List ℕ
+run_named left run =
+    concat (codes "<tspan x='" ∷ decimal left ∷ codes "' dy='15'>run " ∷ key_text (key_of_run run) ∷ codes "<title>" ∷ run_text run ∷ codes "</title></tspan>" ∷ [])
 
 -- the box of a block, with its key and its run
 abbrev pub box_text : List ℕ → Summary → Place → List ℕ
-box_text class summary place = rect_text class place.left place.top (place.bottom - place.top) ++ name_text summary (plus place.left 10) (plus place.top 20)
+box_text class summary place =
+    rect_text class place.left place.top (place.bottom - place.top)
+    ++ (name_text summary (plus place.left 10) (plus place.top 20) ++ run_named (plus place.left 10) summary.run)
 
 -- a text cut to what fits into a box
 abbrev pub fitted : List ℕ → List ℕ

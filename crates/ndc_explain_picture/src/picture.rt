@@ -2,7 +2,7 @@
 ghost use Rattle.std.specs.Prelude.{◌≡◌, ◌<◌, ◌++◌, None, map, IfOk, OnOk};
 ghost use Rattle.std.specs.List.{flat_map};
 ghost use Rattle.std.specs.Option.{option_copied};
-ghost use Rattle.ndc_explain_picture.specs.Picture.{arrow_for, arrow_path, arrow_text, arrows_text, bent_text, box_text, class_of, drawn, event_label, event_line, events_text, fitted, frame_text, head_at, head_of, is_next, is_same_home, key_of_run, lane_text, legend_text, line_text, more_text, name_text, picture_of, heads_of, picture_with, rect_text, shift_of, side_of, size_text, straight_text, style_text, title_text, version_of};
+ghost use Rattle.ndc_explain_picture.specs.Picture.{arrow_for, arrow_path, arrow_text, arrows_text, bent_text, box_text, class_of, drawn, event_label, event_line, events_text, fitted, frame_text, head_at, head_of, is_next, is_same_home, key_of_run, lane_text, legend_text, line_text, more_text, name_text, picture_of, heads_of, picture_with, rect_text, run_named, shift_of, side_of, size_text, straight_text, style_text, title_text, version_of};
 
 use crate::blocks::{Block, blocks_of, copies_of, events_of, events_told, summary_of};
 use crate::layout::{Layout, is_lane, layout_of, plus};
@@ -390,6 +390,7 @@ fn push_rect(
 }
 
 /// The key of a run's first batch, by which the run is named.
+#[tactic(auto, unfolding(crate::specs::Picture::key_of_run))]
 fn key_of_run(run: RunId) -> BatchKey
     ensures { result ≡ key_of_run run }
 {
@@ -399,7 +400,7 @@ fn key_of_run(run: RunId) -> BatchKey
     }
 }
 
-/// Appends the key and the run of a block, where its text begins: the run by its first batch, with its whole id as a title.
+/// Appends the keys of a block, where its text begins.
 #[tactic(auto, unfolding(crate::specs::Picture::name_text))]
 fn push_name(text: &mut Vec<u8>, summary: Summary, left: u64, base: u64) -> Result<(), OutOfMemory>
     ensures { OnOk result (text.new.items ≡ text.old.items ++ name_text summary left base) }
@@ -413,12 +414,26 @@ fn push_name(text: &mut Vec<u8>, summary: Summary, left: u64, base: u64) -> Resu
             Piece::Number(base),
             Piece::Plain("'><tspan class='head'>"),
             Piece::Span(summary),
-            Piece::Plain("</tspan><tspan x='"),
+            Piece::Plain("</tspan>"),
+        ],
+    )
+}
+
+/// Appends a run by its first batch, with its whole id as a title.
+#[tactic(auto, unfolding(crate::specs::Picture::run_named))]
+fn push_run(text: &mut Vec<u8>, left: u64, run: RunId) -> Result<(), OutOfMemory>
+    ensures { OnOk result (text.new.items ≡ text.old.items ++ run_named left run) }
+{
+    let key = key_of_run(run);
+    push_pieces(
+        text,
+        &[
+            Piece::Plain("<tspan x='"),
             Piece::Number(left),
             Piece::Plain("' dy='15'>run "),
-            Piece::Key(key_of_run(summary.run)),
+            Piece::Key(key),
             Piece::Plain("<title>"),
-            Piece::Run(summary.run),
+            Piece::Run(run),
             Piece::Plain("</title></tspan>"),
         ],
     )
@@ -435,7 +450,8 @@ fn push_box(
 {
     let height = place.bottom.saturating_sub(place.top);
     push_rect(text, class, place.left, place.top, height)?;
-    push_name(text, summary, plus(place.left, 10), plus(place.top, 20))
+    push_name(text, summary, plus(place.left, 10), plus(place.top, 20))?;
+    push_run(text, plus(place.left, 10), summary.run)
 }
 
 /// A text cut to what fits into a box.

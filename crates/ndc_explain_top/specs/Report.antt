@@ -1,5 +1,5 @@
 -- What is told of an input: of one dump alone, or of many.
-use Rattle.std.specs.Prelude.{ℕ, ◌==◌, Bool, nat_lt, not, ◌||◌, List, [], ◌∷◌, ◌++◌, map, codes, decimal, length, unwrap_or, Option, Some, None, Result, Ok, Err, if◌then◌else◌}
+use Rattle.std.specs.Prelude.{ℕ, Bool, true, false, not, List, [], ◌∷◌, ◌++◌, map, codes, decimal, length, unwrap_or, Option, Some, None, Result, Ok, Err, if◌then◌else◌}
 use Rattle.std.specs.List.{concat, flat_map, list_any}
 use Rattle.ndc_event.specs.Outcome.{◌>>=◌}
 use Rattle.ndc_event.specs.declared.name.Name.{Name}
@@ -50,6 +50,11 @@ dumps_or (Err (input.Line spot line cause)) = Err (fault.DumpLine (Some spot) li
 dumps_or (Err (input.Key spot key cause)) = Err (fault.DumpBatch (Some spot) key cause)
 dumps_or (Err input.Memory) = Err fault.Memory
 
+-- the workflow of a group, where there is one
+abbrev pub section_at : Request → List Name → Option (WorkflowName × List Taking) → List Sectioned
+section_at request named None = []
+section_at request named (Some group) = section_of request (gathered named group.0 group.1) ∷ []
+
 -- the workflows, in the order of their first dumps
 abbrev pub sections_of : Request → List Name → Grouped → List Sectioned
 sections_of request named groups = map (λ group. section_of request (gathered named group.0 group.1)) groups
@@ -74,7 +79,7 @@ has_summary form.View = false
 abbrev pub gap : Bool → List ℕ
 gap summed = if summed then codes "\n" else []
 
-abbrev pub section_told : Bool → Sectioned → List ℕ
+unfoldable pub section_told : Bool → Sectioned → List ℕ
 section_told summed section = gap summed ++ section.text
 
 -- the summary where it stands, and the workflows

@@ -1,6 +1,6 @@
 -- How it is told what each dump of a workflow has, and where they differ.
-use Rattle.std.specs.Prelude.{ℕ, Bool, not, ◌&&◌, ◌||◌, List, [], ◌∷◌, ◌++◌, codes, decimal, length, Option, Some, None, if◌then◌else◌}
-use Rattle.std.specs.List.{concat, flat_map, list_all, list_any}
+use Rattle.std.specs.Prelude.{ℕ, Bool, false, not, ◌||◌, List, [], ◌++◌, codes, decimal, length, Option, Some, None, if◌then◌else◌}
+use Rattle.std.specs.List.{flat_map, list_all, list_any}
 use Rattle.std.specs.Str.{bytes_eq}
 use Rattle.ndc_domain.specs.Clusters.{ClusterList}
 use Rattle.ndc_event.specs.declared.batch.Batch.{Batch}
@@ -51,11 +51,11 @@ has_dump dumps name = list_any (λ taking. is_of name taking.spot.cluster) dumps
 unfoldable pub missing_line : Name → List ℕ
 missing_line name = codes "cluster " ++ (name ++ codes ": no dump\n")
 
-abbrev pub missing_told : List Taking → Name → List ℕ
+unfoldable pub missing_told : List Taking → Name → List ℕ
 missing_told dumps name = if has_dump dumps name then [] else missing_line name
 
 -- an event, behind others
-abbrev pub event_behind : Event → List ℕ
+unfoldable pub event_behind : Event → List ℕ
 event_behind event = codes "; " ++ event_named event
 
 -- a batch with its events
@@ -75,9 +75,13 @@ abbrev pub difference_told : Option ClusterList → Spot → Option Batch → Ba
 difference_told clusters spot None b = lack_line clusters spot b
 difference_told clusters spot (Some own) b = if is_same own b then [] else other_line clusters spot own
 
+-- how it differs in this batch of all
+unfoldable pub difference_at : Option ClusterList → Taking → Batch → List ℕ
+difference_at clusters taking b = difference_told clusters taking.spot (batch_at b.key taking.dump.view.batches) b
+
 -- how a dump differs from the union
-abbrev pub differences_told : Option ClusterList → List Batch → Taking → List ℕ
-differences_told clusters union taking = flat_map (λ b. difference_told clusters taking.spot (batch_at b.key taking.dump.view.batches) b) union
+unfoldable pub differences_told : Option ClusterList → List Batch → Taking → List ℕ
+differences_told clusters union taking = flat_map (difference_at clusters taking) union
 
 -- the lines of a workflow before its explanation: what each dump has, which cluster has none, and which batches each dump lacks
 unfoldable pub rows_told : Option ClusterList → Gathered → List ℕ

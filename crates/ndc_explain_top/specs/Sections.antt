@@ -1,5 +1,5 @@
 -- What is told of a workflow of which an input has dumps.
-use Rattle.std.specs.Prelude.{ℕ, suc, Bool, true, false, not, ◌||◌, List, [], ◌∷◌, ◌++◌, codes, decimal, Option, Some, None, Result, Ok, Err, if◌then◌else◌}
+use Rattle.std.specs.Prelude.{ℕ, suc, Bool, true, false, ◌||◌, List, [], ◌∷◌, ◌++◌, codes, decimal, Option, Some, None, Result, Ok, Err, if◌then◌else◌}
 use Rattle.std.specs.List.{concat, flat_map}
 use Rattle.ndc_domain.specs.Clusters.{ClusterList}
 use Rattle.ndc_event.specs.declared.name.Name.{Name}
@@ -8,7 +8,7 @@ use Rattle.ndc_dump.specs.Faults.{key_cause_name}
 use Rattle.ndc_dump.specs.declared.dump.Dump.{Dump}
 use Rattle.ndc_dump_causes.specs.declared.error.DumpError.{DumpError}
 use Rattle.ndc_dump_causes.specs.declared.error.DumpError.TheVariants as dump
-use Rattle.ndc_explain.specs.Explanation.{Findings, explained, findings, has_forks, has_lost, has_waiting, has_zombies, workflow_line}
+use Rattle.ndc_explain.specs.Explanation.{Findings, explained, findings, has_forks, has_lost, has_waiting, has_zombies}
 use Rattle.ndc_explain_picture.specs.Graph.{tree_picture_of}
 use Rattle.ndc_explain_picture.specs.Picture.{picture_of}
 use Rattle.ndc_explain_union.specs.Takings.{Taking}
@@ -32,7 +32,7 @@ cluster_line None = []
 cluster_line (Some name) = codes "cluster " ++ (name ++ codes "\n")
 
 -- a dump with its view, behind its cluster
-abbrev pub taking_shown : Taking → List ℕ
+unfoldable pub taking_shown : Taking → List ℕ
 taking_shown taking = cluster_line taking.spot.cluster ++ dump_text taking.dump.domain taking.dump.workflow taking.dump.view
 
 abbrev pub takings_shown : List Taking → List ℕ
@@ -45,10 +45,14 @@ sound_text form.Picture clusters all it dump found = picture_of clusters dump
 sound_text form.TreePicture clusters all it dump found = tree_picture_of clusters dump
 sound_text form.View clusters all it dump found = takings_shown it.dumps
 
+-- a line that is no batch's
+unfoldable pub faulty_line : ℕ → List ℕ
+faulty_line line = concat (codes "unsound: line " ∷ decimal line ∷ codes "\n" ∷ [])
+
 -- the line that says why dumps make no sound set together: a key has two contents, or the cause why what all have is no dump
 abbrev pub cause_line : Option DumpError → List ℕ
 cause_line None = codes "unsound: a key has two contents\n"
-cause_line (Some (dump.Line line cause)) = codes "unsound: line " ++ (decimal line ++ codes "\n")
+cause_line (Some (dump.Line line cause)) = faulty_line line
 cause_line (Some (dump.Key key cause)) = codes "unsound: batch " ++ (key_text key ++ (codes ": " ++ (key_cause_name cause ++ codes "\n")))
 cause_line (Some dump.Memory) = []
 

@@ -1,12 +1,13 @@
 -- The program as a whole: what it writes, the faults that end it, and what it tells of them.
-use Rattle.std.specs.Prelude.{◌≡◌, ◌⊎◌, ◌≢◌, ℕ, ◌==◌, ◌<◌, ◌≤◌, ⊤, ◌++◌, Bool, List, [], length, codes, decimal, Option, Some, None, Err, IsOkAnd, IfSome, if◌then◌else◌}
+use Rattle.std.specs.Prelude.{◌≡◌, ◌⊎◌, ℕ, ◌==◌, ◌<◌, ◌≤◌, ⊤, ◌++◌, Bool, List, [], ◌∷◌, length, codes, decimal, Option, Some, None, Err, IsOkAnd, IfSome, if◌then◌else◌}
+use Rattle.std.specs.List.{concat}
+use Rattle.ndc_event.specs.declared.name.Name.{Name}
 use Rattle.ndc_port.specs.Bytes.{Appends, AppendsFront}
 use Rattle.ndc_port.specs.Fault.{Rose}
 use Rattle.ndc_dump.specs.Faults.{dump_batch_line, dump_line}
 use Rattle.ndc_dump.specs.Telling.{Streams, Tells}
 use Rattle.ndc_explain_union.specs.declared.taken.Spot.{Spot}
 use Rattle.ndc_explain_top.specs.Report.{limit_of, report_of}
-use Rattle.ndc_explain_top.specs.Rows.{of_text}
 use Rattle.ndc_explain_top.specs.declared.asked.Request.{Request}
 use Rattle.ndc_explain_top.specs.declared.fault.Fault.{Fault}
 use Rattle.ndc_explain_top.specs.declared.fault.Fault.TheVariants as fault
@@ -23,9 +24,13 @@ status_of fault.Limit = 6
 status_of fault.Memory = 8
 
 -- the beginning of the line on a faulty dump: the program, and where the dump stands among many
+abbrev pub spot_words : ℕ → Option Name → List ℕ
+spot_words number None = concat (codes "ndc_explain: dump " ∷ decimal number ∷ [])
+spot_words number (Some name) = concat (codes "ndc_explain: dump " ∷ decimal number ∷ codes " of " ∷ name ∷ [])
+
 abbrev pub spot_head : Option Spot → List ℕ
 spot_head None = codes "ndc_explain"
-spot_head (Some spot) = codes "ndc_explain: dump " ++ (decimal spot.number ++ of_text spot.cluster)
+spot_head (Some spot) = spot_words spot.number spot.cluster
 
 -- the line that tells of a fault
 abbrev pub fault_line : Fault → List ℕ

@@ -1,9 +1,9 @@
 //! What is told of an input.
-ghost use Rattle.std.specs.Prelude.{◌≡◌, ◌++◌, IfOk, OnOk};
+ghost use Rattle.std.specs.Prelude.{◌≡◌, ◌++◌, IfOk, OnOk, slice_get};
 ghost use Rattle.std.specs.List.{flat_map, list_any};
 ghost use Rattle.ndc_event.specs.Outcome.{Gives};
 ghost use Rattle.ndc_explain_union.specs.Parts.{parts_of};
-ghost use Rattle.ndc_explain_top.specs.Report.{can_be_told, dumps_or, gap, has_summary, is_drawn, limit_of, report_alone, report_by, report_many, report_of, report_text, report_with, section_told, sections_of, summary_line};
+ghost use Rattle.ndc_explain_top.specs.Report.{can_be_told, dumps_or, gap, has_summary, is_drawn, limit_of, report_alone, report_by, report_many, report_of, report_text, report_with, section_at, section_told, sections_of, summary_line};
 ghost use Rattle.ndc_explain_top.specs.Sections.{leaves};
 ghost use Rattle.ndc_explain_top.specs.declared.fault.Fault.TheVariants.{Memory};
 ghost use Rattle.ndc_explain_union.specs.Takings.{dump_in, taken_of};
@@ -110,6 +110,25 @@ fn dumps_of(alloc: Global, bare: bool, parts: &[Part]) -> Result<Vec<Taken>, Fau
     }
 }
 
+/// Appends the workflow of the group at this place, where there is one.
+fn push_section_at(
+    alloc: Global,
+    sections: &mut Vec<Section>,
+    request: &Request,
+    named: &[Name],
+    groups: &Groups,
+    place: usize,
+) -> Result<(), OutOfMemory>
+    ensures { OnOk result (sections.new.items ≡ sections.old.items ++ section_at request.now named.now (slice_get groups.now place)) }
+{
+    let Some((workflow, dumps)) = groups.get(place) else {
+        return Ok(());
+    };
+    let group = gathered(alloc, named, workflow, dumps)?;
+    sections.push(section_of(alloc, request, &group)?)?;
+    Ok(())
+}
+
 /// The workflows, in the order of their first dumps.
 fn sections_of(
     alloc: Global,
@@ -121,10 +140,7 @@ fn sections_of(
 {
     let mut sections = Vec::new(alloc);
     for place in 0..groups.count() {
-        if let Some((workflow, dumps)) = groups.get(place) {
-            let group = gathered(alloc, named, workflow, dumps)?;
-            sections.push(section_of(alloc, request, &group)?)?;
-        }
+        push_section_at(alloc, &mut sections, request, named, groups, place)?;
     }
     Ok(sections)
 }
@@ -176,6 +192,7 @@ fn has_summary(form: Form) -> bool
 }
 
 /// Appends a workflow, behind an empty line where there is a summary.
+#[tactic(auto, unfolding(crate::specs::Report::section_told))]
 fn push_section(text: &mut Vec<u8>, summed: bool, section: &Section) -> Result<(), OutOfMemory>
     ensures { OnOk result (text.new.items ≡ text.old.items ++ section_told summed section.now) }
 {

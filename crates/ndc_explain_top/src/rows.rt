@@ -2,7 +2,7 @@
 ghost use Rattle.std.specs.Prelude.{◌≡◌, ◌++◌, IfOk, OnOk, length, map};
 ghost use Rattle.std.specs.List.{flat_map};
 ghost use Rattle.std.specs.Option.{option_copied};
-ghost use Rattle.ndc_explain_top.specs.Rows.{are_of_one, are_short, batch_told, difference_told, differences_told, event_behind, gathered, has_all, has_dump, is_of, lack_line, missing_line, missing_told, of_text, other_line, row_line, rows_told, spot_text};
+ghost use Rattle.ndc_explain_top.specs.Rows.{are_of_one, are_short, batch_told, difference_at, difference_told, differences_told, event_behind, gathered, has_all, has_dump, is_of, lack_line, missing_line, missing_told, of_text, other_line, row_line, rows_told, spot_text};
 
 use ndc_domain::Clusters;
 use ndc_dump_causes::found::batch_at;
@@ -123,7 +123,19 @@ fn push_missing(text: &mut Vec<u8>, name: &Name) -> Result<(), OutOfMemory>
     text.extend_from_slice(b": no dump\n")
 }
 
+/// Appends the line of a cluster, where it has no dump.
+#[tactic(auto, unfolding(crate::specs::Rows::missing_told))]
+fn push_missing_told(text: &mut Vec<u8>, dumps: &[Taken], name: &Name) -> Result<(), OutOfMemory>
+    ensures { OnOk result (text.new.items ≡ text.old.items ++ missing_told dumps.now name.now) }
+{
+    if has_dump(dumps, name) {
+        return Ok(());
+    }
+    push_missing(text, name)
+}
+
 /// Appends an event behind others.
+#[tactic(auto, unfolding(crate::specs::Rows::event_behind))]
 fn push_event_behind(text: &mut Vec<u8>, event: &Event) -> Result<(), OutOfMemory>
     ensures { OnOk result (text.new.items ≡ text.old.items ++ event_behind event.now) }
 {
@@ -206,7 +218,23 @@ fn push_difference(
     push_other(text, clusters, spot, own)
 }
 
+/// Appends how a dump differs from the union in a batch.
+#[tactic(auto, unfolding(crate::specs::Rows::difference_at))]
+fn push_difference_at(
+    alloc: Global,
+    text: &mut Vec<u8>,
+    clusters: &Option<Clusters>,
+    taken: &Taken,
+    batch: &Batch,
+) -> Result<(), OutOfMemory>
+    ensures { OnOk result (text.new.items ≡ text.old.items ++ difference_at clusters.now taken.now batch.now) }
+{
+    let own = batch_at(taken.batches(), batch.key);
+    push_difference(alloc, text, clusters, taken.spot(), own, batch)
+}
+
 /// Appends how a dump differs from the union.
+#[tactic(auto, unfolding(crate::specs::Rows::differences_told))]
 fn push_differences(
     alloc: Global,
     text: &mut Vec<u8>,
@@ -216,16 +244,8 @@ fn push_differences(
 ) -> Result<(), OutOfMemory>
     ensures { OnOk result (text.new.items ≡ text.old.items ++ differences_told clusters.now (map (λ b. b.now) union.now) taken.now) }
 {
-    let batches = taken.batches();
     for batch in union {
-        push_difference(
-            alloc,
-            text,
-            clusters,
-            taken.spot(),
-            batch_at(batches, batch.key),
-            batch,
-        )?;
+        push_difference_at(alloc, text, clusters, taken, batch)?;
     }
     Ok(())
 }
@@ -284,9 +304,7 @@ impl<'a> Group<'a> {
         ensures { OnOk result (text.new.items ≡ text.old.items ++ flat_map (missing_told self.now.dumps) self.now.named) }
     {
         for name in self.named {
-            if !has_dump(self.dumps, name) {
-                push_missing(text, name)?;
-            }
+            push_missing_told(text, self.dumps, name)?;
         }
         Ok(())
     }

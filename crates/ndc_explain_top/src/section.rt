@@ -5,16 +5,17 @@ ghost use Rattle.ndc_dump.specs.Bare.{bare_dump_of};
 ghost use Rattle.ndc_dump.specs.Faults.{key_cause_name};
 ghost use Rattle.ndc_dump_causes.specs.declared.error.DumpError.TheVariants as error;
 ghost use Rattle.ndc_text.specs.Bare.{bare_text};
-ghost use Rattle.ndc_explain_top.specs.Sections.{cause_line, cluster_line, count_of, has_mark, leaves, section_by, section_of, sound_section, sound_text, taking_shown, takings_shown, unsound_section, unsound_text};
+ghost use Rattle.ndc_explain_top.specs.Sections.{cause_line, cluster_line, count_of, faulty_line, has_mark, leaves, section_by, section_of, sound_section, sound_text, taking_shown, takings_shown, unsound_section, unsound_text};
 
 use crate::asked::{Form, Request};
 use crate::rows::Group;
 use ndc_dump::{Dump, DumpError, KeyCause, bare_text, dump_text, read_bare_dump};
 use ndc_event::{BatchKey, Name, OutOfMemory};
+use ndc_explain::piece::{Piece, push_pieces};
 use ndc_explain::{Found, findings, has_forks, has_zombies, push_explained};
 use ndc_explain_picture::{push_picture, push_tree_picture};
 use ndc_explain_union::Taken;
-use ndc_text::line::{push_key, push_number};
+use ndc_text::line::push_key;
 use std::alloc::{AllocError, Global};
 use std::marker::Model;
 
@@ -114,6 +115,7 @@ fn push_cluster(text: &mut Vec<u8>, cluster: &Option<Name>) -> Result<(), OutOfM
 }
 
 /// Appends a dump with its view, behind its cluster.
+#[tactic(auto, unfolding(crate::specs::Sections::taking_shown))]
 fn push_shown(alloc: Global, text: &mut Vec<u8>, taken: &Taken) -> Result<(), OutOfMemory>
     ensures { OnOk result (text.new.items ≡ text.old.items ++ taking_shown taken.now) }
 {
@@ -181,17 +183,28 @@ fn push_unfit(text: &mut Vec<u8>, key: BatchKey, cause: KeyCause) -> Result<(), 
     text.extend_from_slice(b"\n")
 }
 
+/// Appends the line of a line that is no batch's.
+#[tactic(auto, unfolding(crate::specs::Sections::faulty_line))]
+fn push_faulty(text: &mut Vec<u8>, line: u64) -> Result<(), OutOfMemory>
+    ensures { OnOk result (text.new.items ≡ text.old.items ++ faulty_line line) }
+{
+    push_pieces(
+        text,
+        &[
+            Piece::Plain("unsound: line "),
+            Piece::Number(line),
+            Piece::Plain("\n"),
+        ],
+    )
+}
+
 /// Appends the line that says why dumps make no sound set together.
 fn push_cause(text: &mut Vec<u8>, cause: Option<DumpError>) -> Result<(), OutOfMemory>
     ensures { OnOk result (text.new.items ≡ text.old.items ++ cause_line cause) }
 {
     match cause {
         None => text.extend_from_slice(b"unsound: a key has two contents\n"),
-        Some(DumpError::Line { line, .. }) => {
-            text.extend_from_slice(b"unsound: line ")?;
-            push_number(text, line)?;
-            text.extend_from_slice(b"\n")
-        }
+        Some(DumpError::Line { line, .. }) => push_faulty(text, line),
         Some(DumpError::Key { key, cause }) => push_unfit(text, key, cause),
         Some(DumpError::Memory) => Ok(()),
     }

@@ -1,0 +1,3 @@
+mod Fronts
+mod Refusals
+mod Sectionings
