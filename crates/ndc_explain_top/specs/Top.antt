@@ -1,11 +1,11 @@
 -- The program as a whole: what it writes, the faults that end it, and what it tells of them.
-use Rattle.std.specs.Prelude.{◌≡◌, ◌⊎◌, ℕ, ◌==◌, ◌<◌, ◌≤◌, ⊤, ◌++◌, Bool, List, [], ◌∷◌, length, codes, decimal, Option, Some, None, Err, IsOkAnd, IfSome, if◌then◌else◌}
+use Rattle.std.specs.Prelude.{◌+◌, ◌≡◌, ◌⊎◌, ℕ, ◌==◌, ◌<◌, ◌≤◌, ⊤, ◌++◌, Bool, List, [], ◌∷◌, drop, length, codes, decimal, Option, Some, None, Err, IsOkAnd, IfSome, if◌then◌else◌}
 use Rattle.std.specs.List.{concat}
 use Rattle.ndc_event.specs.declared.name.Name.{Name}
-use Rattle.ndc_port.specs.Bytes.{Appends, AppendsFront}
+use Rattle.ndc_port.specs.Bytes.{Appends, AppendsFront, ConsumesAtMost}
 use Rattle.ndc_port.specs.Fault.{Rose}
 use Rattle.ndc_dump.specs.Faults.{dump_batch_line, dump_line}
-use Rattle.ndc_dump.specs.Telling.{Streams, Tells}
+use Rattle.ndc_dump.specs.Telling.{IsAmong, Streams, Tells}
 use Rattle.ndc_explain_union.specs.declared.taken.Spot.{Spot}
 use Rattle.ndc_explain_top.specs.Report.{limit_of, report_of}
 use Rattle.ndc_explain_top.specs.declared.asked.Request.{Request}
@@ -89,6 +89,20 @@ ReadingFails request left before after fault.Read = Rose before after
 ReadingFails request left before after fault.Write = ⊥
 ReadingFails request left before after fault.Limit = IfSome left (λ bytes. limit_of request < length bytes)
 ReadingFails request left before after fault.Memory = ⊤
+
+-- what is left in the source after a fault: what is behind the limit and one byte more, where there was too much; what is behind a front within the
+-- limit, where reading failed or memory ran out; and else nothing
+abbrev pub LeavesAfter : Request → Fault → Option (List ℕ) → Option (List ℕ) → Type 0
+LeavesAfter request fault.Read before after = ConsumesAtMost (limit_of request) before after
+LeavesAfter request fault.Limit before after = IfSome before (λ bytes. after ≡ Some (drop (limit_of request + 1) bytes))
+LeavesAfter request fault.Memory before after = ConsumesAtMost (limit_of request) before after
+LeavesAfter request _ before after = IfSome before (λ _. after ≡ Some [])
+
+-- what a run that reads an input leaves in the source, by the status that it ends with
+pub record LeavesSource (request : Request) (status : ℕ) (before after : Option (List ℕ)) : Type 0 where
+  pub ended : IsAmong status (0 ∷ 1 ∷ 5 ∷ 7 ∷ []) → IfSome before (λ _. after ≡ Some [])
+  pub limit : status ≡ 6 → IfSome before (λ bytes. after ≡ Some (drop (limit_of request + 1) bytes))
+  pub stopped : IsAmong status (4 ∷ 8 ∷ []) → ConsumesAtMost (limit_of request) before after
 
 -- why explaining an input ends with a fault, between what was there and what is there
 abbrev pub ExplainFault : Request → Streams → Streams → Fault → Type 0

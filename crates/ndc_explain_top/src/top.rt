@@ -1,12 +1,12 @@
 //! The program's top call, over any source and sinks: it reads dumps and tells them.
-ghost use Rattle.std.specs.Prelude.{◌≡◌, ◌≤◌, ◌<◌, true, false, Ok, Err, [], ◌∷◌, map, length, IfOk, IfErr, IfSome, IsOk, IsErr, IsErrAnd, OnOk, OnErr};
+ghost use Rattle.std.specs.Prelude.{◌≡◌, ◌≢◌, ◌≤◌, ◌<◌, true, false, Ok, Err, Some, [], ◌∷◌, map, length, IfOk, IfErr, IfSome, IsOk, IsErr, IsErrAnd, OnOk, OnErr};
 ghost use Rattle.std.specs.String.{string_bytes};
 ghost use Rattle.ndc_port.specs.Bytes.{Appends, AppendsFront};
 ghost use Rattle.ndc_port.specs.Fault.{Rose};
 ghost use Rattle.ndc_dump.specs.Telling.{IsAmong, Tells};
 ghost use Rattle.ndc_explain_top.specs.Asked.{asked_of};
 ghost use Rattle.ndc_explain_top.specs.Report.{limit_of, report_of};
-ghost use Rattle.ndc_explain_top.specs.Top.{status_of, status_line, told_status, fault_line, Explains, ExplainsFront, ExplainFault, ReadingFails, TellsRefusal};
+ghost use Rattle.ndc_explain_top.specs.Top.{status_of, status_line, told_status, fault_line, Explains, ExplainsFront, ExplainFault, LeavesAfter, LeavesSource, ReadingFails, TellsRefusal};
 
 use crate::asked::{Request, asked_of};
 use crate::fault::Fault;
@@ -22,6 +22,7 @@ fn read_report<S: Source>(alloc: Global, request: &Request, source: &mut S) -> R
     ensures end { OnOk result (IfSome (S.left source.old) (λ _. S.left source.new ≡ Some [])) }
     ensures fault { IfErr result
         (ReadingFails request.now (S.left source.old) (S.faults source.old) (S.faults source.new)) }
+    ensures rest { IfErr result (λ fault. LeavesAfter request.now fault (S.left source.old) (S.left source.new)) }
     ensures count { S.faults source.old ≤ S.faults source.new }
 {
     let bytes = match read_all(alloc, source, limit_of(request)) {
@@ -44,6 +45,8 @@ fn explain<S: Source, K: Sink>(
     ensures fault { IfErr result (ExplainFault request.now
         (record { left = S.left source.old; source_faults = S.faults source.old; written = K.written out.old; out_faults = K.faults out.old })
         (record { left = S.left source.new; source_faults = S.faults source.new; written = K.written out.new; out_faults = K.faults out.new })) }
+    ensures end { OnOk result (IfSome (S.left source.old) (λ _. S.left source.new ≡ Some [])) }
+    ensures rest { IfErr result (λ fault. LeavesAfter request.now fault (S.left source.old) (S.left source.new)) }
     ensures source_count { S.faults source.old ≤ S.faults source.new }
     ensures out_count { K.faults out.old ≤ K.faults out.new }
 {
@@ -88,6 +91,7 @@ fn explain_input<S: Source, K: Sink, E: Sink>(
     ensures write { result ≡ 5 → Rose (K.faults out.old) (K.faults out.new) }
     ensures limit { result ≡ 6 → IfSome (S.left source.old) (λ bytes. limit_of request.now < length bytes) }
     ensures told { IfSome (status_line result) (Tells (E.written err.old) (E.written err.new) (E.faults err.old) (E.faults err.new)) }
+    ensures source { LeavesSource request.now result (S.left source.old) (S.left source.new) }
     ensures above { IfSome (S.left source.old) (λ bytes. limit_of request.now < length bytes → IsAmong result (4 ∷ 6 ∷ 8 ∷ [])) }
     ensures untold { IfSome (S.left source.old) (λ bytes. length bytes ≤ limit_of request.now → IsErr (report_of request.now bytes) → IsAmong result (4 ∷ 7 ∷ 8 ∷ [])) }
     ensures tellable { IfSome (S.left source.old) (λ bytes. length bytes ≤ limit_of request.now → IsOk (report_of request.now bytes) → IsAmong result (0 ∷ 1 ∷ 4 ∷ 5 ∷ 8 ∷ [])) }
@@ -141,6 +145,9 @@ pub fn explain_top<S: Source, K: Sink, E: Sink>(
     ensures write { result ≡ 5 → Rose (K.faults out.old) (K.faults out.new) }
     ensures limit { IfOk (asked_of (map string_bytes words.now)) (λ request. result ≡ 6 → IfSome (S.left source.old) (λ bytes. limit_of request < length bytes)) }
     ensures told { IfSome (status_line result) (Tells (E.written err.old) (E.written err.new) (E.faults err.old) (E.faults err.new)) }
+
+    // What is left in the source of an input.
+    ensures source { IfOk (asked_of (map string_bytes words.now)) (λ request. result ≢ 2 → LeavesSource request result (S.left source.old) (S.left source.new)) }
 
     // Which statuses can come, by the bytes that were left.
     ensures above { IfOk (asked_of (map string_bytes words.now)) (λ request. IfSome (S.left source.old) (λ bytes. limit_of request < length bytes → IsAmong result (4 ∷ 6 ∷ 8 ∷ []))) }
