@@ -1,5 +1,5 @@
 -- Each block has a place.
-use Rattle.std.proofs.Common.{◌≡◌, ℕ, Bool, true, false, List, [], ◌∷◌, length, Option, Some, None, is_some, if◌then◌else◌, refl, ap, ◌∙◌}
+use Rattle.std.proofs.Common.{◌≡◌, ℕ, Bool, true, false, nat_eq, List, [], ◌∷◌, length, Option, Some, None, is_some, if◌then◌else◌, refl, ap, ◌∙◌}
 use Rattle.std.specs.List.{list_all}
 use Rattle.std.specs.Map.{lookup}
 use Rattle.std.proofs.lemmas.Bool.{and_from}
@@ -16,9 +16,10 @@ use Rattle.ndc_model_sets.proofs.KeyLemmas.{key_eq-self}
 use Rattle.ndc_model_sets.specs.Sets.{earlier_of}
 use Rattle.ndc_state.specs.Origins.{origin_of}
 use Rattle.ndc_explain_picture.specs.Blocks.{blocks_of, kinds_of, summary_of}
-use Rattle.ndc_explain_picture.specs.Layout.{height_for, is_lane, is_placed, lane_of, layout_of, no_lane, place_for, plus, with_block, with_blocks}
+use Rattle.ndc_explain_picture.specs.Layout.{Layouted, height_for, in_lane, is_placed, lane_number, lane_of, layout_of, no_lane, place_for, with_block, with_blocks}
 use Rattle.ndc_explain_picture.specs.Places.{Placed, with_batches, with_events, with_key, with_kind, with_own}
-use Rattle.ndc_explain_picture.specs.declared.layout.Layout.{Layout}
+use Rattle.ndc_domain.specs.Clusters.{ClusterList}
+use Rattle.ndc_explain_picture.specs.declared.layout.Lane.{Lane}
 use Rattle.ndc_explain_picture.specs.declared.places.Place.{Place}
 use Rattle.ndc_explain.specs.declared.summary.Summary.{Summary}
 
@@ -78,39 +79,41 @@ batches-first place b batches places =
     (ap (has b.key) (events-keys place b.run b.events (with_key place b.key places)) ∙ put-there b.key place places.keys)
 
 -- a lane gives no place
-lane-places : (version : ℕ) (now : Layout) → (lane_of version now).places ≡ now.places
-lane-places version now = by (is_lane now.version version)
+lane-places : (clusters : Option ClusterList) (version : ℕ) (now : Layouted) → (lane_of clusters version now).places ≡ now.places
+lane-places clusters version now = by (lookup (nat_eq (lane_number clusters version)) now.lanes)
   where
-    by : (t : Bool) → (if t then now else record { version = Some version; left = plus now.left 340; bottom = 40; depth = now.depth; places = now.places }).places ≡ now.places
-    by true = refl
-    by false = refl
+    by : (lane : Option Lane) → (in_lane (lane_number clusters version) version lane now).places ≡ now.places
+    by None = refl
+    by (Some lane) = refl
 
-block-more : (block : List Batch) (summary : Option Summary) (now : Layout) (key : BatchKey) → has key now.places.keys ≡ true → has key (with_block block summary now).places.keys ≡ true
-block-more block None now key h = h
-block-more block (Some summary) now key h =
-    let lane = lane_of summary.first.version now in
-    batches-more (place_for (earlier_of summary.parent summary.carrier) (height_for (length (kinds_of block))) lane) block lane.places key
-    (ap (λ (places : Placed). has key places.keys) (lane-places summary.first.version now) ∙ h)
+module _ (clusters : Option ClusterList) where
+  block-more : (block : List Batch) (summary : Option Summary) (now : Layouted) (key : BatchKey) → has key now.places.keys ≡ true → has key (with_block clusters block summary now).places.keys ≡ true
+  block-more block None now key h = h
+  block-more block (Some summary) now key h =
+      let lane = lane_of clusters summary.first.version now in
+      batches-more (place_for (earlier_of summary.parent summary.carrier) (height_for (length (kinds_of block))) lane) block lane.places key
+      (ap (λ (places : Placed). has key places.keys) (lane-places clusters summary.first.version now) ∙ h)
 
-block-first : (b : Batch) (block : List Batch) (now : Layout) → has b.key (with_block (b ∷ block) (summary_of (b ∷ block)) now).places.keys ≡ true
-block-first b block now =
-    let lane = lane_of b.key.version now in
-    batches-first (place_for (earlier_of b.parent b.carrier) (height_for (length (kinds_of (b ∷ block)))) lane) b block lane.places
+  block-first : (b : Batch) (block : List Batch) (now : Layouted) → has b.key (with_block clusters (b ∷ block) (summary_of (b ∷ block)) now).places.keys ≡ true
+  block-first b block now =
+      let lane = lane_of clusters b.key.version now in
+      batches-first (place_for (earlier_of b.parent b.carrier) (height_for (length (kinds_of (b ∷ block)))) lane) b block lane.places
 
-blocks-more : (blocks : List (List Batch)) (now : Layout) (key : BatchKey) → has key now.places.keys ≡ true → has key (with_blocks blocks now).places.keys ≡ true
-blocks-more [] now key h = h
-blocks-more (block ∷ blocks) now key h = blocks-more blocks (with_block block (summary_of block) now) key (block-more block (summary_of block) now key h)
+  blocks-more : (blocks : List (List Batch)) (now : Layouted) (key : BatchKey) → has key now.places.keys ≡ true → has key (with_blocks clusters blocks now).places.keys ≡ true
+  blocks-more [] now key h = h
+  blocks-more (block ∷ blocks) now key h =
+      blocks-more blocks (with_block clusters block (summary_of block) now) key (block-more block (summary_of block) now key h)
 
-all-placed : (blocks : List (List Batch)) (now : Layout) → list_all (is_placed (with_blocks blocks now).places) blocks ≡ true
-all-placed [] now = refl
-all-placed (block ∷ blocks) now =
-    and_from (is_placed (with_blocks (block ∷ blocks) now).places block) (list_all (is_placed (with_blocks (block ∷ blocks) now).places) blocks) (own block)
-    (all-placed blocks (with_block block (summary_of block) now))
-  where
-    own : (x : List Batch) → is_placed (with_blocks blocks (with_block x (summary_of x) now)).places x ≡ true
-    own [] = refl
-    own (b ∷ bs) = blocks-more blocks (with_block (b ∷ bs) (summary_of (b ∷ bs)) now) b.key (block-first b bs now)
+  all-placed : (blocks : List (List Batch)) (now : Layouted) → list_all (is_placed (with_blocks clusters blocks now).places) blocks ≡ true
+  all-placed [] now = refl
+  all-placed (block ∷ blocks) now =
+      and_from (is_placed (with_blocks clusters (block ∷ blocks) now).places block) (list_all (is_placed (with_blocks clusters (block ∷ blocks) now).places) blocks) (own block)
+      (all-placed blocks (with_block clusters block (summary_of block) now))
+    where
+      own : (x : List Batch) → is_placed (with_blocks clusters blocks (with_block clusters x (summary_of x) now)).places x ≡ true
+      own [] = refl
+      own (b ∷ bs) = blocks-more blocks (with_block clusters (b ∷ bs) (summary_of (b ∷ bs)) now) b.key (block-first b bs now)
 
--- each block has a place
-pub blocks_are_placed : (batches : List Batch) → list_all (is_placed (layout_of (blocks_of batches)).places) (blocks_of batches) ≡ true
-blocks_are_placed batches = all-placed (blocks_of batches) no_lane
+  -- each block has a place
+  pub blocks_are_placed : (batches : List Batch) → list_all (is_placed (layout_of clusters (blocks_of batches)).places) (blocks_of batches) ≡ true
+  blocks_are_placed batches = all-placed (blocks_of batches) no_lane

@@ -1,5 +1,5 @@
 -- The picture of a dump in characters: the newest block first, and a column for each branch that goes on.
-use Rattle.std.specs.Prelude.{ℕ, Bool, true, false, not, ◌||◌, ◌+◌, ◌-◌, nat_lt, is_none, is_some, slice_set, List, [], ◌∷◌, ◌++◌, codes, decimal, length, Option, Some, None, if◌then◌else◌}
+use Rattle.std.specs.Prelude.{ℕ, Bool, false, not, ◌||◌, ◌+◌, ◌-◌, nat_lt, is_none, is_some, slice_set, List, [], ◌∷◌, ◌++◌, codes, decimal, length, Option, Some, None, if◌then◌else◌}
 use Rattle.std.specs.List.{concat, flat_map}
 use Rattle.ndc_domain.specs.Clusters.{ClusterList}
 use Rattle.ndc_event.specs.Key.{key_eq, run_text}

@@ -1,5 +1,5 @@
 -- The picture of a dump: an SVG document.
-use Rattle.std.specs.Prelude.{ℕ, Bool, true, false, ◌==◌, ◌&&◌, ◌-◌, ◌+◌, ◌*◌, ◌/◌, ◌%◌, ◌^◌, nat_lt, List, [], ◌∷◌, ◌++◌, codes, decimal, length, take, unwrap_or, Option, Some, None, if◌then◌else◌}
+use Rattle.std.specs.Prelude.{ℕ, Bool, false, ◌==◌, ◌&&◌, ◌-◌, ◌+◌, ◌*◌, ◌/◌, ◌%◌, ◌^◌, nat_lt, List, [], ◌∷◌, ◌++◌, codes, decimal, length, take, unwrap_or, Option, Some, None, if◌then◌else◌}
 use Rattle.std.specs.List.{concat, flat_map}
 use Rattle.ndc_domain.specs.Clusters.{ClusterList}
 use Rattle.ndc_event.specs.Attributes.{first_name, second_name}
@@ -16,12 +16,12 @@ use Rattle.ndc_model_sets.specs.declared.view.View.{View}
 use Rattle.ndc_dump.specs.declared.dump.Dump.{Dump}
 use Rattle.ndc_dump_causes.specs.Keys.{is_listed}
 use Rattle.ndc_explain_picture.specs.Blocks.{blocks_of, copies_of, events_of, events_told, summary_of}
-use Rattle.ndc_explain_picture.specs.Layout.{depth_of, is_lane, layout_of, plus, width_of}
-use Rattle.ndc_explain.specs.Pieces.{behind_space, escaped_by_text, escaped_text, span_text}
+use Rattle.ndc_explain_picture.specs.Layout.{Layouted, depth_of, layout_of, plus, width_of}
+use Rattle.ndc_explain.specs.Pieces.{behind_space, escaped_text, span_text}
 use Rattle.ndc_explain_picture.specs.Places.{Placed, home_of, place_at}
 use Rattle.ndc_explain.specs.Standing.{standing}
 use Rattle.ndc_explain.specs.Writers.{writer_name}
-use Rattle.ndc_explain_picture.specs.declared.layout.Layout.{Layout}
+use Rattle.ndc_explain_picture.specs.declared.layout.Head.{Head}
 use Rattle.ndc_explain_picture.specs.declared.places.Place.{Place}
 use Rattle.ndc_explain.specs.declared.summary.Summary.{Summary}
 
@@ -59,10 +59,13 @@ legend_text =
     ∷ codes "<path class='carrier' d='M20 112H70'/><text x='80' y='116'>a run continues as the next</text>\n"
     ∷ codes "<path class='copy' marker-end='url(#arrow)' d='M20 136H70'/><text x='80' y='140'>a signal is copied</text>\n" ∷ [])
 
--- the head of a lane
-unfoldable pub lane_text : Option ClusterList → ℕ → ℕ → List ℕ
-lane_text clusters version left =
-    concat (codes "<text class='head' x='" ∷ decimal left ∷ codes "' y='28'>version " ∷ decimal version ∷ escaped_by_text (writer_name clusters version) ∷ codes "</text>\n" ∷ [])
+-- the head of a lane: the cluster that writes with the version, where it is known, or the version
+unfoldable pub lane_text : List ℕ → ℕ → ℕ → List ℕ
+lane_text [] version left = concat (codes "<text class='head' x='" ∷ decimal left ∷ codes "' y='28'>version " ∷ decimal version ∷ codes "</text>\n" ∷ [])
+lane_text (byte ∷ name) version left = concat (codes "<text class='head' x='" ∷ decimal left ∷ codes "' y='28'>" ∷ escaped_text (byte ∷ name) ∷ codes "</text>\n" ∷ [])
+
+abbrev pub head_text : Option ClusterList → Head → List ℕ
+head_text clusters head = lane_text (writer_name clusters head.version) head.version head.left
 
 -- the class of what belongs to a batch: whether it stands on a current branch
 abbrev pub class_of : List BatchKey → BatchKey → List ℕ
@@ -179,11 +182,11 @@ events_text left events = flat_map (event_line left) (events_told events) ++ (mo
 -- what is drawn: the blocks, where, and which batches stand on current branches
 pub record Drawn : Type 0 where
   pub blocks : List (List Batch)
-  pub layout : Layout
+  pub layout : Layouted
   pub keys : List BatchKey
 
-abbrev pub drawn : View → Drawn
-drawn view = record { blocks = blocks_of view.batches; layout = layout_of (blocks_of view.batches); keys = standing view }
+abbrev pub drawn : Option ClusterList → View → Drawn
+drawn clusters view = record { blocks = blocks_of view.batches; layout = layout_of clusters (blocks_of view.batches); keys = standing view }
 
 -- the lines to a block at this place: from its parent's, from its carrier's, and from where its copied signals were written
 abbrev pub lines_to : Drawn → List Batch → Summary → Option Place → List ℕ
@@ -205,36 +208,14 @@ abbrev pub box_of : Drawn → List Batch → Option Summary → List ℕ
 box_of it block None = []
 box_of it block (Some summary) = box_at it block summary (place_at (Some summary.first) it.layout.places)
 
--- the head of the lane of a block at this place
-abbrev pub head_at : Option ClusterList → ℕ → Option Place → List ℕ
-head_at clusters version None = []
-head_at clusters version (Some place) = lane_text clusters version place.left
-
--- the head of the lane of a block, where its version is not the one before
-abbrev pub head_of : Option ClusterList → Placed → Option ℕ → Option Summary → List ℕ
-head_of clusters places before None = []
-head_of clusters places before (Some summary) =
-    if is_lane before summary.first.version then [] else head_at clusters summary.first.version (place_at (Some summary.first) places)
-
--- the version of a block, or the one before where it is empty
-abbrev pub version_of : Option ℕ → Option Summary → Option ℕ
-version_of before None = before
-version_of before (Some summary) = Some summary.first.version
-
--- the heads of the lanes of blocks behind one of this version
-abbrev pub heads_of : Option ClusterList → Placed → Option ℕ → List (List Batch) → List ℕ
-heads_of clusters places before [] = []
-heads_of clusters places before (block ∷ blocks) =
-    head_of clusters places before (summary_of block) ++ heads_of clusters places (version_of before (summary_of block)) blocks
-
 -- the picture before its lanes
-abbrev pub frame_text : Name → Name → Layout → List ℕ
+abbrev pub frame_text : Name → Name → Layouted → List ℕ
 frame_text domain workflow layout = size_text (width_of layout) (depth_of layout) ++ (style_text ++ (title_text domain workflow ++ legend_text))
 
 -- the lanes: their heads, the lines, and the boxes over them
 abbrev pub lanes_text : Option ClusterList → Drawn → List ℕ
 lanes_text clusters it =
-    heads_of clusters it.layout.places None it.blocks
+    flat_map (head_text clusters) it.layout.heads
     ++ (flat_map (λ block. lines_of it block (summary_of block)) it.blocks ++ flat_map (λ block. box_of it block (summary_of block)) it.blocks)
 
 -- the picture: its frame, and the lanes with all blocks
@@ -242,4 +223,4 @@ abbrev pub picture_with : Option ClusterList → Dump → Drawn → List ℕ
 picture_with clusters dump it = frame_text dump.domain dump.workflow it.layout ++ (lanes_text clusters it ++ codes "</svg>\n")
 
 abbrev pub picture_of : Option ClusterList → Dump → List ℕ
-picture_of clusters dump = picture_with clusters dump (drawn dump.view)
+picture_of clusters dump = picture_with clusters dump (drawn clusters dump.view)

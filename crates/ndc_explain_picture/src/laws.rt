@@ -1,6 +1,7 @@
 //! Laws of pictures. The functions do nothing: what each ensures is the law.
-ghost use Rattle.std.specs.Prelude.{◌≡◌, true, List};
+ghost use Rattle.std.specs.Prelude.{◌≡◌, true, List, Option};
 ghost use Rattle.std.specs.List.{list_all};
+ghost use Rattle.ndc_domain.specs.Clusters.{ClusterList};
 ghost use Rattle.ndc_event.specs.declared.batch.Batch.{Batch};
 ghost use Rattle.ndc_explain_picture.specs.Blocks.{batches_in, blocks_of, is_filled};
 ghost use Rattle.ndc_explain_picture.specs.Layout.{is_placed, layout_of};
@@ -10,5 +11,5 @@ ghost use Rattle.ndc_explain_picture.specs.Layout.{is_placed, layout_of};
 pub fn each_batch_stands_in_one_box()
     ensures once { (batches : List Batch) → batches_in (blocks_of batches) ≡ batches }
     ensures filled { (batches : List Batch) → list_all is_filled (blocks_of batches) ≡ true }
-    ensures placed { (batches : List Batch) → list_all (is_placed (layout_of (blocks_of batches)).places) (blocks_of batches) ≡ true }
+    ensures placed { (clusters : Option ClusterList) (batches : List Batch) → list_all (is_placed (layout_of clusters (blocks_of batches)).places) (blocks_of batches) ≡ true }
 {}

@@ -2,10 +2,10 @@
 ghost use Rattle.std.specs.Prelude.{◌≡◌, ◌<◌, ◌++◌, None, map, IfOk, OnOk};
 ghost use Rattle.std.specs.List.{flat_map};
 ghost use Rattle.std.specs.Option.{option_copied};
-ghost use Rattle.ndc_explain_picture.specs.Picture.{arrow_for, arrow_path, arrow_text, arrows_text, bent_text, box_text, class_of, drawn, event_label, event_line, events_text, fitted, frame_text, head_at, head_of, is_next, is_same_home, key_of_run, lane_text, legend_text, line_text, more_text, name_text, picture_of, heads_of, picture_with, rect_text, run_named, shift_of, side_of, size_text, straight_text, style_text, title_text, version_of};
+ghost use Rattle.ndc_explain_picture.specs.Picture.{arrow_for, arrow_path, arrow_text, arrows_text, bent_text, box_text, class_of, drawn, event_label, event_line, events_text, fitted, frame_text, head_text, is_next, is_same_home, key_of_run, lane_text, legend_text, line_text, more_text, name_text, picture_of, picture_with, rect_text, run_named, shift_of, side_of, size_text, straight_text, style_text, title_text};
 
 use crate::blocks::{Block, blocks_of, copies_of, events_of, events_told, summary_of};
-use crate::layout::{Layout, is_lane, layout_of, plus};
+use crate::layout::{Head, Layout, layout_of, plus};
 use crate::places::{Place, Places};
 use ndc_domain::Clusters;
 use ndc_dump::Dump;
@@ -122,26 +122,44 @@ fn push_legend(text: &mut Vec<u8>) -> Result<(), OutOfMemory>
     )
 }
 
-/// Appends the head of a lane.
+/// Appends the head of a lane: the cluster of this name, where it has one, or the version.
 #[tactic(auto, unfolding(crate::specs::Picture::lane_text))]
-fn push_lane(
-    text: &mut Vec<u8>,
-    clusters: &Option<Clusters>,
-    version: u64,
-    left: u64,
-) -> Result<(), OutOfMemory>
-    ensures { OnOk result (text.new.items ≡ text.old.items ++ lane_text clusters.now version left) }
+fn push_lane(text: &mut Vec<u8>, name: &[u8], version: u64, left: u64) -> Result<(), OutOfMemory>
+    ensures { OnOk result (text.new.items ≡ text.old.items ++ lane_text name.now version left) }
 {
-    push_pieces(
+    match name {
+        [] => push_pieces(
+            text,
+            &[
+                Piece::Plain("<text class='head' x='"),
+                Piece::Number(left),
+                Piece::Plain("' y='28'>version "),
+                Piece::Number(version),
+                Piece::Plain("</text>\n"),
+            ],
+        ),
+        [..] => push_pieces(
+            text,
+            &[
+                Piece::Plain("<text class='head' x='"),
+                Piece::Number(left),
+                Piece::Plain("' y='28'>"),
+                Piece::Escaped(name),
+                Piece::Plain("</text>\n"),
+            ],
+        ),
+    }
+}
+
+/// Appends the head of a lane.
+fn push_head(text: &mut Vec<u8>, clusters: &Option<Clusters>, head: Head) -> Result<(), OutOfMemory>
+    ensures { OnOk result (text.new.items ≡ text.old.items ++ head_text clusters.now head) }
+{
+    push_lane(
         text,
-        &[
-            Piece::Plain("<text class='head' x='"),
-            Piece::Number(left),
-            Piece::Plain("' y='28'>version "),
-            Piece::Number(version),
-            Piece::EscapedWriter(writer_name(clusters, version)),
-            Piece::Plain("</text>\n"),
-        ],
+        writer_name(clusters, head.version),
+        head.version,
+        head.left,
     )
 }
 
@@ -574,11 +592,15 @@ impl<'v> Model for Drawing<'v> {
 }
 
 /// What of a view is drawn.
-fn drawn<'v>(alloc: Global, view: &'v View) -> Result<Drawing<'v>, OutOfMemory>
-    ensures { IfOk result (λ drawing. drawing ≡ drawn view.now) }
+fn drawn<'v>(
+    alloc: Global,
+    clusters: &Option<Clusters>,
+    view: &'v View,
+) -> Result<Drawing<'v>, OutOfMemory>
+    ensures { IfOk result (λ drawing. drawing ≡ drawn clusters.now view.now) }
 {
     let blocks = blocks_of(alloc, view.batches.as_slice())?;
-    let layout = layout_of(alloc, blocks.as_slice())?;
+    let layout = layout_of(alloc, clusters, blocks.as_slice())?;
     let keys = standing(alloc, view)?;
     Ok(Drawing {
         blocks,
@@ -697,77 +719,22 @@ impl<'v> Drawing<'v> {
     ) -> Result<(), OutOfMemory>
         ensures { OnOk result (text.new.items ≡ text.old.items ++ lanes_text clusters.now self.now) }
     {
-        push_heads(text, clusters, &self.layout.places, self.blocks.as_slice())?;
+        push_heads(text, clusters, self.layout.heads())?;
         self.push_lines(alloc, text)?;
         self.push_boxes(alloc, text)
     }
 }
 
-/// Appends the head of the lane of a block at this place.
-fn push_head_at(
-    text: &mut Vec<u8>,
-    clusters: &Option<Clusters>,
-    version: u64,
-    place: Option<&Place>,
-) -> Result<(), OutOfMemory>
-    ensures { OnOk result (text.new.items ≡ text.old.items ++ head_at clusters.now version (option_copied place.entry)) }
-{
-    match place {
-        None => Ok(()),
-        Some(place) => push_lane(text, clusters, version, place.left),
-    }
-}
-
-/// Appends the head of the lane of a block, where its version is not the one before.
-fn push_head_of(
-    text: &mut Vec<u8>,
-    clusters: &Option<Clusters>,
-    places: &Places,
-    before: Option<u64>,
-    summary: Option<Summary>,
-) -> Result<(), OutOfMemory>
-    ensures { OnOk result (text.new.items ≡ text.old.items ++ head_of clusters.now places.now before summary) }
-{
-    let Some(summary) = summary else {
-        return Ok(());
-    };
-    let version = summary.first.version;
-    if is_lane(before, version) {
-        Ok(())
-    } else {
-        push_head_at(
-            text,
-            clusters,
-            version,
-            places.place_at(Some(summary.first)),
-        )
-    }
-}
-
-/// The version of a block, or the one before where it is empty.
-fn version_of(before: Option<u64>, summary: Option<Summary>) -> Option<u64>
-    ensures { result ≡ version_of before summary }
-{
-    match summary {
-        None => before,
-        Some(summary) => Some(summary.first.version),
-    }
-}
-
-/// Appends the heads of the lanes of blocks.
+/// Appends the heads of lanes.
 fn push_heads(
     text: &mut Vec<u8>,
     clusters: &Option<Clusters>,
-    places: &Places,
-    blocks: &[Block],
+    heads: &[Head],
 ) -> Result<(), OutOfMemory>
-    ensures { OnOk result (text.new.items ≡ text.old.items ++ heads_of clusters.now places.now None blocks.now) }
+    ensures { OnOk result (text.new.items ≡ text.old.items ++ flat_map (head_text clusters.now) heads.now) }
 {
-    let mut before = None;
-    for block in blocks {
-        let summary = summary_of(block.as_slice());
-        push_head_of(text, clusters, places, before, summary)?;
-        before = version_of(before, summary);
+    for head in heads {
+        push_head(text, clusters, *head)?;
     }
     Ok(())
 }
@@ -802,7 +769,7 @@ fn push_drawing(
     text.extend_from_slice(b"</svg>\n")
 }
 
-/// Draws a dump as an SVG document: a lane for each version; in it the batches in key order, those in a row between two
+/// Draws a dump as an SVG document: a lane for each cluster that is named, or else for each version; in it the batches in key order, those in a row between two
 /// forks as one box with its first events; a line from each box to the boxes of its children, and of the
 /// run that continues its own; and an arrow from each signal to its copies. The boxes and lines of current branches are
 /// wide, the others dashed.
@@ -816,6 +783,6 @@ pub fn push_picture(
 ) -> Result<(), OutOfMemory>
     ensures { OnOk result (text.new.items ≡ text.old.items ++ picture_of clusters.now dump.now) }
 {
-    let drawing = drawn(alloc, &dump.view)?;
+    let drawing = drawn(alloc, clusters, &dump.view)?;
     push_drawing(alloc, text, clusters, dump, &drawing)
 }

@@ -9,4 +9,4 @@ pub returns-clause-filled : goal.returns-clause-filled
 returns-clause-filled c = λ batches. blocks_are_filled batches
 
 pub returns-clause-placed : goal.returns-clause-placed
-returns-clause-placed c = λ batches. blocks_are_placed batches
+returns-clause-placed c = λ clusters batches. blocks_are_placed clusters batches

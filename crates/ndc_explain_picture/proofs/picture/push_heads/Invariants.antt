@@ -1,7 +1,8 @@
-use Rattle.std.proofs.Common.{◌≡◌, ◌++◌, drop, None}
-use Rattle.ndc_explain_picture.specs.Picture.{heads_of}
+use Rattle.std.proofs.Common.{◌≡◌, ◌++◌, drop}
+use Rattle.std.specs.List.{flat_map}
+use Rattle.ndc_explain_picture.specs.Picture.{head_text}
 use Rattle.ndc_explain_picture.proofs.picture.push_heads.Given as goal
 
 -- the text so far, with what is left, is the whole
-abbrev pub invariant-loop-block : goal.invariant-loop-block
-invariant-loop-block l = l.text.items ++ heads_of l.clusters l.places l.before (drop l.block-index l.blocks) ≡ l.initial.text.items ++ heads_of l.clusters l.places None l.blocks
+abbrev pub invariant-loop-head : goal.invariant-loop-head
+invariant-loop-head l = l.text.items ++ flat_map (head_text l.clusters) (drop l.head-index l.heads) ≡ l.initial.text.items ++ flat_map (head_text l.clusters) l.heads
