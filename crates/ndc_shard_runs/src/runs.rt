@@ -320,6 +320,13 @@ impl Runs {
         self.greatest_task
     }
 
+    /// What is learned is sound. Takes no time.
+    pub fn is_sound(&self)
+        ensures { IsSound self.now }
+    {
+        let _runs = &self.runs;
+    }
+
     /// What is learned is sound, and its tasks and the batch's are numbers of 64 bits. Takes no time.
     pub(crate) fn has_small_tasks(&self, batch: &Batch)
         ensures sound { IsSound self.now }
