@@ -20,6 +20,8 @@ use Rattle.ndc_laws.proofs.MergeLettersLemmas.{merged-come}
 use Rattle.ndc_laws.proofs.ResetLemmas.{reset-leaves}
 use Rattle.ndc_laws.proofs.ScriptLemmas.{ended-in-script, nothing-in-script}
 use Rattle.ndc_laws.proofs.SettlementLemmas.{resend-line, settle-line}
+use Rattle.ndc_laws.specs.Worked.{HasWorked}
+use Rattle.ndc_laws.proofs.WorkLemmas.{work_line}
 use Rattle.ndc_laws_program.specs.LinePromises.{AnswersDump, BringsLetters, CompletesWhereReady, GoesOnInNewRun, MissesNothingTrimmed, SetsAsideWhereCut, behind}
 use Rattle.ndc_laws_program.specs.Promises.{AtEach, EndsOldVersions, KeepsBehindLines}
 use Rattle.ndc_laws_program.proofs.DumpLemmas.{dump-line}
@@ -84,6 +86,7 @@ at-each script fit asked P each front back number parts = each front back number
 pub keeps-behind-lines : (script : Script) → IsWellFormed script → KeepsBehindLines script
 keeps-behind-lines script fit = record {
   settled = at-each script fit act.Settle (λ w. IsSettled script.header (behind script.header act.Settle w)) (λ front back number is. settle-line script.header front back number is);
+  worked = λ cluster. at-each script fit (act.Work cluster) (λ w. HasWorked script.header cluster (behind script.header (act.Work cluster) w)) (λ front back number is. work_line script.header front back number cluster is);
   resent = λ cluster. at-each script fit (act.Resend cluster) (λ w. NothingPutOff script.header cluster (behind script.header (act.Resend cluster) w)) (λ front back number is. resend-line script.header front back number cluster is);
   bootstrapped = λ reader source. at-each script fit (act.Bootstrap reader source) (λ w. MissesNothingTrimmed script.header reader source (behind script.header (act.Bootstrap reader source) w)) (λ front back number is. bootstrap-line script.header front back number reader source is);
   dumped = λ cluster domain workflow. at-each script fit (act.Dump cluster domain workflow) (AnswersDump script.header cluster domain workflow) (λ front back number is. dump-line script.header front back number cluster domain workflow is);
