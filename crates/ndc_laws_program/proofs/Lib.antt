@@ -1,6 +1,7 @@
 pub mod DumpLemmas
 pub mod GeneratedLemmas
 mod FoundLemmas
+mod InsideLemmas
 mod KeepLemmas
 mod LinePromiseLemmas
 pub mod PromiseLemmas

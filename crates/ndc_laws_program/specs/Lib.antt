@@ -1,5 +1,6 @@
 pub mod Arriving
 pub mod Dumps
+pub mod Inside
 pub mod LinePromises
 pub mod Promises
 pub mod Shared

@@ -13,6 +13,7 @@ use Rattle.ndc_laws.specs.Counts.{AreReachedFrom}
 use Rattle.ndc_laws.specs.Promised.{IsAsPromised, NothingPutOff, line, world_before}
 use Rattle.ndc_laws.specs.Worked.{HasWorked}
 use Rattle.ndc_laws_program.specs.Arriving.{AnswersArrivals}
+use Rattle.ndc_laws_program.specs.Inside.{AnswersInside}
 use Rattle.ndc_laws_program.specs.LinePromises.{AnswersDump, BringsLetters, CompletesWhereReady, GoesOnInNewRun, IsEnded, MissesNothingTrimmed, OvertakenEndsAlone, RefusedChangesNothing, SetsAsideWhereCut, behind}
 use Rattle.ndc_laws_program.specs.Told.{WasTold}
 use Rattle.ndc_laws_program.specs.WorldPromises.{ClosedPartsHaveOneCurrent, HasOneWriters, HoldsReports}
@@ -48,6 +49,7 @@ pub record KeepsBehindLines (script : Script) : Type 0 where
   pub damaged : (reader source : ClusterNo) (shard place cut : ℕ) → AtEach script (act.Damage reader source shard place cut) (SetsAsideWhereCut script.header reader source shard place cut)
   pub merged : (cluster : ClusterNo) → AtEach script (act.MergeLetters cluster) (BringsLetters script.header cluster)
   pub purged : (cluster : ClusterNo) → AtEach script (act.Purge cluster) (λ w. behind script.header (act.Purge cluster) w ≡ with_letters cluster [] w)
+  pub answered : (asked : Act) → AtEach script asked (AnswersInside script.header asked)
   pub refused : (asked : Act) → AtEach script asked (RefusedChangesNothing script.header asked)
   pub overtaken : (at : ClusterNo) (domain : Name) → AtEach script (act.Complete at domain) (OvertakenEndsAlone script.header at domain)
   pub listed : (cluster : ClusterNo) → AtEach script (act.LettersOf cluster) (λ w. behind script.header (act.LettersOf cluster) w ≡ w)
