@@ -1,7 +1,9 @@
 pub mod HeadlineLemmas
 pub mod AncestorLemmas
 pub mod StrayLemmas
+pub mod QuietLemmas
 pub mod SettlesLemmas
+pub mod WorkLemmas
 pub mod LinesBefore
 pub mod SettlementLemmas
 pub mod DamageLemmas
