@@ -1,3 +1,7 @@
+ghost use Rattle.std.specs.Prelude.{◌≡◌, ◌<◌, length};
+ghost use Rattle.ndc_cluster_links.specs.Rest.{IsRestOf};
+ghost use Rattle.ndc_model.specs.World.{cluster_at, queue_at, trimmed_at};
+
 use crate::answer::Answer;
 use crate::reporting::no_reports;
 use crate::running::{line_count, run_line};
@@ -25,6 +29,21 @@ use std::thread::Threads;
 
 /// How many lines a world runs at most.
 const MOST_LINES: u64 = 100_000;
+
+/// The queue of a source for a shard, as far as it is kept.
+fn kept_queue<C: Reads + Drop>(
+    replication: &Replication<C>,
+    source: ClusterNo,
+    shard: u32,
+) -> &Queue
+    requires source { source.number < length replication.now.clusters }
+    requires shard { shard < length (cluster_at source replication.now).cells }
+    ensures first { result.now.first ≡ trimmed_at source replication.now shard }
+    ensures rest { IsRestOf result.now (queue_at source shard replication.now) }
+{
+    let publisher = publisher_of(replication, source);
+    &publisher.queues().as_slice()[shard as usize]
+}
 
 /// The world of a script that runs: all clusters with the links between them, and the greatest progress report of each
 /// activity that each cluster was told or took over. They stand for the world that the lines lead to. It counts the lines
@@ -67,7 +86,7 @@ impl<'a, C: Reads + Drop> Drop for World<'a, C> {
 }
 
 impl<'a, C: Reads + Drop> World<'a, C> {
-    ghost use Rattle.std.specs.Prelude.{◌≡◌, ◌<◌, ◌+◌, ◌≤◌, ◌↔◌, drop, false, length, true, IfOk, IsTrue, OnOk, OnErr};
+    ghost use Rattle.std.specs.Prelude.{◌≡◌, ◌<◌, ◌+◌, ◌≤◌, ◌↔◌, false, length, true, IfOk, IsTrue, OnOk, OnErr};
     ghost use Rattle.ndc_script_types.specs.WellFormed.{IsCluster, IsWellFormedAct, IsWellFormedHeader};
     ghost use Rattle.ndc_domain.specs.Clusters.{cluster_no, count_of};
     ghost use Rattle.ndc_model.specs.Standing.{StandFor};
@@ -75,6 +94,7 @@ impl<'a, C: Reads + Drop> World<'a, C> {
     ghost use Rattle.ndc_model.specs.World.{cluster_at, flight_at, lane_at, link_at, opening_world, queue_at, trimmed_at};
     ghost use Rattle.ndc_world.specs.Standing.{IsReachedWorld, IsSettledBy, IsSettledWorld, IsStepped, LeavesAllWhereRefused};
     ghost use Rattle.ndc_world.specs.Summary.{summary_of};
+    ghost use Rattle.ndc_cluster_links.specs.Rest.{IsRestOf};
     ghost use Rattle.ndc_world_replication.specs.Publishers.{cluster_alone};
 
     /// The world of a header in the beginning: nothing is registered, written or sent.
@@ -177,10 +197,9 @@ impl<'a, C: Reads + Drop> World<'a, C> {
         requires source { IsCluster self.now.header source }
         requires shard { shard < self.now.header.shards }
         ensures first { result.now.first ≡ trimmed_at source self.now.world shard }
-        ensures kept { result.now.kept ≡ drop (trimmed_at source self.now.world shard) (queue_at source shard self.now.world) }
+        ensures rest { IsRestOf result.now (queue_at source shard self.now.world) }
     {
-        let publisher = publisher_of(&self.replication, source);
-        &publisher.queues().as_slice()[shard as usize]
+        kept_queue(&self.replication, source, shard)
     }
 
     /// The letters that a cluster has set aside, in the order in which they came. Takes no memory.
