@@ -10,6 +10,7 @@ pub mod DamageLemmas
 pub mod MergeLettersLemmas
 pub mod MissingLemmas
 pub mod AnswerLemmas
+pub mod CellArrivalLemmas
 pub mod HandoverLemmas
 pub mod ResetLemmas
 pub mod HeldLemmas

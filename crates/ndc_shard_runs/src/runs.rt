@@ -378,7 +378,9 @@ impl Runs {
         self.strays.get()
     }
 
-    /// Whether reapplication may be due, by what is known: there may be strays, and the current run is open.
+    /// Whether reapplication may be due, by what is known: there may be strays, and the current run is open. `false` is sure,
+    /// and `true` tells nothing: strays are looked for when they are asked for, and this call reads no events. `is_due`
+    /// answers exactly.
     pub fn may_be_due(&self) -> bool
         ensures { result ≡ false → is_due self.now ≡ false }
     {
