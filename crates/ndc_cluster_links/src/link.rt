@@ -248,7 +248,7 @@ impl Link {
     }
 
     /// Whether it is known that nothing is in flight, for any shard. Takes no memory. `true` is sure. `false` promises nothing:
-    /// the answer is a note that some calls take anew, no lane is looked at, and `is_quiet_for` tells of one shard.
+    /// no lane is looked at (`look` does that), and `is_quiet_for` tells of one shard.
     pub fn is_quiet(&self) -> bool
         ensures { IsTrue result → link_without_flights self.now ≡ self.now }
     {

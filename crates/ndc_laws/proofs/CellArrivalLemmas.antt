@@ -165,7 +165,6 @@ key-where sent cell key e = there (has_arrived sent.batch cell) (has_key (Some s
     there false true e = absurd (cc)
     there false false e = cc
 
-
 module _ (all : List Batch) (sound : IsSound all) (sent : Message) (cell : Cell) (own : (x : Batch) → Has all x → is_of sent.batch.domain sent.batch.workflow x ≡ true) (is : IsCell cell)
     (then_is : has_arrived sent.batch cell ≡ false → IsCell (cell_with sent cell))
     (within : has_arrived sent.batch cell ≡ false → IsPart (arrived_of sent.batch.domain sent.batch.workflow (cell_with sent cell)) all) where
@@ -173,9 +172,9 @@ module _ (all : List Batch) (sound : IsSound all) (sent : Message) (cell : Cell)
   pub put-off-lacks : ((key : BatchKey) × (arrival_of sent cell ≡ PutOff key)) ↔ ((has_arrived sent.batch cell ≡ false) × LacksAncestorAmong all (arrived_at sent cell) sent.batch)
   put-off-lacks = (
     λ p. let q = (put-off-where sent cell).0 p in
-    (q.0, subst (λ c. LacksAncestorAmong all c sent.batch) (sym (next-is sent cell q.0)) ((unlearned-where all sound sent cell own is (then_is q.0) (within q.0) q.0).0 q.1)),
+        (q.0, subst (λ c. LacksAncestorAmong all c sent.batch) (sym (next-is sent cell q.0)) ((unlearned-where all sound sent cell own is (then_is q.0) (within q.0) q.0).0 q.1)),
     λ p. (put-off-where sent cell).1
-    (p.0, (unlearned-where all sound sent cell own is (then_is p.0) (within p.0) p.0).1 (subst (λ c. LacksAncestorAmong all c sent.batch) (next-is sent cell p.0) p.1)),
+        (p.0, (unlearned-where all sound sent cell own is (then_is p.0) (within p.0) p.0).1 (subst (λ c. LacksAncestorAmong all c sent.batch) (next-is sent cell p.0) p.1)),
   )
 
   -- what is told then is the first key on the way up that is that of none
