@@ -135,7 +135,8 @@ impl<C: Cell + Drop> Cluster<C> {
     }
 
     /// For each cell messages that it has written, from some place on, where the last round was done in pieces: they are at
-    /// hand until they are taken. Takes no memory.
+    /// hand until they are taken. Takes no memory. `None` tells nothing of what was written, since the way in which a round is
+    /// done is told by nothing else: who wants the messages reads them from the cells then.
     pub fn take_fresh(&mut self) -> Option<Vec<Fresh>>
         ensures fresh { IfSome result (λ fresh. AreFresh fresh.items self.old.cells) }
         ensures same { self.new ≡ self.old }

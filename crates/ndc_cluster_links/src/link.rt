@@ -215,7 +215,8 @@ impl Link {
     }
 
     /// Whether all entries of the queues of its source are done, so that nothing is due. What is kept of each queue reaches
-    /// from the lane's `done` or before it to its end. Takes no memory.
+    /// from the lane's `done` or before it to its end. Takes no memory. `true` is sure. `false` promises nothing: two numbers
+    /// are compared, no lane is looked at, and `is_done_for` tells of one shard.
     pub fn is_done(&self, queues: &Queues) -> bool
         requires alike { length queues.now ≡ length self.now.lanes }
         requires within { AreWithin queues.now self.now.lanes }
@@ -246,7 +247,8 @@ impl Link {
         lane.flight().is_empty()
     }
 
-    /// Whether it is known that nothing is in flight, for any shard. Takes no memory.
+    /// Whether it is known that nothing is in flight, for any shard. Takes no memory. `true` is sure. `false` promises nothing:
+    /// no lane is looked at (`look` does that), and `is_quiet_for` tells of one shard.
     pub fn is_quiet(&self) -> bool
         ensures { IsTrue result → link_without_flights self.now ≡ self.now }
     {

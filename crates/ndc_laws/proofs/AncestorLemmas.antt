@@ -1,5 +1,5 @@
 -- What is put off is what lacks an ancestor.
-use Rattle.std.proofs.Common.{◌≡◌, ◌<◌, ℕ, Bool, true, false, not, List, ◌⊎◌, inl, inr, Option, Some, None, refl, sym, ◌∙◌, subst, ap, true≢false}
+use Rattle.std.proofs.Common.{◌≡◌, ◌<◌, ◌↔◌, ℕ, Bool, true, false, not, List, ◌⊎◌, inl, inr, Option, Some, None, refl, sym, ◌∙◌, subst, ap, true≢false}
 use Rattle.std.specs.Prelude.{is_some}
 use Rattle.std.specs.List.{IsAmong}
 use Rattle.ndc_script_types.specs.WellFormed.{IsCluster}
@@ -13,25 +13,26 @@ use Rattle.ndc_event.specs.declared.batch.Batch.{Batch}
 use Rattle.ndc_event.specs.declared.key.BatchKey.{BatchKey}
 use Rattle.ndc_event.specs.declared.name.Name.{Name}
 use Rattle.ndc_laws_cells.proofs.FoundLemmas.{at-there}
+use Rattle.ndc_laws_cells.proofs.KeptLemmas.{none-is}
 use Rattle.ndc_laws_reached.proofs.WrittenLemmas.{arrived-written, cell-is, has-written, names-of, own-names}
-use Rattle.ndc_laws.specs.Promised.{LacksAncestor, WaitsForAncestors}
+use Rattle.ndc_laws.specs.Promised.{LacksAncestor, LacksAncestorAmong, WaitsForAncestors}
 use Rattle.ndc_model.specs.Facts.{IsReached}
 use Rattle.ndc_model.specs.Fair.{written_of}
 use Rattle.ndc_model.specs.World.{World, cell_at}
 use Rattle.ndc_laws_cells.proofs.Lists.{among-is, is-among}
-use Rattle.ndc_model_sets.specs.Learned.{IsPart, ReachesTop, WaitsFor, behind, itself, learned, top, up}
+use Rattle.ndc_model_sets.specs.Learned.{IsPart, ReachesTop, WaitsFor, behind, has_key, itself, learned, top, up}
 use Rattle.ndc_model_sets.specs.Sets.{Has, IsSet, batch_at, earlier}
 use Rattle.ndc_model_sets.proofs.BranchLemmas.{among-has, has-among, same-batch}
 use Rattle.ndc_model_sets.proofs.LearnedLemmas.{closed_whole, learned-reaches, reaches-has, reaches-learned}
 use Rattle.ndc_model_sets.proofs.Lists.{Among, among-filter, filter-among}
-use Rattle.ndc_model_sets.proofs.SetLemmas.{found-has, found-key}
+use Rattle.ndc_model_sets.proofs.SetLemmas.{found-has, found-key, has-found}
 
 -- some batch on the way up from one is not there
-record Lacks (all held : List Batch) (b : Batch) : Type 0 where
-  one : Batch
-  has : Has all one
-  above : WaitsFor all one b
-  gone : batch_at one.key held ≡ None
+pub record Lacks (all held : List Batch) (b : Batch) : Type 0 where
+  pub one : Batch
+  pub has : Has all one
+  pub above : WaitsFor all one b
+  pub gone : batch_at one.key held ≡ None
 
 module _ (all held : List Batch) (part : IsPart held all) where
   -- from one that is there, all on the way up are there, or some is not
@@ -68,6 +69,56 @@ module _ (all held : List Batch) (part : IsPart held all) where
       by (top _ there f) rest = absurd (cc)
       by (up _ other k there f found r) rest = step other k f found r rest
 
+  -- one of them is not learned exactly where some batch on the way up from it is not there
+  module _ (set : IsSet held) (b : Batch) (whole : ReachesTop all b) (there : Has held b) where
+    learned-where : has_key (Some b.key) (learned held) ≡ true → ReachesTop held b
+    learned-where h = by (batch_at b.key (learned held)) refl h
+      where
+        by : (o : Option Batch) → batch_at b.key (learned held) ≡ o → is_some o ≡ true → ReachesTop held b
+        by None e h = absurd (true≢false (sym h))
+        by (Some c) e h =
+            let reaches = learned-reaches held c set (found-has (learned held) b.key c e) in
+            subst (ReachesTop held) (same-batch held c b (reaches-has held c reaches) there (found-key (learned held) b.key c e)) reaches
+
+    pub lacks-where : (has_key (Some b.key) (learned held) ≡ false) ↔ Lacks all held b
+    lacks-where = (λ off. lacking (upwards b whole there) off, λ lacks. unlearned lacks (has_key (Some b.key) (learned held)) refl)
+      where
+        lacking : ReachesTop held b ⊎ Lacks all held b → has_key (Some b.key) (learned held) ≡ false → Lacks all held b
+        lacking (inl reaches) off = absurd (true≢false (sym (ap is_some (reaches-learned held b set reaches)) ∙ off))
+        lacking (inr lacks) off = lacks
+
+        unlearned : Lacks all held b → (t : Bool) → has_key (Some b.key) (learned held) ≡ t → t ≡ false
+        unlearned lacks false e = refl
+        unlearned lacks true e =
+            let has = above-there lacks.one b lacks.above (learned-where e) in
+            absurd (true≢false (sym (ap is_some (has-found held lacks.one.key lacks.one refl has)) ∙ ap is_some lacks.gone))
+
+-- a batch of a workflow has arrived exactly where its key is that of one that has arrived of the workflow
+found-there : (domain workflow : Name) (cell : Cell) (x : Batch) → is_of domain workflow x ≡ true → has_arrived x cell ≡ is_some (batch_at x.key (arrived_of domain workflow cell))
+found-there domain workflow cell x own =
+    let n = names-of domain workflow x own in
+    ap is_some (subst (λ d. batch_there cell.arrived (place_of x) ≡ batch_at x.key (arrived_of d workflow cell)) n.0
+    (subst (λ u. batch_there cell.arrived (place_of x) ≡ batch_at x.key (arrived_of x.domain u cell)) n.1 (sym (at-there x.domain x.workflow x.key cell.arrived))))
+
+-- batches of a workflow of which one has not arrived in a cell
+module _ (all : List Batch) (cell : Cell) (b : Batch) (own : (x : Batch) → Has all x → is_of b.domain b.workflow x ≡ true) where
+  pub lacks-here : Lacks all (arrived_of b.domain b.workflow cell) b → LacksAncestorAmong all cell b
+  lacks-here lacks = record { ancestor = lacks.one; above = lacks.above; missing = found-there b.domain b.workflow cell lacks.one (own lacks.one lacks.has) ∙ ap is_some lacks.gone }
+
+  pub lacks-there : LacksAncestorAmong all cell b → Has all b → Lacks all (arrived_of b.domain b.workflow cell) b
+  lacks-there lacks has =
+      let above_has = waits-has lacks.ancestor b lacks.above has in
+      record {
+        one = lacks.ancestor;
+        has = above_has;
+        above = lacks.above;
+        gone = none-is (batch_at lacks.ancestor.key (arrived_of b.domain b.workflow cell)) (sym (found-there b.domain b.workflow cell lacks.ancestor (own lacks.ancestor above_has)) ∙ lacks.missing);
+      }
+    where
+      waits-has : (one x : Batch) → WaitsFor all one x → Has all x → Has all one
+      waits-has one x itself has = has
+      waits-has one x (behind _ before key x_has e at above) has = waits-has one before above (found-has all key before at)
+
 module _ (header : Header) (lines : ℕ) (w : World) (is : IsReached header lines w) (cluster : ClusterNo) (known : IsCluster header cluster) (shard : ℕ) (below : shard < header.shards) where
   abbrev cell : Cell
   cell = cell_at cluster shard w
@@ -98,23 +149,20 @@ module _ (header : Header) (lines : ℕ) (w : World) (is : IsReached header line
   held-has : (b : Batch) → Among b cell.arrived → Has (held-of b) b
   held-has b among = among-has (held-of b) b (held-set b).ordered (among-filter (is_of b.domain b.workflow) cell.arrived b (own-names b) among)
 
-  -- the place of a batch of the workflow
-  found-there : (b x : Batch) → Has (all-of b) x → has_arrived x cell ≡ is_some (batch_at x.key (held-of b))
-  found-there b x has =
-      let p = filter-among (is_of b.domain b.workflow) _ x (has-among (all-of b) x has) in
-      let n = names-of b.domain b.workflow x p.0 in
-      ap is_some (subst (λ d. batch_there cell.arrived (place_of x) ≡ batch_at x.key (arrived_of d b.workflow cell)) n.0
-      (subst (λ u. batch_there cell.arrived (place_of x) ≡ batch_at x.key (arrived_of x.domain u cell)) n.1 (sym (at-there x.domain x.workflow x.key cell.arrived))))
+  own-of : (b x : Batch) → Has (all-of b) x → is_of b.domain b.workflow x ≡ true
+  own-of b x has = (filter-among (is_of b.domain b.workflow) _ x (has-among (all-of b) x has)).0
 
-  learned-where : (b : Batch) → Has (held-of b) b → is_learned_in cell b ≡ true → ReachesTop (held-of b) b
-  learned-where b there h = by (batch_at b.key (learned (held-of b))) refl h
-    where
-      by : (o : Option Batch) → batch_at b.key (learned (held-of b)) ≡ o → is_some o ≡ true → ReachesTop (held-of b) b
-      by None e h = absurd (true≢false (sym h))
-      by (Some c) e h =
-          let has = found-has (learned (held-of b)) b.key c e in
-          let reaches = learned-reaches (held-of b) c (held-set b) has in
-          subst (ReachesTop (held-of b)) (same-batch (held-of b) c b (reaches-has (held-of b) c reaches) there (found-key (learned (held-of b)) b.key c e)) reaches
+  module _ (b : Batch) (arrives : Among b cell.arrived) where
+    written : Has (all-of b) b
+    written = held-part b b (held-has b arrives)
+
+    reaches : ReachesTop (all-of b) b
+    reaches = let sound = is.fair.writing.sound b.domain b.workflow in learned-reaches (all-of b) b sound.set (subst (λ l. Has l b) (sym (closed_whole (all-of b) sound.set sound.closed)) written)
+
+    lacks-exactly : (is_learned_in cell b ≡ false) ↔ LacksAncestor header cell b w
+    lacks-exactly =
+        let where_lacks = lacks-where (all-of b) (held-of b) (held-part b) (held-set b) b reaches (held-has b arrives) in
+        (λ off. lacks-here (all-of b) cell b (own-of b) (where_lacks.0 off), λ lacks. where_lacks.1 (lacks-there (all-of b) cell b (own-of b) lacks written))
 
   waits : WaitsForAncestors header cell w
   waits b = (there, back)
@@ -126,32 +174,12 @@ module _ (header : Header) (lines : ℕ) (w : World) (is : IsReached header line
       there : IsAmong (put_off_in cell) b → IsAmong cell.arrived b × LacksAncestor header cell b w
       there put_off =
           let p = filter-among (λ x. not (is_learned_in cell x)) cell.arrived b (is-among (put_off_in cell) b put_off) in
-          (among-is cell.arrived b p.1, by (upwards (all-of b) (held-of b) (held-part b) b reaches (held-has b p.1)) (negated (is_learned_in cell b) p.0))
-        where
-          arrives : Among b cell.arrived
-          arrives = (filter-among (λ x. not (is_learned_in cell x)) cell.arrived b (is-among (put_off_in cell) b put_off)).1
-
-          reaches : ReachesTop (all-of b) b
-          reaches =
-              let sound = is.fair.writing.sound b.domain b.workflow in
-              learned-reaches (all-of b) b sound.set (subst (λ l. Has l b) (sym (closed_whole (all-of b) sound.set sound.closed)) (held-part b b (held-has b arrives)))
-
-          by : ReachesTop (held-of b) b ⊎ Lacks (all-of b) (held-of b) b → is_learned_in cell b ≡ false → LacksAncestor header cell b w
-          by (inl r) unlearned = absurd (true≢false (sym (ap is_some (reaches-learned (held-of b) b (held-set b) r)) ∙ unlearned))
-          by (inr l) unlearned = record { ancestor = l.one; above = l.above; missing = found-there b l.one l.has ∙ ap is_some l.gone }
+          (among-is cell.arrived b p.1, (lacks-exactly b p.1).0 (negated (is_learned_in cell b) p.0))
 
       back : IsAmong cell.arrived b × LacksAncestor header cell b w → IsAmong (put_off_in cell) b
       back (arrives, lacks) =
-          among-is (put_off_in cell) b (among-filter (λ x. not (is_learned_in cell x)) cell.arrived b (unlearned (is_learned_in cell b) refl) (is-among cell.arrived b arrives))
-        where
-          here : Has (held-of b) b
-          here = held-has b (is-among cell.arrived b arrives)
-
-          unlearned : (t : Bool) → is_learned_in cell b ≡ t → not (is_learned_in cell b) ≡ true
-          unlearned false e = ap not e
-          unlearned true e =
-              let has = above-there (all-of b) (held-of b) (held-part b) lacks.ancestor b lacks.above (learned-where b here e) in
-              absurd (true≢false (sym (found-there b lacks.ancestor (held-part b lacks.ancestor has) ∙ ap is_some has) ∙ lacks.missing))
+          let among = is-among cell.arrived b arrives in
+          among-is (put_off_in cell) b (among-filter (λ x. not (is_learned_in cell x)) cell.arrived b (ap not ((lacks-exactly b among).1 lacks)) among)
 
 pub waits-for-ancestors : (header : Header) (lines : ℕ) (w : World) (cluster : ClusterNo) (shard : ℕ) → IsReached header lines w → IsCluster header cluster → shard < header.shards → WaitsForAncestors header (cell_at cluster shard w) w
 waits-for-ancestors header lines w cluster shard is known below = waits header lines w is cluster known shard below

@@ -1,13 +1,16 @@
 pub mod HeadlineLemmas
 pub mod AncestorLemmas
 pub mod StrayLemmas
+pub mod QuietLemmas
 pub mod SettlesLemmas
+pub mod WorkLemmas
 pub mod LinesBefore
 pub mod SettlementLemmas
 pub mod DamageLemmas
 pub mod MergeLettersLemmas
 pub mod MissingLemmas
 pub mod AnswerLemmas
+pub mod CellArrivalLemmas
 pub mod HandoverLemmas
 pub mod ResetLemmas
 pub mod HeldLemmas

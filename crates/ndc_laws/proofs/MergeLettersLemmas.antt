@@ -119,7 +119,7 @@ module _ (header : Header) (fit : IsWellFormedHeader header) (lines : ℕ) (w : 
   abbrev jobs : List ShardJob
   jobs = filter_map (letter_job header w) letters
 
-  all-may : AllByRecursion (IsArrival header reader w) jobs
+  pub all-may : AllByRecursion (IsArrival header reader w) jobs
   all-may =
       all-from (IsArrival header reader w) jobs
       (λ asked among. let f = filter_map-among (letter_job header w) letters asked among in job-may f.0 (all-among (IsLetterFit header w reader) letters f.0 (is.letters reader known) f.1) asked f.2)

@@ -88,7 +88,7 @@ module _ (all held : List Batch) (new : Batch) (closed : IsClosed all) (set : Is
       by (inl is_new) rest = nothing is_new (batch_at key all) refl (ap (λ o. has_key o all) (sym e) ∙ closed b (part b has))
       by (inr h) rest = rest h
 
-  learned-more : (x : Batch) → Has (learned (arrived new held)) x → (x ≡ new) ⊎ Has (learned held) x
+  pub learned-more : (x : Batch) → Has (learned (arrived new held)) x → (x ≡ new) ⊎ Has (learned held) x
   learned-more x has = by (newly_waited held new x set back has)
     where
       waits : (x ≡ new) ⊎ Has held x → WaitsFor (arrived new held) new x → (x ≡ new) ⊎ Has (learned held) x
@@ -104,7 +104,7 @@ module _ (all held : List Batch) (new : Batch) (closed : IsClosed all) (set : Is
           of-wait x (behind _ before key there e at above) = was_or_new new held x set.ordered there
 
 -- nor is it in a part of it
-none-in : (all held : List Batch) (key : BatchKey) → IsPart held all → batch_at key all ≡ None → batch_at key held ≡ None
+pub none-in : (all held : List Batch) (key : BatchKey) → IsPart held all → batch_at key all ≡ None → batch_at key held ≡ None
 none-in all held key part fresh = by (batch_at key held) refl
   where
     by : (o : Option Batch) → batch_at key held ≡ o → batch_at key held ≡ None

@@ -3,3 +3,4 @@ pub mod Grown
 pub mod HandedOver
 pub mod TakenOver
 pub mod Counts
+pub mod Worked

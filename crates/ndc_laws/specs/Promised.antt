@@ -66,11 +66,15 @@ TipsDiffer batches = (one two : RunId) (tip other : Batch) → current_tip one b
 abbrev pub StatesAreReplays : List Batch → Type 0
 StatesAreReplays batches = (b : Batch) → Has batches b → replay_of b.run (events_to b.key batches) ≡ Ok (state_to b.run b.key batches)
 
--- an ancestor of a batch, among all that was written, has not arrived in a cell
-pub record LacksAncestor (header : Header) (cell : Cell) (b : Batch) (w : World) : Type 0 where
+-- an ancestor of a batch, among all batches of its workflow, has not arrived in a cell
+pub record LacksAncestorAmong (all : List Batch) (cell : Cell) (b : Batch) : Type 0 where
   pub ancestor : Batch
-  pub above : WaitsFor (written_of header b.domain b.workflow w) ancestor b
+  pub above : WaitsFor all ancestor b
   pub missing : has_arrived ancestor cell ≡ false
+
+-- an ancestor of a batch, among all that was written, has not arrived in a cell
+abbrev pub LacksAncestor : Header → Cell → Batch → World → Type 0
+LacksAncestor header cell b w = LacksAncestorAmong (written_of header b.domain b.workflow w) cell b
 
 -- following earlier keys upwards from a batch through these, this is the first key that is that of none of them
 pub data FirstMissing (batches : List Batch) (key : BatchKey) : Batch → Type 0 where

@@ -10,4 +10,5 @@ pub mod reset_laws;
 pub mod script_laws;
 pub mod settlement_laws;
 pub mod version_laws;
+pub mod work_laws;
 pub mod world_laws;

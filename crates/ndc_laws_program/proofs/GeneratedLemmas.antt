@@ -1,6 +1,7 @@
 -- In a generated script each record names all clusters.
-use Rattle.std.proofs.Common.{◌≡◌, ℕ, zero, suc, ◌+◌, ◌<◌, ◌≤◌, ◌%◌, ◌==◌, Bool, true, false, List, [], ◌∷◌, ◌++◌, Some, slice_index_or, nat_le, if◌then◌else◌, append-nil, append_assoc, refl, sym, ◌∙◌, subst, ap, arith}
+use Rattle.std.proofs.Common.{◌≡◌, ℕ, zero, suc, ◌+◌, ◌<◌, ◌≤◌, ◌%◌, ◌==◌, Bool, true, false, List, [], ◌∷◌, ◌++◌, Some, length, slice_index_or, nat_le, if◌then◌else◌, append-nil, append_assoc, refl, sym, ◌∙◌, subst, ap, arith}
 use Rattle.std.specs.List.{AllByRecursion, list_any}
+use Rattle.std.proofs.lemmas.List.{length-append}
 use Rattle.std.proofs.lemmas.List.Concat.{flat_map-append}
 use Rattle.std.proofs.lemmas.Option.{none-some}
 use Rattle.ndc_script_types.specs.WellFormed.{IsWellFormed, IsWellFormedAct}
@@ -16,9 +17,11 @@ use Rattle.ndc_domain.specs.Records.{record_of}
 use Rattle.ndc_domain.specs.declared.clusters.ClusterNo.{ClusterNo}
 use Rattle.ndc_domain.specs.declared.record.DomainRecord.{DomainRecord}
 use Rattle.ndc_laws_program.specs.Shared.{SharesAll}
+use Rattle.ndc_laws_program.specs.Summed.{SumsUp}
 use Rattle.ndc_laws_program.proofs.KeepLemmas.{domains-share, failover-shares, register-shares, stay-shares}
 use Rattle.ndc_laws_program.proofs.SameLemmas.{clusters-same}
 use Rattle.ndc_laws_program.proofs.SettleLemmas.{settle-shares}
+use Rattle.ndc_laws_program.proofs.SummedLemmas.{sums-up}
 use Rattle.ndc_laws.proofs.StayLemmas.{command-stay, pull-stay, work-stay}
 use Rattle.ndc_laws.specs.Promised.{RunsReached, world_before}
 use Rattle.ndc_laws.proofs.LinesBefore.{runs-reached}
@@ -26,13 +29,13 @@ use Rattle.ndc_laws_reached.proofs.ReachedLemmas.{line_reached}
 use Rattle.ndc_laws.proofs.SettlementLemmas.{settle-line}
 use Rattle.ndc_model.specs.Facts.{IsReached}
 use Rattle.ndc_model.specs.Laws.{script_of}
-use Rattle.ndc_model.specs.Lines.{act_step, lines_of_act, plain_lines, ran_from, world_behind}
+use Rattle.ndc_model.specs.Lines.{act_step, lines_of_act, plain_lines, ran_from, ran_of, world_behind}
 use Rattle.ndc_model.specs.World.{World, new_cluster, opening_world}
 use Rattle.ndc_model.proofs.ListLemmas.{all-append}
 use Rattle.ndc_model.proofs.ScriptLemmas.{world_in_parts}
 use Rattle.ndc_script.proofs.GeneratedFits.{generated_fits}
 use Rattle.ndc_world_queries.specs.Summaries.{totals_of}
-use Rattle.ndc_script.specs.Generate.{drawn, drawn_cluster, drawn_command, drawn_domain, drawn_lines, drawn_move, drawn_other, drawn_target, drawn_workflow, first_lines, generated_act, generated_header, generated_lines, line_at, next_state}
+use Rattle.ndc_script.specs.Generate.{drawn, drawn_cluster, drawn_command, drawn_domain, drawn_lines, drawn_move, drawn_other, drawn_target, drawn_workflow, first_lines, generated_act, generated_header, generated_lines, generated_script, line_at, next_state}
 
 -- lines after which each record names all clusters, where it did before
 abbrev pub IsSharing : Header → Act → Type 0
@@ -132,26 +135,76 @@ all-sharing count seed =
     Sharing : Line → Type 0
     Sharing line = IsSharing generated_header line.act
 
--- behind so many made lines all clusters are the same
-pub generated-same : (count seed : ℕ) → count ≤ 99000 → (totals_of generated_header (world_before generated_header (generated_lines count seed))).same ≡ true
-generated-same count seed most =
-    subst (λ (w : World). (totals_of generated_header w).same ≡ true) (sym behind)
-    (clusters-same generated_header (runs.lines + 1) (act_step generated_header act.Settle before).world
-    (line_reached generated_header runs.lines act.Settle before is.header runs.fit runs.most runs.reached)
-    (settle-line generated_header front [] (14 + count) is)
-    (subst (SharesAll generated_header) behind (script-shares generated_header (generated_lines count seed) [] is (all-sharing count seed) opening-shares)))
-  where
-    front : List Line
-    front = first_lines ++ drawn_lines count 1 seed
+-- such a line is no burst: it is answered once
+plain-one : (header : Header) (number : ℕ) (asked : Act) → IsSharing header asked → length (lines_of_act number asked) ≡ 1
+plain-one header number (act.Command cluster domain workflow command) it = refl
+plain-one header number (act.Register at domain target days members) it = refl
+plain-one header number (act.Failover at domain target) it = refl
+plain-one header number (act.Domains to from) it = refl
+plain-one header number (act.Pull reader source) it = refl
+plain-one header number (act.Work cluster) it = refl
+plain-one header number act.Settle it = refl
+plain-one header number other it = absurd it
 
-    before : World
-    before = world_before generated_header front
+plain-count : (header : Header) (lines : List Line) → AllByRecursion (λ line. IsSharing header line.act) lines → length (plain_lines lines) ≡ length lines
+plain-count header [] all = refl
+plain-count header (line ∷ lines) all =
+    omega (arith, length-append (lines_of_act line.number line.act) (plain_lines lines), plain-one header line.number line.act all.0, plain-count header lines all.1)
 
-    is : IsWellFormed (script_of generated_header (generated_lines count seed))
-    is = generated_fits count seed most
+-- each line that runs is answered
+ran-count : (header : Header) (w : World) (lines : List Line) → length (ran_from header w lines) ≡ length lines
+ran-count header w [] = refl
+ran-count header w (line ∷ lines) = ap suc (ran-count header (act_step header line.act w).world lines)
 
-    runs : RunsReached generated_header front act.Settle
-    runs = runs-reached generated_header front [] (line_at (14 + count) act.Settle) is
+drawn-count : (left place state : ℕ) → length (drawn_lines left place state) ≡ left
+drawn-count zero place state = refl
+drawn-count (suc left) place state = ap suc (drawn-count left (place + 1) (next_state state))
 
-    behind : world_before generated_header (generated_lines count seed) ≡ (act_step generated_header act.Settle before).world
-    behind = before-next generated_header front (line_at (14 + count) act.Settle)
+-- a made script has an answer for each line that was asked for, and seven more: for the two domains, for telling the others of them, for a
+-- workflow in each, and for the settlement
+pub generated-answers : (count seed : ℕ) → length (ran_of (generated_script count seed)) ≡ count + 7
+generated-answers count seed =
+    omega (
+      arith,
+      ran-count generated_header (opening_world generated_header) (plain_lines (generated_lines count seed)),
+      plain-count generated_header (generated_lines count seed) (all-sharing count seed),
+      length-append (first_lines ++ drawn_lines count 1 seed) (line_at (14 + count) act.Settle ∷ []),
+      length-append first_lines (drawn_lines count 1 seed),
+      drawn-count count 1 seed,
+    )
+
+-- the world behind so many made lines
+module _ (count seed : ℕ) (most : count ≤ 99000) where
+  abbrev front : List Line
+  front = first_lines ++ drawn_lines count 1 seed
+
+  abbrev before : World
+  before = world_before generated_header front
+
+  is : IsWellFormed (script_of generated_header (generated_lines count seed))
+  is = generated_fits count seed most
+
+  runs : RunsReached generated_header front act.Settle
+  runs = runs-reached generated_header front [] (line_at (14 + count) act.Settle) is
+
+  abbrev last : World
+  last = (act_step generated_header act.Settle before).world
+
+  behind : world_before generated_header (generated_lines count seed) ≡ last
+  behind = before-next generated_header front (line_at (14 + count) act.Settle)
+
+  last-reached : IsReached generated_header (runs.lines + 1) last
+  last-reached = line_reached generated_header runs.lines act.Settle before is.header runs.fit runs.most runs.reached
+
+  -- all clusters are the same there
+  pub generated-same : (totals_of generated_header (world_before generated_header (generated_lines count seed))).same ≡ true
+  generated-same =
+      subst (λ (w : World). (totals_of generated_header w).same ≡ true) (sym behind)
+      (clusters-same generated_header (runs.lines + 1) last last-reached (settle-line generated_header front [] (14 + count) is)
+      (subst (SharesAll generated_header) behind (script-shares generated_header (generated_lines count seed) [] is (all-sharing count seed) opening-shares)))
+
+  -- and its numbers sum it up
+  pub generated-sums : SumsUp generated_header (world_before generated_header (generated_lines count seed)) (totals_of generated_header (world_before generated_header (generated_lines count seed)))
+  generated-sums =
+      subst (λ (w : World). SumsUp generated_header w (totals_of generated_header w)) (sym behind)
+      (sums-up generated_header (runs.lines + 1) last last-reached (omega (arith, is.header.shards_least)) is.header.clusters.count_least)

@@ -20,9 +20,13 @@ use Rattle.ndc_laws.proofs.MergeLettersLemmas.{merged-come}
 use Rattle.ndc_laws.proofs.ResetLemmas.{reset-leaves}
 use Rattle.ndc_laws.proofs.ScriptLemmas.{ended-in-script, nothing-in-script}
 use Rattle.ndc_laws.proofs.SettlementLemmas.{resend-line, settle-line}
+use Rattle.ndc_laws.specs.Worked.{HasWorked}
+use Rattle.ndc_laws.proofs.WorkLemmas.{work_line}
+use Rattle.ndc_laws_program.specs.Inside.{AnswersInside}
 use Rattle.ndc_laws_program.specs.LinePromises.{AnswersDump, BringsLetters, CompletesWhereReady, GoesOnInNewRun, MissesNothingTrimmed, SetsAsideWhereCut, behind}
 use Rattle.ndc_laws_program.specs.Promises.{AtEach, EndsOldVersions, KeepsBehindLines}
 use Rattle.ndc_laws_program.proofs.DumpLemmas.{dump-line}
+use Rattle.ndc_laws_program.proofs.InsideLemmas.{inside-answered}
 use Rattle.ndc_laws_reached.specs.Settled.{IsSettled}
 use Rattle.ndc_laws_reached.proofs.TrimmedLemmas.{bootstrapped_fit}
 use Rattle.ndc_model.specs.Handovers.{is_handover_of}
@@ -76,6 +80,10 @@ module _ (header : Header) (front back : List Line) (number : ℕ) where
   merge-line : (cluster : ClusterNo) → IsScriptWith (act.MergeLetters cluster) → BringsLetters header cluster w
   merge-line cluster is = let r = runs (act.MergeLetters cluster) is in merged-come header is.header r.lines w r.reached cluster r.fit
 
+  -- the messages of a line
+  inside-line : (asked : Act) → IsScriptWith asked → AnswersInside header asked w
+  inside-line asked is = let r = runs asked is in inside-answered header is.header r.lines r.most w r.reached asked r.fit
+
 -- what holds at a line of a script holds at each such line of this one
 at-each : (script : Script) → IsWellFormed script → (asked : Act) (P : World → Type 0)
     → ((front back : List Line) (number : ℕ) → IsWellFormed (script_of script.header (front ++ line number asked ∷ back)) → P (world_before script.header front)) → AtEach script asked P
@@ -84,6 +92,7 @@ at-each script fit asked P each front back number parts = each front back number
 pub keeps-behind-lines : (script : Script) → IsWellFormed script → KeepsBehindLines script
 keeps-behind-lines script fit = record {
   settled = at-each script fit act.Settle (λ w. IsSettled script.header (behind script.header act.Settle w)) (λ front back number is. settle-line script.header front back number is);
+  worked = λ cluster. at-each script fit (act.Work cluster) (λ w. HasWorked script.header cluster (behind script.header (act.Work cluster) w)) (λ front back number is. work_line script.header front back number cluster is);
   resent = λ cluster. at-each script fit (act.Resend cluster) (λ w. NothingPutOff script.header cluster (behind script.header (act.Resend cluster) w)) (λ front back number is. resend-line script.header front back number cluster is);
   bootstrapped = λ reader source. at-each script fit (act.Bootstrap reader source) (λ w. MissesNothingTrimmed script.header reader source (behind script.header (act.Bootstrap reader source) w)) (λ front back number is. bootstrap-line script.header front back number reader source is);
   dumped = λ cluster domain workflow. at-each script fit (act.Dump cluster domain workflow) (AnswersDump script.header cluster domain workflow) (λ front back number is. dump-line script.header front back number cluster domain workflow is);
@@ -92,6 +101,7 @@ keeps-behind-lines script fit = record {
   damaged = λ reader source shard place cut. at-each script fit (act.Damage reader source shard place cut) (SetsAsideWhereCut script.header reader source shard place cut) (λ front back number is. damage-line script.header front back number reader source shard place cut is);
   merged = λ cluster. at-each script fit (act.MergeLetters cluster) (BringsLetters script.header cluster) (λ front back number is. merge-line script.header front back number cluster is);
   purged = λ cluster front back number parts. purge-alone script.header (world_before script.header front) cluster;
+  answered = λ asked. at-each script fit asked (AnswersInside script.header asked) (λ front back number is. inside-line script.header front back number asked is);
   refused = λ asked front back number parts. refused_changes_nothing script.header asked (world_before script.header front);
   overtaken = λ at domain front back number parts. overtaken_ends script.header at domain (world_before script.header front);
   listed = λ cluster front back number parts. letters-alone script.header (world_before script.header front) cluster;

@@ -4,11 +4,12 @@ use Rattle.std.specs.List.{AllByRecursion}
 use Rattle.ndc_script_types.specs.WellFormed.{IsWellFormed}
 use Rattle.ndc_script_types.specs.declared.script.Header.{Header}
 use Rattle.ndc_script_types.specs.declared.script.Script.{Script}
-use Rattle.ndc_laws.proofs.AnswerLemmas.{known-where, put-off-exactly, put-off-first}
+use Rattle.ndc_laws.proofs.AnswerLemmas.{known-where}
 use Rattle.ndc_laws.proofs.CountedLemmas.{worlds-counted}
 use Rattle.ndc_laws.proofs.HeldLemmas.{same-held}
 use Rattle.ndc_laws.proofs.ReachedLemmas.{worlds_promised, worlds_reached}
 use Rattle.ndc_laws.proofs.SyncLemmas.{same-taken}
+use Rattle.ndc_laws_program.proofs.InsideLemmas.{is-answered}
 use Rattle.ndc_laws_program.specs.Arriving.{AnswersArrivals}
 use Rattle.ndc_laws_program.specs.Promises.{KeepsInWorlds}
 use Rattle.ndc_laws_program.specs.WorldPromises.{ClosedPartsHaveOneCurrent, HasOneWriters, HoldsReports}
@@ -17,7 +18,7 @@ use Rattle.ndc_laws_reached.proofs.OneWriterLemmas.{one_chain, one_current, one_
 use Rattle.ndc_laws_reached.proofs.TrimmedLemmas.{trimmed_fit}
 use Rattle.ndc_model.specs.Facts.{IsReached}
 use Rattle.ndc_model.specs.Lines.{worlds_of}
-use Rattle.ndc_model.specs.World.{World}
+use Rattle.ndc_model.specs.World.{World, cell_at}
 use Rattle.ndc_model.proofs.ListLemmas.{all-weaker}
 use Rattle.ndc_model_sets.proofs.CurrentLaws.{runs_apart}
 
@@ -36,9 +37,8 @@ module _ (header : Header) (lines : ℕ) (w : World) (is : IsReached header line
 
   answers-arrivals : AnswersArrivals header w
   answers-arrivals = record {
-    known = λ cluster shard sent. known-where sent _;
-    put_off = λ cluster shard sent may. put-off-exactly header lines w cluster shard sent is may.known may.below may.written may.named;
-    missing = λ cluster shard sent key may. put-off-first header lines w cluster shard sent key is may.known may.below may.written may.named;
+    known = λ cluster shard sent. known-where sent (cell_at cluster shard w);
+    written = λ cluster shard sent may. is-answered header lines w is cluster shard sent may;
   }
 
   holds-reports : HoldsReports header w

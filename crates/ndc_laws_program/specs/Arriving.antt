@@ -19,12 +19,15 @@ pub record MayCome (header : Header) (w : World) (cluster : ClusterNo) (shard : 
   pub written : IsMessageTrue header shard w sent
   pub named : is_named header cluster w sent.batch.domain ≡ true
 
--- a message is known exactly where its batch has arrived before; one that may come is put off exactly where its batch is new and, once it has
--- arrived, lacks an ancestor; and what is told then is the first key on the way up from the batch that has not arrived
+-- what such a message is answered: it is known exactly where its batch has arrived before; it is put off exactly where its batch is new and, once it
+-- has arrived, lacks an ancestor; and what is told then is the first key on the way up from the batch that has not arrived
+pub record IsAnswered (header : Header) (w : World) (cluster : ClusterNo) (shard : ℕ) (sent : Message) : Type 0 where
+  pub known : (arrival_of sent (cell_at cluster shard w) ≡ Known) ↔ (has_arrived sent.batch (cell_at cluster shard w) ≡ true)
+  pub put_off : ((key : BatchKey) × (arrival_of sent (cell_at cluster shard w) ≡ PutOff key))
+      ↔ ((has_arrived sent.batch (cell_at cluster shard w) ≡ false) × LacksAncestor header (arrived_at sent (cell_at cluster shard w)) sent.batch w)
+  pub missing : (key : BatchKey) → arrival_of sent (cell_at cluster shard w) ≡ PutOff key → FirstMissing (arrived_of sent.batch.domain sent.batch.workflow (arrived_at sent (cell_at cluster shard w))) key sent.batch
+
+-- any message is known exactly where its batch has arrived before; one that may come is answered so
 pub record AnswersArrivals (header : Header) (w : World) : Type 0 where
   pub known : (cluster : ClusterNo) (shard : ℕ) (sent : Message) → (arrival_of sent (cell_at cluster shard w) ≡ Known) ↔ (has_arrived sent.batch (cell_at cluster shard w) ≡ true)
-  pub put_off : (cluster : ClusterNo) (shard : ℕ) (sent : Message) → MayCome header w cluster shard sent
-      → ((key : BatchKey) × (arrival_of sent (cell_at cluster shard w) ≡ PutOff key))
-      ↔ ((has_arrived sent.batch (cell_at cluster shard w) ≡ false) × LacksAncestor header (arrived_at sent (cell_at cluster shard w)) sent.batch w)
-  pub missing : (cluster : ClusterNo) (shard : ℕ) (sent : Message) (key : BatchKey) → MayCome header w cluster shard sent → arrival_of sent (cell_at cluster shard w) ≡ PutOff key
-      → FirstMissing (arrived_of sent.batch.domain sent.batch.workflow (arrived_at sent (cell_at cluster shard w))) key sent.batch
+  pub written : (cluster : ClusterNo) (shard : ℕ) (sent : Message) → MayCome header w cluster shard sent → IsAnswered header w cluster shard sent

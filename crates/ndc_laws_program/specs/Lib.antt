@@ -1,7 +1,9 @@
 pub mod Arriving
 pub mod Dumps
+pub mod Inside
 pub mod LinePromises
 pub mod Promises
 pub mod Shared
+pub mod Summed
 pub mod Told
 pub mod WorldPromises

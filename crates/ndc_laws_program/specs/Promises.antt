@@ -11,7 +11,9 @@ use Rattle.ndc_event.specs.declared.name.Name.{Name}
 use Rattle.ndc_graceful.specs.declared.handover.Handover.{Handover}
 use Rattle.ndc_laws.specs.Counts.{AreReachedFrom}
 use Rattle.ndc_laws.specs.Promised.{IsAsPromised, NothingPutOff, line, world_before}
+use Rattle.ndc_laws.specs.Worked.{HasWorked}
 use Rattle.ndc_laws_program.specs.Arriving.{AnswersArrivals}
+use Rattle.ndc_laws_program.specs.Inside.{AnswersInside}
 use Rattle.ndc_laws_program.specs.LinePromises.{AnswersDump, BringsLetters, CompletesWhereReady, GoesOnInNewRun, IsEnded, MissesNothingTrimmed, OvertakenEndsAlone, RefusedChangesNothing, SetsAsideWhereCut, behind}
 use Rattle.ndc_laws_program.specs.Told.{WasTold}
 use Rattle.ndc_laws_program.specs.WorldPromises.{ClosedPartsHaveOneCurrent, HasOneWriters, HoldsReports}
@@ -38,6 +40,7 @@ pub record KeepsInWorlds (script : Script) : Type 0 where
 -- behind each line of these kinds the world is as promised of it
 pub record KeepsBehindLines (script : Script) : Type 0 where
   pub settled : AtEach script act.Settle (λ w. IsSettled script.header (behind script.header act.Settle w))
+  pub worked : (cluster : ClusterNo) → AtEach script (act.Work cluster) (λ w. HasWorked script.header cluster (behind script.header (act.Work cluster) w))
   pub resent : (cluster : ClusterNo) → AtEach script (act.Resend cluster) (λ w. NothingPutOff script.header cluster (behind script.header (act.Resend cluster) w))
   pub bootstrapped : (reader source : ClusterNo) → AtEach script (act.Bootstrap reader source) (λ w. MissesNothingTrimmed script.header reader source (behind script.header (act.Bootstrap reader source) w))
   pub dumped : (cluster : ClusterNo) (domain workflow : Name) → AtEach script (act.Dump cluster domain workflow) (AnswersDump script.header cluster domain workflow)
@@ -46,6 +49,7 @@ pub record KeepsBehindLines (script : Script) : Type 0 where
   pub damaged : (reader source : ClusterNo) (shard place cut : ℕ) → AtEach script (act.Damage reader source shard place cut) (SetsAsideWhereCut script.header reader source shard place cut)
   pub merged : (cluster : ClusterNo) → AtEach script (act.MergeLetters cluster) (BringsLetters script.header cluster)
   pub purged : (cluster : ClusterNo) → AtEach script (act.Purge cluster) (λ w. behind script.header (act.Purge cluster) w ≡ with_letters cluster [] w)
+  pub answered : (asked : Act) → AtEach script asked (AnswersInside script.header asked)
   pub refused : (asked : Act) → AtEach script asked (RefusedChangesNothing script.header asked)
   pub overtaken : (at : ClusterNo) (domain : Name) → AtEach script (act.Complete at domain) (OvertakenEndsAlone script.header at domain)
   pub listed : (cluster : ClusterNo) → AtEach script (act.LettersOf cluster) (λ w. behind script.header (act.LettersOf cluster) w ≡ w)

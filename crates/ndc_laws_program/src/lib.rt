@@ -3,5 +3,6 @@
 #![tactic(auto)]
 
 pub mod dump_laws;
+pub mod inside_laws;
 pub mod promise_laws;
 pub mod summary_laws;

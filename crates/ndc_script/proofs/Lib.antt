@@ -12,3 +12,11 @@ pub mod PrintedNumbers
 pub mod PrintedOperands
 pub mod PrintedScript
 pub mod PrintedWords
+mod ReadBody
+mod ReadCommands
+mod ReadHeader
+mod ReadLines
+mod ReadMembers
+mod ReadOperands
+mod ReadText
+mod ReadVerbs

@@ -7,7 +7,7 @@ use Rattle.std.proofs.lemmas.Str.Parse.{IsNumeralModel, numerals_by_fold}
 use Rattle.std.proofs.lemmas.Fmt.{digits_decimal, digits_value-decimal, decimal_nonempty, length-decimal-le, first_decimal, decimal_digit}
 use Rattle.ndc_script_words.specs.Number.{is_digit, is_number, has_leading_zero, value_on, number_of}
 
-own : IsNumeralModel (λ ds. list_all is_digit ds ≡ true) (value_on 0)
+pub own : IsNumeralModel (λ ds. list_all is_digit ds ≡ true) (value_on 0)
 own = numerals_by_fold _ (search rules) value_on (search rules)
 
 -- a number is printed in digits

@@ -1,1 +1,2 @@
 pub mod Generate
+pub mod Alike

@@ -21,7 +21,7 @@ use Rattle.ndc_model_sets.proofs.Lists.{Among, all-among, all-from, each-list_al
 use Rattle.ndc_tree.specs.Events.{AreVersionsInIdOrder, event_at, event_of as event_of_id}
 use Rattle.ndc_tree.proofs.IdLemmas.{other-batches, own-batches}
 use Rattle.ndc_tree.proofs.RiseLemmas.{event-found, found}
-use Rattle.ndc_shard_runs.specs.Copies.{CopiesFitInto, are_fit_copies, event_of, is_fit_copy, is_none_or_original, is_original}
+use Rattle.ndc_shard_runs.specs.Copies.{CopiesFitInto, are_fit_copies, are_fit_to, event_of, is_fit_copy, is_fit_to, is_none_or_original, is_original}
 use Rattle.ndc_shard_runs.specs.RunMap.{part_of}
 use Rattle.ndc_shard_runs.proofs.OriginLemmas.{found-named, named-found}
 
@@ -50,7 +50,7 @@ module _ (b : Batch) (ok : fault_of b ≡ None) where
       ∙ ap (λ v. event_at v origin.event (b ∷ [])) names.version_is ∙ ap (λ i. event_at event.version i (b ∷ [])) names.event_is
       ∙ found (b ∷ []) b event alone-ids (inl refl) among
 
-  own-named : (origin : Origin) (event : Event) → event_of origin (b ∷ []) ≡ Some event → Among event b.events × Names origin b.run event
+  pub own-named : (origin : Origin) (event : Event) → event_of origin (b ∷ []) ≡ Some event → Among event b.events × Names origin b.run event
   own-named origin event at = by (same_run b.run origin.run) refl
     where
       alone : (x : Batch) → Among x (b ∷ []) → x ≡ b
@@ -89,10 +89,10 @@ own-apart b origin ok apart = by (same_run b.run origin.run) refl
     by false e = ap (λ t. event_at origin.version origin.event (if t then b ∷ [] else [])) e
 
 -- what is found is an original
-original-found : (name input : Name) (o : Option Event) (event : Event) → o ≡ Some event → is_none_or_original name input o ≡ true → event.kind ≡ WorkflowExecutionSignaled name input None
+pub original-found : (name input : Name) (o : Option Event) (event : Event) → o ≡ Some event → is_none_or_original name input o ≡ true → event.kind ≡ WorkflowExecutionSignaled name input None
 original-found name input o event at h = original-kind name input event.kind (sym (ap (is_none_or_original name input) at) ∙ h)
 
-found-original : (name input : Name) (o : Option Event) → ((event : Event) → o ≡ Some event → event.kind ≡ WorkflowExecutionSignaled name input None) → is_none_or_original name input o ≡ true
+pub found-original : (name input : Name) (o : Option Event) → ((event : Event) → o ≡ Some event → event.kind ≡ WorkflowExecutionSignaled name input None) → is_none_or_original name input o ≡ true
 found-original name input None fit = refl
 found-original name input (Some event) fit = kind-original name input event.kind (fit event refl)
 
@@ -127,3 +127,23 @@ module _ (batches : List Batch) (b : Batch) (sound : IsSound batches) (ok : faul
 
   pub fit-tested : CopiesFitInto batches b → are_fit_copies batches b ≡ true
   fit-tested fit = list_all-each (λ event. is_fit_copy batches b event.kind) b.events (λ copy h. fit-one fit copy h copy.kind refl)
+
+-- copied signals in another batch that fit this one
+module _ (b other : Batch) (ok : fault_of b ≡ None) where
+  pub to-tested : are_fit_to b other.events ≡ true → AllByRecursion (λ copy. AllByRecursion (IsCopyFit copy b.run) b.events) other.events
+  to-tested all =
+      all-from (λ copy. AllByRecursion (IsCopyFit copy b.run) b.events) other.events
+      (λ copy h. all-from (IsCopyFit copy b.run) b.events
+      (λ event k name input origin e names. original-found name input (event_of origin (b ∷ [])) event (own-found b ok origin event k names)
+      (sym (ap (is_fit_to b) e) ∙ each-list_all (λ x. is_fit_to b x.kind) other.events copy all h)))
+
+  to-one : AllByRecursion (λ copy. AllByRecursion (IsCopyFit copy b.run) b.events) other.events → (copy : Event) → Among copy other.events → (kind : EventKind) → copy.kind ≡ kind → is_fit_to b kind ≡ true
+  to-one fit copy h (WorkflowExecutionSignaled name input (Some origin)) e =
+      found-original name input (event_of origin (b ∷ [])) (λ event at.
+      let n = own-named b ok origin event at in
+      all-among (IsCopyFit copy b.run) b.events event (all-among (λ c. AllByRecursion (IsCopyFit c b.run) b.events) other.events copy fit h) n.0 name input origin e n.1)
+  to-one fit copy h (WorkflowExecutionSignaled name input None) e = refl
+  to-one fit copy h _ e = refl
+
+  pub to-fit : AllByRecursion (λ copy. AllByRecursion (IsCopyFit copy b.run) b.events) other.events → are_fit_to b other.events ≡ true
+  to-fit fit = list_all-each (λ x. is_fit_to b x.kind) other.events (λ copy h. to-one fit copy h copy.kind refl)

@@ -10,7 +10,7 @@ use Rattle.ndc_event.specs.declared.key.RunId.{RunId}
 use Rattle.ndc_model_cells.specs.Writing.{greatest_task}
 use Rattle.ndc_model_sets.specs.Branches.{same_run}
 use Rattle.ndc_model_sets.specs.Sets.{Rise, batch_at, Has, arrived}
-use Rattle.ndc_model_sets.specs.Sound.{IsSound}
+use Rattle.ndc_model_sets.specs.Sound.{CopiesNamed, IsSound}
 use Rattle.std.proofs.lemmas.Bool.Decides.{nat_tests}
 use Rattle.ndc_model_sets.proofs.ArrivalLemmas.{is_there}
 use Rattle.ndc_model_sets.proofs.KeyLemmas.{key_eq-self, same-keys}
@@ -42,8 +42,8 @@ pub record IsIndex (runs : List TreeValue) (task : ℕ) : Type 0 where
 pub index-of : (r : Inside) → IsRunsInside r → IsIndex r.runs r.greatest_task
 index-of r inside = record { rise = inside.sound.set.ordered; parts = inside.parts; full = inside.full; greatest = inside.task }
 
-pub inside-of : (r : Inside) → IsSound (all_of r.runs) → AreKnown (all_of r.runs) r.strays → IsIndex r.runs r.greatest_task → IsRunsInside r
-inside-of r sound known x = record { sound = sound; known = known; parts = x.parts; full = x.full; task = x.greatest }
+pub inside-of : (r : Inside) → IsSound (all_of r.runs) → AreKnown (all_of r.runs) r.strays → IsIndex r.runs r.greatest_task → (r.named ≡ true → CopiesNamed (all_of r.runs)) → IsRunsInside r
+inside-of r sound known x named = record { sound = sound; known = known; parts = x.parts; full = x.full; task = x.greatest; named = named }
 
 not-empty : (b : Batch) (batches : List Batch) → is_nil (arrived b batches) ≡ false
 not-empty b [] = refl
@@ -112,14 +112,14 @@ module _ (runs : List TreeValue) (task : ℕ) (x : IsIndex runs task) (b : Batch
 
 module _ (r : Inside) (inside : IsRunsInside r) (b : Batch) (none : batch_at b.key (all_of r.runs) ≡ None) where
   pub inside-with : (after : Inside) (s t : Bool) → IsSound (arrived b (all_of r.runs)) → s ≡ lies_beside (all_of r.runs) b → t ≡ follows (all_of r.runs) b → after.strays ≡ after_any b s t r.strays → after.runs ≡ with_batch b r.runs
-      → after.greatest_task ≡ max r.greatest_task b.key.task → IsRunsInside after
-  inside-with after s t sound lies told strays runs task =
+      → after.greatest_task ≡ max r.greatest_task b.key.task → (after.named ≡ true → CopiesNamed (arrived b (all_of r.runs))) → IsRunsInside after
+  inside-with after s t sound lies told strays runs task named =
       let all : all_of after.runs ≡ arrived b (all_of r.runs) = ap all_of runs ∙ all-is r.runs r.greatest_task (index-of r inside) b none in
       inside-of after (subst IsSound (sym all) sound)
       (subst (λ (l : List Batch). AreKnown l after.strays) (sym all)
       (subst (AreKnown (arrived b (all_of r.runs))) (sym strays) (known-any (all_of r.runs) b r.strays s t inside.sound sound none lies told inside.known)))
       (index-moved (with_batch b r.runs) after.runs (max r.greatest_task b.key.task) after.greatest_task (sym runs) (sym task)
-      (index-with r.runs r.greatest_task (index-of r inside) b none))
+      (index-with r.runs r.greatest_task (index-of r inside) b none)) (λ e. subst CopiesNamed (sym all) (named e))
 
 -- the fields with two more batches, of which the second begins a run
 module _ (r : Inside) (inside : IsRunsInside r) (b second : Batch) (none : batch_at b.key (all_of r.runs) ≡ None) (fresh : batch_at second.key (arrived b (all_of r.runs)) ≡ None)
@@ -174,11 +174,12 @@ module _ (r : Inside) (inside : IsRunsInside r) (b second : Batch) (none : batch
       all-with b (with_batch second r.runs) both-none ∙ ap (arrived b) (all-is r.runs r.greatest_task x second second-none) ∙ arrived-swap b second (all_of r.runs) other-key
 
   pub inside-both : (after : Inside) → IsSound (arrived second (arrived b (all_of r.runs))) → AreKnown (arrived second (arrived b (all_of r.runs))) after.strays → after.runs ≡ with_batch b (with_batch second r.runs)
-      → after.greatest_task ≡ max (max r.greatest_task second.key.task) b.key.task → IsRunsInside after
-  inside-both after sound known runs task =
+      → after.greatest_task ≡ max (max r.greatest_task second.key.task) b.key.task → (after.named ≡ true → CopiesNamed (arrived second (arrived b (all_of r.runs)))) → IsRunsInside after
+  inside-both after sound known runs task named =
       inside-of after (subst IsSound (sym (ap all_of runs ∙ all-both)) sound) (subst (λ (l : List Batch). AreKnown l after.strays) (sym (ap all_of runs ∙ all-both)) known)
       (index-moved (with_batch b (with_batch second r.runs)) after.runs (max (max r.greatest_task second.key.task) b.key.task) after.greatest_task (sym runs) (sym task)
       (index-with (with_batch second r.runs) (max r.greatest_task second.key.task) (index-with r.runs r.greatest_task x second second-none) b both-none))
+      (λ e. subst CopiesNamed (sym (ap all_of runs ∙ all-both)) (named e))
 
   -- the state of the first batch's run, in the map, is that of its current branch
   state-both : IsSound (arrived b (all_of r.runs)) → is_open (option_map (λ v. current_state v.run v.batches) (run_at b.run (with_batch b (with_batch second r.runs)))) ≡ false

@@ -63,3 +63,11 @@ first-ok (Err e) two x h = absurd (cc)
 pub both-fine : (one two : Result Learned RunError) → IsOk one → IsOk two → IsOk (one >>= (λ begun. two))
 both-fine (Ok begun) two ok fine = fine
 both-fine (Err e) two ok fine = absurd (cc)
+
+-- where the run takes the first, what the tree says of it is no refusal
+pub placed-fine : (part : List Batch) (b second : Batch) → IsOk (learned b.run part b) → IsOk (both_joined part b second) → IsOk (both_learned part b second)
+placed-fine part b second taken both = by (inserted b.run part b) taken
+  where
+    by : (r : Result Inserted TreeError) → IsOk (or_error of_tree_error r >>= (λ place. joined b.run part b)) → IsOk (or_error of_tree_error r >>= (λ place. both_joined part b second))
+    by (Ok place) ok = both
+    by (Err e) ok = absurd (cc)

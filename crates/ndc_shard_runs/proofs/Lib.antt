@@ -20,6 +20,8 @@ pub mod OriginLemmas
 pub mod JudgeLemmas
 pub mod CopyLemmas
 pub mod NamedLemmas
+pub mod LastLemmas
+pub mod AdmitLemmas
 pub mod ListedLemmas
 pub mod BesideLemmas
 pub mod DueLemmas

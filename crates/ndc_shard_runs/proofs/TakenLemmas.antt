@@ -41,6 +41,28 @@ use Rattle.ndc_shard_runs.proofs.TreeLemmas.{next-of-version}
 pub one-key : (v t w u : ℕ) → t < 2 ^ 64 → u < 2 ^ 64 → v * 2 ^ 64 + t ≡ w * 2 ^ 64 + u → (v ≡ w) × (t ≡ u)
 one-key v t w u l m e = (omega (arith, l, m, e), omega (arith, l, m, e))
 
+-- a batch that begins a run, and whose key is new, is the first of it
+pub run-is-new : (batches : List Batch) (b : Batch) → IsSound batches → fault_of b ≡ None → b.parent ≡ None → batch_at b.key batches ≡ None → ((x : Batch) → Has batches x → x.key.task < 2 ^ 64) → b.key.task < 2 ^ 64
+    → part_of b.run batches ≡ []
+run-is-new batches b sound ok first none small own-small = by (part_of b.run batches) refl
+  where
+    number : (y : Batch) → fault_of y ≡ None → y.parent ≡ None → y.run.value ≡ y.key.version * 2 ^ 64 + y.key.task
+    number y f g =
+        let fit : is_first_fit y (passes y f).event.id None ≡ true = subst (λ (o : Option BatchKey). is_first_fit y (passes y f).event.id o ≡ true) g (passes y f).first in
+        eqb-true y.run.value (run_of y.key).value (and_parts ((passes y f).event.id == 1) (y.run.value == (run_of y.key).value) fit).1
+
+    never : (x : Batch) → Has (part_of b.run batches) x → ⊥
+    never x h =
+        let q = part-has batches sound b.run x h in
+        let s = path-begins batches x (path_to x.key batches) sound.parents (path_is batches x sound.set sound.closed q.0) in
+        let same : s.0.run.value ≡ b.run.value = ap (λ (r : RunId). r.value) (s.3 ∙ q.1) in
+        let k = one-key s.0.key.version s.0.key.task b.key.version b.key.task (small s.0 s.1) own-small (sym (number s.0 (sound.faultless s.0 s.1) s.2) ∙ same ∙ number b ok first) in
+        let found : batch_at b.key batches ≡ Some s.0 = has-found batches b.key s.0 (key-parts s.0.key b.key k.0 k.1) s.1 in cc
+
+    by : (l : List Batch) → part_of b.run batches ≡ l → l ≡ []
+    by [] f = refl
+    by (x ∷ l) f = absurd (never x (among-has (part_of b.run batches) x (Rise-filter (λ y. same_run y.run b.run) batches sound.set.ordered) (subst (Among x) (sym f) (inl refl))))
+
 module _ (batches : List Batch) (b : Batch) (sound : IsSound batches) (after : IsSound (arrived b batches)) (none : batch_at b.key batches ≡ None) where
   there : Has (arrived b batches) b
   there = is_there b batches sound.set.ordered none
@@ -125,24 +147,7 @@ module _ (batches : List Batch) (b : Batch) (sound : IsSound batches) (after : I
   module _ (small : (x : Batch) → Has batches x → x.key.task < 2 ^ 64) (own-small : b.key.task < 2 ^ 64) where
     -- a batch without a parent is the only one of its run
     alone : b.parent ≡ None → is_nil (part_of b.run batches) ≡ true
-    alone e = by (part_of b.run batches) refl
-      where
-        number : (y : Batch) → fault_of y ≡ None → y.parent ≡ None → y.run.value ≡ y.key.version * 2 ^ 64 + y.key.task
-        number y f g =
-            let fit : is_first_fit y (passes y f).event.id None ≡ true = subst (λ (o : Option BatchKey). is_first_fit y (passes y f).event.id o ≡ true) g (passes y f).first in
-            eqb-true y.run.value (run_of y.key).value (and_parts ((passes y f).event.id == 1) (y.run.value == (run_of y.key).value) fit).1
-
-        never : (x : Batch) → Has (part_of b.run batches) x → ⊥
-        never x h =
-            let q = part-has batches sound b.run x h in
-            let s = path-begins batches x (path_to x.key batches) sound.parents (path_is batches x sound.set sound.closed q.0) in
-            let same : s.0.run.value ≡ b.run.value = ap (λ (r : RunId). r.value) (s.3 ∙ q.1) in
-            let k = one-key s.0.key.version s.0.key.task b.key.version b.key.task (small s.0 s.1) own-small (sym (number s.0 (sound.faultless s.0 s.1) s.2) ∙ same ∙ number b faultless e) in
-            let found : batch_at b.key batches ≡ Some s.0 = has-found batches b.key s.0 (key-parts s.0.key b.key k.0 k.1) s.1 in cc
-
-        by : (l : List Batch) → part_of b.run batches ≡ l → is_nil l ≡ true
-        by [] f = refl
-        by (x ∷ l) f = absurd (never x (among-has (part_of b.run batches) x (Rise-filter (λ y. same_run y.run b.run) batches sound.set.ordered) (subst (Among x) (sym f) (inl refl))))
+    alone e = ap is_nil (run-is-new batches b sound faultless e none small own-small)
 
     reached : has_key b.parent (part_of b.run batches) ≡ true
     reached = by b.parent refl

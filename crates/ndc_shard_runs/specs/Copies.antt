@@ -1,5 +1,5 @@
 -- Copied signals, and the events that their origins name.
-use Rattle.std.specs.Prelude.{Bool, true, false, ◌&&◌, List, [], ◌∷◌, Option, Some, None}
+use Rattle.std.specs.Prelude.{Bool, true, false, ◌&&◌, ◌||◌, is_some, List, [], ◌∷◌, Option, Some, None}
 use Rattle.std.specs.List.{AllByRecursion, list_all}
 use Rattle.std.specs.Str.{bytes_eq}
 use Rattle.ndc_event.specs.declared.batch.Batch.{Batch}
@@ -40,3 +40,43 @@ is_fit_copy batches b _ = true
 -- whether this holds of each event of a batch
 abbrev pub are_fit_copies : List Batch → Batch → Bool
 are_fit_copies batches b = list_all (λ event. is_fit_copy batches b event.kind) b.events
+
+-- whether an event of this kind is no copied signal, or names an event of a batch or of the others
+abbrev pub is_named_copy : List Batch → Batch → EventKind → Bool
+is_named_copy batches b (WorkflowExecutionSignaled name input (Some origin)) = is_some (event_of origin (b ∷ [])) || is_some (event_of origin batches)
+is_named_copy batches b _ = true
+
+-- whether each copied signal of a batch names an event of it or of the others
+abbrev pub are_named_copies : List Batch → Batch → Bool
+are_named_copies batches b = list_all (λ event. is_named_copy batches b event.kind) b.events
+
+-- whether an event of this kind is no copied signal, or names nothing but its original in a batch
+abbrev pub is_fit_to : Batch → EventKind → Bool
+is_fit_to b (WorkflowExecutionSignaled name input (Some origin)) = is_none_or_original name input (event_of origin (b ∷ []))
+is_fit_to b _ = true
+
+-- whether this holds of each of these events
+abbrev pub are_fit_to : Batch → List Event → Bool
+are_fit_to b events = list_all (λ event. is_fit_to b event.kind) events
+
+-- a copied signal is open in a set where its original is not there: whether an event of this kind is none, or names nothing but its original
+-- in a batch
+abbrev pub is_open_fit : List Batch → Batch → EventKind → Bool
+is_open_fit batches b (WorkflowExecutionSignaled name input (Some origin)) = is_some (event_of origin batches) || is_none_or_original name input (event_of origin (b ∷ []))
+is_open_fit batches b _ = true
+
+-- whether this holds of each of these events
+abbrev pub are_open_fit : List Batch → Batch → List Event → Bool
+are_open_fit batches b events = list_all (λ event. is_open_fit batches b event.kind) events
+
+-- whether each copied signal of the set that is open there names nothing but its original in a batch
+abbrev pub open_copies_fit : List Batch → Batch → Bool
+open_copies_fit batches b = list_all (λ other. are_open_fit batches b other.events) batches
+
+-- whether the copied signals of a batch fit it and the others, and those of the others that are open there fit the batch
+abbrev pub copies_fit_both_ways : List Batch → Batch → Bool
+copies_fit_both_ways batches b = are_fit_copies batches b && open_copies_fit batches b
+
+-- the same of a batch that is learned with another one, which comes before it
+abbrev pub second_copies_fit : List Batch → Batch → Batch → Bool
+second_copies_fit batches b second = copies_fit_both_ways batches second && (are_fit_to b second.events && are_fit_to second b.events)

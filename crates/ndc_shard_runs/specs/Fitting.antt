@@ -1,17 +1,28 @@
 -- Which batches are learned next.
-use Rattle.std.specs.Prelude.{◌≡◌, true, List, [], Some, None, Result, IsOk}
+use Rattle.std.specs.Prelude.{◌≡◌, Bool, true, false, not, List, [], Option, Some, None, Result, Ok, Err, IsOk, if◌then◌else◌}
 use Rattle.ndc_event.specs.Batch.{fault_of}
 use Rattle.ndc_event.specs.Outcome.{◌>>=◌}
 use Rattle.ndc_event.specs.declared.batch.Batch.{Batch}
+use Rattle.ndc_event.specs.declared.batch.Event.{Event}
 use Rattle.ndc_event.specs.declared.key.BatchKey.{BatchKey}
+use Rattle.ndc_event.specs.declared.key.RunId.{RunId}
+use Rattle.ndc_event.specs.declared.kind.EventKind.{EventKind}
+use Rattle.ndc_event.specs.declared.kind.EventKind.TheVariants.{WorkflowExecutionContinuedAsNew}
+use Rattle.ndc_model_cells.specs.Messages.{IsCarriedBy}
+use Rattle.ndc_model_sets.specs.Branches.{same_run}
 use Rattle.ndc_model_sets.specs.Learned.{has_key}
-use Rattle.ndc_model_sets.specs.Sets.{earlier, batch_at}
+use Rattle.ndc_model_sets.specs.Paths.{last_event}
+use Rattle.ndc_model_sets.specs.Sets.{earlier, batch_at, arrived}
 use Rattle.ndc_model_sets.specs.Sound.{ContinuesAs}
 use Rattle.ndc_model_sets.specs.Writing.{CopiesFitWith}
 use Rattle.ndc_run.specs.Learning.{learned, of_tree_error, or_error}
 use Rattle.ndc_run.specs.declared.answer.Learned.{Learned}
 use Rattle.ndc_run.specs.declared.answer.RunError.{RunError}
+use Rattle.ndc_run.specs.declared.answer.RunError.TheVariants as run_error
 use Rattle.ndc_tree.specs.Inserting.{inserted}
+use Rattle.ndc_shard_runs.specs.Copies.{copies_fit_both_ways, second_copies_fit}
+use Rattle.ndc_shard_runs.specs.declared.misfit.Misfit.{Misfit}
+use Rattle.ndc_shard_runs.specs.declared.misfit.Misfit.TheVariants as misfit
 use Rattle.ndc_shard_runs.specs.RunMap.{part_of}
 
 -- a batch comes next: its key is new, it has no fault, and its earlier key, where it has one, is learned
@@ -38,3 +49,45 @@ both_joined part b second = learned second.run [] second >>= (λ begun. learned 
 -- then the second's events, then its own
 abbrev pub both_learned : List Batch → Batch → Batch → Result Learned RunError
 both_learned part b second = or_error of_tree_error (inserted b.run part b) >>= (λ place. both_joined part b second)
+
+-- whether an event of this kind continues its run as this one
+abbrev pub continues : RunId → EventKind → Bool
+continues run (WorkflowExecutionContinuedAsNew next workflow_type) = same_run next run
+continues run _ = false
+
+-- whether there is a last event and it continues its run as this one
+abbrev pub is_continued_by : RunId → Option Event → Bool
+is_continued_by run None = false
+is_continued_by run (Some event) = continues run event.kind
+
+-- why a run does not take a batch, as why the batch does not fit
+abbrev pub of_run_error : RunError → Misfit
+of_run_error (run_error.MissingParent key) = misfit.ParentUnfit
+of_run_error (run_error.NotWellFormed key) = misfit.IllFormed
+of_run_error (run_error.Invalid id rule) = misfit.BadReplay id rule
+of_run_error run_error.Memory = misfit.Memory
+
+-- whether a batch that comes next fits, or why not: the copied signals first, then what its run says
+abbrev pub fit_alone : List Batch → Batch → Result Learned Misfit
+fit_alone batches b = if not (copies_fit_both_ways batches b) then Err misfit.OriginUnfit else or_error of_run_error (learned b.run (part_of b.run batches) b)
+
+-- the same of a batch that carries another one: the first is of another run than it, its copied signals, whether it continues as the run of
+-- the second, the copied signals of the second, and then what their runs say
+abbrev pub fit_both : List Batch → Batch → Batch → Result Learned Misfit
+fit_both batches b second =
+    if same_run second.run b.run then Err misfit.ParentUnfit
+    else if not (copies_fit_both_ways batches b) then Err misfit.OriginUnfit
+    else if not (is_continued_by second.run (last_event b.events)) then Err misfit.CarrierUnfit
+    else if not (second_copies_fit batches b second) then Err misfit.OriginUnfit
+    else or_error of_run_error (both_learned (part_of b.run batches) b second)
+
+-- the same of a batch, and of the one that it carries, where it carries one
+abbrev pub fit_of : List Batch → Batch → Option Batch → Result Learned Misfit
+fit_of batches b None = fit_alone batches b
+fit_of batches b (Some second) = fit_both batches b second
+
+-- a batch carries one that is new: it has no fault, and its key is not there
+pub record CarriesNew (batches : List Batch) (b second : Batch) : Type 0 where
+  pub carried : IsCarriedBy b second
+  pub faultless : fault_of second ≡ None
+  pub fresh : batch_at second.key batches ≡ None

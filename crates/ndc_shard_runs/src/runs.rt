@@ -21,6 +21,8 @@ pub struct Runs {
     runs: RunIndex,
     greatest_task: u64,
     strays: Kept,
+    /// Whether it is known that each copied signal names an original that is learned.
+    named: bool,
 }
 
 impl Model for Runs {
@@ -42,12 +44,14 @@ impl Drop for Runs {
             runs: _runs,
             greatest_task: _greatest_task,
             strays: _strays,
+            named: _named,
         } = self;
     }
 }
 
 impl Runs {
-    ghost use Rattle.std.specs.Prelude.{◌≡◌, ◌+◌, ◌≤◌, ◌^◌, [], All, length, map, max, not, is_some, true, false, None, IfSome, IfOk, OnOk, OnErr};
+    ghost use Rattle.std.specs.Prelude.{◌≡◌, ◌+◌, ◌<◌, ◌≤◌, ◌^◌, [], All, IsOk, length, map, max, not, is_some, true, false, None, IfSome, IfOk, OnOk, OnErr};
+    ghost use Rattle.ndc_event.specs.Batch.{fault_of};
     ghost use Rattle.std.specs.Option.{option_copied, option_map};
     ghost use Rattle.ndc_model_cells.specs.Writing.{greatest_task, greatest_version, state_under};
     ghost use Rattle.ndc_shard_runs.specs.Kept.{follows, is_ahead, is_due, is_empty, is_idle, is_open, lies_beside, StaysSettled};
@@ -56,13 +60,13 @@ impl Runs {
     ghost use Rattle.ndc_run.specs.Learning.{learned};
     ghost use Rattle.ndc_run.specs.declared.answer.RunError.TheVariants.{Memory};
     ghost use Rattle.ndc_shard_runs.specs.Fitting.{ComesNext, IsCarrierFit, both_learned};
-    ghost use Rattle.ndc_shard_runs.specs.Copies.{event_of};
+    ghost use Rattle.ndc_shard_runs.specs.Copies.{are_named_copies, event_of};
     ghost use Rattle.ndc_shard_runs.specs.RunMap.{part_of, run_in};
     ghost use Rattle.std.specs.List.{AllByRecursion};
     ghost use Rattle.ndc_model_sets.specs.Branches.{runs, workflow_tip};
     ghost use Rattle.ndc_model_sets.specs.Current.{strays};
     ghost use Rattle.ndc_model_sets.specs.Sets.{arrived, batch_at};
-    ghost use Rattle.ndc_model_sets.specs.Sound.{IsSound};
+    ghost use Rattle.ndc_model_sets.specs.Sound.{CopiesNamed, IsSound};
     ghost use Rattle.ndc_state.specs.Counted.{counted};
     ghost use Rattle.ndc_state.specs.Replay.{CountsWithin};
     ghost use Rattle.ndc_model_sets.specs.Last.{is_nil, last_batch};
@@ -76,6 +80,7 @@ impl Runs {
             runs: RunIndex::new(alloc),
             greatest_task: 0,
             strays: Kept::none(alloc),
+            named: true,
         }
     }
 
@@ -98,16 +103,19 @@ impl Runs {
         let follows = self.follows(batch);
         let beside = self.lies_beside(batch);
         let greatest = greater(self.greatest_task, batch.key.task);
+        let named = self.stays_named(batch);
         match self.runs.learn(alloc, batch, steps) {
             Ok(()) => {}
             Err(error) => return Err(error),
         }
         self.greatest_task = greatest;
+        self.named = named;
         self.strays.pass(batch, beside, follows);
         Ok(())
     }
 
-    /// Learns a batch that comes next and whose copies and carrier fit, where its run takes it. Refused with
+    /// Learns a batch that comes next, where its run takes it; its carrier fits, and where its run takes it, so do its copies.
+    /// Refused with
     /// [`RunError::MissingParent`] where its parent is of another run, with [`RunError::NotWellFormed`] where its first id is
     /// not one past the parent's last, or a batch of its version is no ancestor, and then with [`RunError::Invalid`] for the
     /// first event that is forbidden on its path, with its first rule. After an error all is as it was. A batch that goes on
@@ -120,7 +128,7 @@ impl Runs {
         steps: &mut Steps<L>,
     ) -> Result<Learned, RunError>
         requires next { ComesNext self.old batch.now }
-        requires copies { CopiesFitWith self.old batch.now }
+        requires copies { IsOk (learned batch.now.run (part_of batch.now.run self.old) batch.now) → CopiesFitWith self.old batch.now }
         requires carrier { IsCarrierFit self.old batch.now }
         requires ids { All (λ event. event.id ≤ 10 ^ 12) batch.now.events }
         ensures answer { Gives Memory (λ done. done) result (learned batch.now.run (part_of batch.now.run self.old) batch.now) }
@@ -132,6 +140,7 @@ impl Runs {
         let follows = self.follows(batch);
         let beside = self.lies_beside(batch);
         let greatest = greater(self.greatest_task, batch.key.task);
+        let named = self.stays_named(batch);
         match self.runs.judge(batch) {
             Ok(_) => {}
             Err(error) => return Err(RunError::from(error)),
@@ -139,6 +148,7 @@ impl Runs {
         match self.runs.try_learn(alloc, batch, steps) {
             Ok(learned) => {
                 self.greatest_task = greatest;
+                self.named = named;
                 self.strays.pass(batch, beside, follows);
                 Ok(learned)
             }
@@ -173,19 +183,21 @@ impl Runs {
         let beside = self.lies_beside(batch);
         let before = greater(self.greatest_task, second.key.task);
         let greatest = greater(before, batch.key.task);
+        let named = self.both_stay_named(batch, second);
         match self.runs.learn_both(alloc, batch, second, steps) {
             Ok(()) => {}
             Err(error) => return Err(error),
         }
         self.greatest_task = greatest;
+        self.named = named;
         self.strays.pass(batch, beside, follows);
         let both_follow = is_left(&self.runs, batch, follows, second.key);
         self.strays.pass(second, false, both_follow);
         Ok(())
     }
 
-    /// Learns two batches, of which each comes next once those before it are learned, and whose copies and carriers fit,
-    /// where their runs take them; or neither. The second begins a run of which no batch is there. Refused as by
+    /// Learns two batches, of which each comes next once those before it are learned, where their runs take them; or neither.
+    /// Their carriers fit, and where their runs take them, so do their copies. The second begins a run of which no batch is there. Refused as by
     /// [`Runs::try_learn`]: what the tree of its run says of the first comes first, then the events of the second, then those
     /// of the first. After an error all is as it was. Where the first goes on from the current branch of its run, a step is
     /// taken for each of the events of both, else at most 511 more.
@@ -197,10 +209,10 @@ impl Runs {
         steps: &mut Steps<L>,
     ) -> Result<Learned, RunError>
         requires next { ComesNext self.old batch.now }
-        requires copies { CopiesFitWith self.old batch.now }
+        requires copies { IsOk (both_learned (part_of batch.now.run self.old) batch.now second.now) → CopiesFitWith self.old batch.now }
         requires carrier { IsCarrierFit self.old batch.now }
         requires second_next { ComesNext (arrived batch.now self.old) second.now }
-        requires second_copies { CopiesFitWith (arrived batch.now self.old) second.now }
+        requires second_copies { IsOk (both_learned (part_of batch.now.run self.old) batch.now second.now) → CopiesFitWith (arrived batch.now self.old) second.now }
         requires second_carrier { IsCarrierFit (arrived batch.now self.old) second.now }
         requires first { second.now.parent ≡ None }
         requires begins { part_of second.now.run (arrived batch.now self.old) ≡ [] }
@@ -216,6 +228,7 @@ impl Runs {
         let beside = self.lies_beside(batch);
         let before = greater(self.greatest_task, second.key.task);
         let greatest = greater(before, batch.key.task);
+        let named = self.both_stay_named(batch, second);
         match self.runs.judge(batch) {
             Ok(_) => {}
             Err(error) => return Err(RunError::from(error)),
@@ -223,6 +236,7 @@ impl Runs {
         match self.runs.try_learn_both(alloc, batch, second, steps) {
             Ok(learned) => {
                 self.greatest_task = greatest;
+                self.named = named;
                 self.strays.pass(batch, beside, follows);
                 let both_follow = is_left(&self.runs, batch, follows, second.key);
                 self.strays.pass(second, false, both_follow);
@@ -306,6 +320,48 @@ impl Runs {
         self.greatest_task
     }
 
+    /// What is learned is sound. Takes no time.
+    pub fn is_sound(&self)
+        ensures { IsSound self.now }
+    {
+        let _runs = &self.runs;
+    }
+
+    /// What is learned is sound, and its tasks and the batch's are numbers of 64 bits. Takes no time.
+    pub(crate) fn has_small_tasks(&self, batch: &Batch)
+        ensures sound { IsSound self.now }
+        ensures learned { greatest_task self.now < 2 ^ 64 }
+        ensures own { batch.now.key.task < 2 ^ 64 }
+    {
+        is_small(self.greatest_task);
+        is_small(batch.key.task);
+    }
+
+    /// Whether it is known that each copied signal names an original that is learned.
+    pub(crate) fn is_named(&self) -> bool
+        ensures named { result ≡ true → CopiesNamed self.now }
+        ensures sound { IsSound self.now }
+    {
+        self.named
+    }
+
+    /// Whether it is known that this will be so once the batch is learned too.
+    fn stays_named(&self, batch: &Batch) -> bool
+        requires { fault_of batch.now ≡ None }
+        ensures { result ≡ true → CopiesNamed self.now × (are_named_copies self.now batch.now ≡ true) }
+    {
+        self.is_named() && self.has_named_copies(batch)
+    }
+
+    /// The same once the batch is learned and then another one.
+    fn both_stay_named(&self, batch: &Batch, second: &Batch) -> bool
+        requires first { fault_of batch.now ≡ None }
+        requires second { fault_of second.now ≡ None }
+        ensures { result ≡ true → CopiesNamed self.now × (are_named_copies self.now batch.now ≡ true) × (are_named_copies self.now second.now ≡ true) }
+    {
+        self.stays_named(batch) && self.has_named_copies(second)
+    }
+
     /// Whether there may be strays: not where they are known, and there is none. What is known stays so with each batch
     /// that goes on from the current branch of the current run, or begins a run behind a current one that is not open, or
     /// comes before the tip of its run and has a parent and no signal; after any other it is found by [`Runs::is_due`].
@@ -322,7 +378,9 @@ impl Runs {
         self.strays.get()
     }
 
-    /// Whether reapplication may be due, by what is known: there may be strays, and the current run is open.
+    /// Whether reapplication may be due, by what is known: there may be strays, and the current run is open. `false` is sure,
+    /// and `true` tells nothing: strays are looked for when they are asked for, and this call reads no events. `is_due`
+    /// answers exactly.
     pub fn may_be_due(&self) -> bool
         ensures { result ≡ false → is_due self.now ≡ false }
     {
@@ -473,6 +531,11 @@ fn is_ahead(key: BatchKey, other: Option<BatchKey>) -> bool
         Some(other) => key.is_before(other),
     }
 }
+
+/// A task is a number of 64 bits.
+fn is_small(task: u64)
+    ensures { task < 2 ^ 64 }
+{}
 
 /// The greater of two numbers.
 fn greater(one: u64, two: u64) -> u64

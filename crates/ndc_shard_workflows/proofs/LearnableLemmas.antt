@@ -24,6 +24,22 @@ pub messages-back : (messages : List Message) → AllByRecursion IsMessage messa
 messages-back [] each = tt
 messages-back (sent ∷ messages) each = all-join PointsBack (both sent) (batches_of messages) (both-back sent each.0) (messages-back messages each.1)
 
+-- behind a message that is learned what is learned is closed
+module _ (known : List Batch) (sent : Message) (set : IsSet known) (closed : IsClosed known) (message : IsMessage sent) (reached : has_key (earlier sent.batch) known ≡ true) where
+  own-closed : AllByRecursion (λ b. has_key (earlier b) (known ++ both sent) ≡ true) (both sent)
+  own-closed =
+      both-all (λ b. has_key (earlier b) (known ++ both sent) ≡ true) sent message (has-front (earlier sent.batch) known (both sent) reached)
+      (λ second by. rw (carried-earlier sent.batch second by) (has-back (Some sent.batch.key) known (both sent) (ap is_some (at-first sent.batch (option_to_list sent.second)))))
+
+  pub message-closed : IsClosed (with_message sent known)
+  message-closed b has =
+      has-found-or (earlier b) known (both sent) (with_message sent known) (λ key. with-found sent known key set message.back)
+      ∙ by (batch_at b.key known) refl (sym (with-found sent known b.key set message.back) ∙ has)
+    where
+      by : (o : Option Batch) → batch_at b.key known ≡ o → option_or o (batch_at b.key (both sent)) ≡ Some b → has_key (earlier b) (known ++ both sent) ≡ true
+      by None e h = found-all (λ x. has_key (earlier x) (known ++ both sent) ≡ true) (both sent) b.key b own-closed h
+      by (Some x) e h = has-front (earlier b) known (both sent) (closed b (e ∙ h))
+
 -- the first message is learned
 module _ (known : List Batch) (sent : Message) (messages : List Message) (can : CanBeLearned known (sent ∷ messages)) where
   message : IsMessage sent
@@ -32,19 +48,8 @@ module _ (known : List Batch) (sent : Message) (messages : List Message) (can : 
   next-set : IsSet (with_message sent known)
   next-set = with-set sent known can.set (both-back sent message)
 
-  own-closed : AllByRecursion (λ b. has_key (earlier b) (known ++ both sent) ≡ true) (both sent)
-  own-closed =
-      both-all (λ b. has_key (earlier b) (known ++ both sent) ≡ true) sent message (has-front (earlier sent.batch) known (both sent) can.order.0.1)
-      (λ second by. rw (carried-earlier sent.batch second by) (has-back (Some sent.batch.key) known (both sent) (ap is_some (at-first sent.batch (option_to_list sent.second)))))
-
   next-closed : IsClosed (with_message sent known)
-  next-closed b has =
-      has-found-or (earlier b) known (both sent) (with_message sent known) (λ key. with-found sent known key can.set message.back)
-      ∙ by (batch_at b.key known) refl (sym (with-found sent known b.key can.set message.back) ∙ has)
-    where
-      by : (o : Option Batch) → batch_at b.key known ≡ o → option_or o (batch_at b.key (both sent)) ≡ Some b → has_key (earlier b) (known ++ both sent) ≡ true
-      by None e h = found-all (λ x. has_key (earlier x) (known ++ both sent) ≡ true) (both sent) b.key b own-closed h
-      by (Some x) e h = has-front (earlier b) known (both sent) (can.closed b (e ∙ h))
+  next-closed = message-closed known sent can.set can.closed message can.order.0.1
 
   next-part : IsPart (with_message sent known) (with_messages messages (with_message sent known))
   next-part b has =

@@ -32,3 +32,5 @@ pub mod SameLemmas
 pub mod TogetherLemmas
 pub mod WaitLemmas
 pub mod WriteLemmas
+pub mod SettleLemmas
+pub mod HonestLemmas

@@ -1,3 +1,4 @@
+pub mod Admitting
 pub mod Behind
 pub mod ByDomain
 pub mod Due
@@ -7,6 +8,7 @@ pub mod Messages
 pub mod Named
 pub mod Reading
 pub mod Reapplied
+pub mod Settling
 pub mod Workflow
 pub mod WorkflowFields
 pub mod Workflows

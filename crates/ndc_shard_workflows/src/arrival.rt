@@ -27,7 +27,7 @@ pub(crate) struct Received {
 }
 
 /// The batches of messages, each followed by the one that it carries.
-fn batches_in(alloc: Global, messages: Vec<Message>) -> Result<Vec<Batch>, OutOfMemory>
+pub(crate) fn batches_in(alloc: Global, messages: Vec<Message>) -> Result<Vec<Batch>, OutOfMemory>
     ensures { IfOk result (λ batches. batches.items ≡ batches_of messages.items) }
 {
     let mut batches = Vec::with_capacity(alloc, messages.len())?;

@@ -115,7 +115,7 @@ fn put_off(waiting: &mut Waiting, alloc: Global, message: Message) -> Result<Arr
 }
 
 /// Whether the earlier key of a batch, where it has one, is learned.
-fn is_reached(runs: &Runs, batch: &Batch) -> bool
+pub(crate) fn is_reached(runs: &Runs, batch: &Batch) -> bool
     ensures { result ≡ has_key (earlier batch.now) runs.now }
 {
     match batch.parent.or(batch.carrier) {

@@ -1,6 +1,8 @@
 //! All workflows of a cell, found by domain and then by workflow.
 #![tactic(auto)]
 
+mod admission;
+mod admitting;
 mod arrival;
 mod carried;
 mod cell;
@@ -16,6 +18,7 @@ mod workflow;
 pub mod workflow_laws;
 mod workflows;
 
+pub use admission::{Admission, SetAside};
 pub use arrival::Arrival;
 pub use cell::{message_there, messages_of};
 pub use reading::{message_at, messages};

@@ -1,3 +1,5 @@
+use crate::admission::Admission;
+use crate::admitting::admit;
 use crate::arrival::Arrival;
 use crate::learning::{learn, take_in};
 use ndc_event::{Batch, BatchKey, OutOfMemory};
@@ -50,6 +52,7 @@ impl Workflow {
     ghost use Rattle.ndc_shard_waiting.specs.Learning.{with_message};
     ghost use Rattle.ndc_model_cells.specs.Messages.{waits_for, IsMessage, IsNewTo};
     ghost use Rattle.ndc_model_cells.specs.Messages.{carrying, HasSmallIds};
+    ghost use Rattle.ndc_shard_workflows.specs.Admitting.{IsAdmitted};
     ghost use Rattle.ndc_shard_workflows.specs.Writing.{GoTogether};
     ghost use Rattle.ndc_shard_workflows.specs.Workflow.{IsWorkflow, empty_workflow, has_arrived, all_missing, answer_to, made_learned, after_arrival, with_written, counted_for};
 
@@ -140,6 +143,39 @@ impl Workflow {
         }
         match take_in(&mut self.runs, &mut self.waiting, alloc, message, steps) {
             Ok(arrival) => Ok(arrival),
+            Err(error) => {
+                self.runs = Runs::new(alloc);
+                self.waiting = Waiting::new(alloc);
+                Err(error)
+            }
+        }
+    }
+
+    /// A message of which nobody vouches, and of which neither batch has arrived. It is refused where it or what it carries has
+    /// a fault, or where its earlier key is learned and it does not fit ([`ndc_shard_runs::Misfit`]); nothing changes then. Where its earlier
+    /// key is not learned it is put off. Any other is learned, and then what waited for it, in key order: what fits is learned,
+    /// what does not is set aside, and what waits for that waits on. What is learned is sound, whatever came. For want of
+    /// memory nothing has arrived any more: the workflow is empty.
+    ///
+    /// It is a message as cells write them, and event ids are at most 10^12.
+    pub fn admit<L>(
+        &mut self,
+        alloc: Global,
+        message: Message,
+        steps: &mut Steps<L>,
+    ) -> Result<Admission, OutOfMemory>
+        requires message { IsMessage message }
+        requires new { IsNewTo self.old.arrived message }
+        requires ids { AllByRecursion HasSmallIds (both message) }
+        ensures admitted { IfOk result (λ admission. IsAdmitted message admission self.old self.new) }
+        ensures sound { OnOk result (IsSound (learned self.new.arrived)) }
+        ensures err { OnErr result (self.new ≡ empty_workflow) }
+    {
+        match admit(&mut self.runs, &mut self.waiting, alloc, message, steps) {
+            Ok(admission) => {
+                self.runs.is_sound();
+                Ok(admission)
+            }
             Err(error) => {
                 self.runs = Runs::new(alloc);
                 self.waiting = Waiting::new(alloc);

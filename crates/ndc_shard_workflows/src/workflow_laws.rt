@@ -1,15 +1,21 @@
 //! What a workflow is in its cell, as laws: a law is what an empty function ensures.
-ghost use Rattle.std.specs.Prelude.{◌≡◌, true, false, map, IfSome};
+ghost use Rattle.std.specs.Prelude.{◌≡◌, ◌<◌, ◌^◌, true, false, map, List, [], IsOk, IfSome};
+ghost use Rattle.std.specs.List.{AllByRecursion};
+ghost use Rattle.ndc_event.specs.declared.batch.Batch.{Batch as One};
 ghost use Rattle.ndc_model_cells.specs.Arrival.{arrival_of, arrived_at, learned_by};
-ghost use Rattle.ndc_model_cells.specs.Cells.{Cell, IsCell};
+ghost use Rattle.ndc_model_cells.specs.Cells.{both, Cell, IsCell};
 ghost use Rattle.ndc_model_cells.specs.Places.{AreInOrder, is_of};
-ghost use Rattle.ndc_model_cells.specs.Writing.{Entry};
+ghost use Rattle.ndc_model_cells.specs.Writing.{Entry, greatest_task};
 ghost use Rattle.ndc_model_cells.specs.Writing as writing;
 ghost use Rattle.ndc_model_cells.specs.declared.message.Message.{Message as Sent};
 ghost use Rattle.ndc_event.specs.declared.name.Name.{Name as Text};
-ghost use Rattle.ndc_model_sets.specs.Sets.{PointsBack};
-ghost use Rattle.ndc_model_cells.specs.Messages.{batches_of};
-ghost use Rattle.ndc_model_cells.specs.Messages.{carrying};
+ghost use Rattle.ndc_model_sets.specs.Learned.{has_key, learned};
+ghost use Rattle.ndc_model_sets.specs.Sets.{PointsBack, earlier};
+ghost use Rattle.ndc_model_sets.specs.Sound.{IsSound};
+ghost use Rattle.ndc_model_cells.specs.Messages.{batches_of, carrying, HasSmallIds, IsMessage, IsNewTo};
+ghost use Rattle.ndc_shard_waiting.specs.Learning.{with_message, with_messages, ArePutOff};
+ghost use Rattle.ndc_shard_waiting.specs.Waiting.{freed, still_put_off};
+ghost use Rattle.ndc_shard_workflows.specs.Admitting.{fit_in, settled_with, HasSmallTask, IsLone};
 ghost use Rattle.ndc_model_cells.specs.Workflow.{WorkflowValue, workflow_of};
 ghost use Rattle.ndc_shard_workflows.specs.Workflow.{IsWorkflow, off_in, still_waiting, answer_to, made_learned, after_arrival, with_written};
 
@@ -45,4 +51,21 @@ pub fn what_a_cell_writes_is_written_to_its_workflow()
     ensures { (domain workflow : Text) (entry : Entry) (cell : Cell) → IsCell cell → PointsBack entry.batch → is_of domain workflow entry.batch ≡ true
         → IfSome entry.second (λ b. is_of domain workflow b ≡ true)
         → workflow_of domain workflow (writing.with_written entry cell) ≡ with_written (carrying entry.batch entry.second) (workflow_of domain workflow cell) }
+{}
+
+/// A message of which the earlier key is learned, and with which what is learned then would be sound, as by its arrival, fits,
+/// and so does all that waited for it: nothing is set aside. No other carries its batch, nor any that waits, and tasks are
+/// below 2^64, as those of batches are. So what a cell does with a message that its caller vouches for does not depend on
+/// whether it is admitted or arrives.
+pub fn what_may_arrive_is_admitted_whole()
+    ensures fits { (known : List One) (waiting : List Sent) (new : Sent) → ArePutOff known waiting → IsMessage new → IsNewTo (with_messages waiting known) new
+        → has_key (earlier new.batch) known ≡ true → AllByRecursion HasSmallIds (both new) → AllByRecursion HasSmallIds (batches_of waiting)
+        → IsSound known → IsSound (learned (with_message new (with_messages waiting known)))
+        → IsLone new → AllByRecursion IsLone waiting → greatest_task known < 2 ^ 64 → AllByRecursion HasSmallTask (both new) → AllByRecursion HasSmallTask (batches_of waiting)
+        → IsOk (fit_in known new) }
+    ensures settled { (known : List One) (waiting : List Sent) (new : Sent) → ArePutOff known waiting → IsMessage new → IsNewTo (with_messages waiting known) new
+        → has_key (earlier new.batch) known ≡ true → AllByRecursion HasSmallIds (both new) → AllByRecursion HasSmallIds (batches_of waiting)
+        → IsSound known → IsSound (learned (with_message new (with_messages waiting known)))
+        → IsLone new → AllByRecursion IsLone waiting → greatest_task known < 2 ^ 64 → AllByRecursion HasSmallTask (both new) → AllByRecursion HasSmallTask (batches_of waiting)
+        → settled_with new known waiting ≡ record { known = with_messages (freed new waiting) known; waiting = still_put_off new waiting; learned = freed new waiting; aside = [] } }
 {}

@@ -1,32 +1,24 @@
--- A first batch where nothing is learned.
-use Rattle.std.proofs.Common.{◌≡◌, false, List, [], Option, Some, None, refl, sym, ◌∙◌, subst, ap}
+-- A batch that comes next, by what was asked.
+use Rattle.std.proofs.Common.{◌≡◌, true, false, List, Option, Some, None, refl, sym, ◌∙◌, ap}
 use Rattle.std.specs.Prelude.{is_some}
 use Rattle.ndc_event.specs.Batch.{fault_of}
 use Rattle.ndc_event.specs.declared.batch.Batch.{Batch}
 use Rattle.ndc_event.specs.declared.key.BatchKey.{BatchKey}
 use Rattle.ndc_model_sets.specs.Learned.{has_key}
-use Rattle.ndc_model_sets.specs.Sets.{earlier_of, batch_at, Has}
-use Rattle.ndc_model_sets.specs.Writing.{CopiesFitWith}
-use Rattle.ndc_shard_runs.specs.Copies.{CopiesFitInto}
-use Rattle.ndc_shard_runs.specs.Fitting.{ComesNext, IsCarrierFit}
+use Rattle.ndc_model_sets.specs.Sets.{earlier_of, batch_at}
+use Rattle.ndc_shard_runs.specs.Fitting.{ComesNext}
 
-none-of : (o : Option BatchKey) → is_some o ≡ false → o ≡ None
+pub none-of : {X : Type 0} (o : Option X) → is_some o ≡ false → o ≡ None
 none-of None e = refl
-none-of (Some key) e = absurd (cc)
+none-of (Some x) e = absurd (cc)
 
-module _ (batches : List Batch) (b : Batch) (empty : batches ≡ []) where
-  nothing : (x : Batch) → Has batches x → ⊥
-  nothing x has = let no : Has [] x = subst (λ (l : List Batch). Has l x) empty has in absurd (cc)
-
-  pub first-next : fault_of b ≡ None → is_some b.parent ≡ false → is_some b.carrier ≡ false → ComesNext batches b
-  first-next faultless no_parent no_carrier = record {
-    fresh = ap (batch_at b.key) empty;
-    faultless = faultless;
-    reached = ap (λ o. has_key (earlier_of o b.carrier) batches) (none-of b.parent no_parent) ∙ ap (λ o. has_key o batches) (none-of b.carrier no_carrier);
-  }
-
-  pub first-copies : CopiesFitInto batches b → CopiesFitWith batches b
-  first-copies fit = record { own = fit.own; others = λ x has. absurd (nothing x has) }
-
-  pub first-carrier : is_some b.carrier ≡ false → IsCarrierFit batches b
-  first-carrier no_carrier carrier key e at = let none = none-of b.carrier no_carrier in absurd (cc)
+pub comes-next : (batches : List Batch) (b : Batch) → fault_of b ≡ None → b.carrier ≡ None → is_some (batch_at b.key batches) ≡ false → has_key b.parent batches ≡ true → ComesNext batches b
+comes-next batches b faultless lone fresh reached = record {
+  fresh = none-of (batch_at b.key batches) fresh;
+  faultless = faultless;
+  reached = ap (λ o. has_key (earlier_of b.parent o) batches) lone ∙ by b.parent reached;
+}
+  where
+    by : (o : Option BatchKey) → has_key o batches ≡ true → has_key (earlier_of o None) batches ≡ true
+    by None h = h
+    by (Some key) h = h

@@ -1,11 +1,12 @@
-ghost use Rattle.std.specs.Prelude.{◌≡◌, ◌≤◌, ◌^◌, [], All, None};
+ghost use Rattle.std.specs.Prelude.{◌≡◌, ◌≤◌, ◌^◌, All, None};
 ghost use Rattle.ndc_event.specs.Batch.{fault_of};
+ghost use Rattle.ndc_model_sets.specs.Learned.{has_key};
 
 use crate::given::{self, Test, key};
 use ndc_event::{Batch, EventKind, Name, Origin, RunId};
-use ndc_run::{Learned, RunError};
-use ndc_shard_runs::Runs;
-use ndc_state::Steps;
+use ndc_run::Learned;
+use ndc_shard_runs::{Misfit, Runs};
+use ndc_state::{Rule, Steps};
 use std::alloc::Global;
 use std::test::Fail;
 
@@ -29,29 +30,70 @@ const FALSE_ORIGIN: &str =
 const UNSTARTED: &str =
     "{\"domain\":\"alpha\",\"events\":[{\"eventId\":1,\"eventType\":\"WorkflowExecutionSignaled\",\"input\":\"x\",\"signalName\":\"ping\",\"version\":1}],\"parent\":null,\"run\":\"00000000-0000-0001-0000-000000000001\",\"task\":1,\"version\":1,\"workflow\":\"w1\"}";
 
-// Learns a first batch where nothing is learned.
-fn try_first(
+/// A batch that goes on from the first one.
+const NEXT: &str =
+    "{\"domain\":\"alpha\",\"events\":[{\"eventId\":3,\"eventType\":\"WorkflowExecutionSignaled\",\"input\":\"y\",\"signalName\":\"pong\",\"version\":1}],\"parent\":{\"task\":1,\"version\":1},\"run\":\"00000000-0000-0001-0000-000000000001\",\"task\":2,\"version\":1,\"workflow\":\"w1\"}";
+
+/// Another one of its version, which goes on from the first one too.
+const SPLIT: &str =
+    "{\"domain\":\"alpha\",\"events\":[{\"eventId\":3,\"eventType\":\"WorkflowExecutionSignaled\",\"input\":\"z\",\"signalName\":\"pong\",\"version\":1}],\"parent\":{\"task\":1,\"version\":1},\"run\":\"00000000-0000-0001-0000-000000000001\",\"task\":3,\"version\":1,\"workflow\":\"w1\"}";
+
+/// One whose id leaves a hole.
+const WITH_HOLE: &str =
+    "{\"domain\":\"alpha\",\"events\":[{\"eventId\":4,\"eventType\":\"WorkflowExecutionSignaled\",\"input\":\"y\",\"signalName\":\"pong\",\"version\":1}],\"parent\":{\"task\":1,\"version\":1},\"run\":\"00000000-0000-0001-0000-000000000001\",\"task\":2,\"version\":1,\"workflow\":\"w1\"}";
+
+/// One of another run.
+const OF_ANOTHER_RUN: &str =
+    "{\"domain\":\"alpha\",\"events\":[{\"eventId\":3,\"eventType\":\"WorkflowExecutionSignaled\",\"input\":\"y\",\"signalName\":\"pong\",\"version\":2}],\"parent\":{\"task\":1,\"version\":1},\"run\":\"00000000-0000-0002-0000-000000000002\",\"task\":3,\"version\":2,\"workflow\":\"w1\"}";
+
+/// One with a copy of a signal on its own path.
+const TWICE: &str =
+    "{\"domain\":\"alpha\",\"events\":[{\"eventId\":3,\"eventType\":\"WorkflowExecutionSignaled\",\"input\":\"x\",\"origin\":{\"event\":2,\"run\":\"00000000-0000-0001-0000-000000000001\",\"version\":1},\"signalName\":\"ping\",\"version\":2}],\"parent\":{\"task\":1,\"version\":1},\"run\":\"00000000-0000-0001-0000-000000000001\",\"task\":2,\"version\":2,\"workflow\":\"w1\"}";
+
+// Whether the parent of a batch is learned, where it has one.
+fn is_reached(runs: &Runs, batch: &Batch) -> bool
+    ensures { result ≡ has_key batch.now.parent runs.now }
+{
+    match batch.parent {
+        None => true,
+        Some(key) => runs.has(key),
+    }
+}
+
+// Admits a batch that comes next and that no other carries.
+fn admit(
     runs: &mut Runs,
     alloc: Global,
     batch: &Batch,
     steps: &mut Steps<Test>,
-) -> Result<Learned, RunError>
-    requires empty { runs.old ≡ [] }
+) -> Result<Learned, Misfit>
     requires faultless { fault_of batch.now ≡ None }
     requires ids { All (λ event. event.id ≤ 10 ^ 12) batch.now.events }
 {
-    if batch.parent.is_some() || batch.carrier.is_some() || !runs.copies_fit(batch) {
-        return Err(RunError::Memory);
+    if batch.carrier.is_some() || runs.has(batch.key) || !is_reached(runs, batch) {
+        return Err(Misfit::Memory);
     }
-    runs.try_learn(alloc, batch, steps)
+    runs.admit(alloc, batch, None, steps)
+}
+
+// Admits the batch of a text.
+fn admit_text(runs: &mut Runs, alloc: Global, text: &str) -> Result<Learned, Misfit> {
+    let batch = given::batch(alloc, text)?;
+    let mut steps: Steps<Test> = Steps::new();
+    admit(runs, alloc, &batch, &mut steps)
+}
+
+// What becomes of the batch of a text behind one that is learned.
+fn behind(alloc: Global, first: &str, text: &str) -> Result<Learned, Misfit> {
+    let mut runs = Runs::new(alloc);
+    admit_text(&mut runs, alloc, first)?;
+    admit_text(&mut runs, alloc, text)
 }
 
 // What is learned of a workflow with one signal.
-fn signaled(alloc: Global) -> Result<Runs, RunError> {
-    let batch = given::batch(alloc, SIGNALED)?;
+fn signaled(alloc: Global) -> Result<Runs, Misfit> {
     let mut runs = Runs::new(alloc);
-    let mut steps: Steps<Test> = Steps::new();
-    try_first(&mut runs, alloc, &batch, &mut steps)?;
+    admit_text(&mut runs, alloc, SIGNALED)?;
     Ok(runs)
 }
 
@@ -109,10 +151,68 @@ fn a_copy_fits_its_original_alone(rt: HostRuntime) -> Result<(), Fail> {
 fn a_forbidden_event_is_refused(rt: HostRuntime) -> Result<(), Fail> {
     let alloc = rt.alloc();
     let mut runs = Runs::new(alloc);
-    let mut steps: Steps<Test> = Steps::new();
-    let unstarted = given::batch(alloc, UNSTARTED)?;
-    let refused = try_first(&mut runs, alloc, &unstarted, &mut steps);
-    assert!(rt; matches!(refused, Err(RunError::Invalid { id: 1, .. })));
+    let refused = admit_text(&mut runs, alloc, UNSTARTED);
+    assert!(rt; matches!(refused, Err(Misfit::BadReplay { id: 1, .. })));
     assert!(rt; runs.is_empty());
+    Ok(())
+}
+
+#[test]
+fn a_batch_beside_its_run_is_refused(rt: HostRuntime) -> Result<(), Fail> {
+    let alloc = rt.alloc();
+    assert!(rt; behind(alloc, SIGNALED, NEXT).is_ok());
+    assert!(rt; matches!(behind(alloc, SIGNALED, WITH_HOLE), Err(Misfit::IllFormed)));
+    assert!(rt;
+        matches!(
+            behind(alloc, SIGNALED, OF_ANOTHER_RUN),
+            Err(Misfit::ParentUnfit)
+        )
+    );
+    let twice = behind(alloc, SIGNALED, TWICE);
+    assert!(rt;
+        matches!(
+            twice,
+            Err(Misfit::BadReplay {
+                id: 3,
+                rule: Rule::Origin
+            })
+        )
+    );
+    Ok(())
+}
+
+#[test]
+fn a_split_version_is_refused(rt: HostRuntime) -> Result<(), Fail> {
+    let alloc = rt.alloc();
+    let mut runs = signaled(alloc)?;
+    admit_text(&mut runs, alloc, NEXT)?;
+    assert!(rt; matches!(admit_text(&mut runs, alloc, SPLIT), Err(Misfit::IllFormed)));
+    assert!(rt; !runs.has(key(1, 3)));
+    Ok(())
+}
+
+#[test]
+fn a_false_copy_is_refused_whichever_comes_first(rt: HostRuntime) -> Result<(), Fail> {
+    let alloc = rt.alloc();
+    assert!(rt; behind(alloc, SIGNALED, COPIED).is_ok());
+    assert!(rt; behind(alloc, COPIED, SIGNALED).is_ok());
+    assert!(rt;
+        matches!(
+            behind(alloc, SIGNALED, FALSE_INPUT),
+            Err(Misfit::OriginUnfit)
+        )
+    );
+    assert!(rt;
+        matches!(
+            behind(alloc, FALSE_INPUT, SIGNALED),
+            Err(Misfit::OriginUnfit)
+        )
+    );
+    assert!(rt;
+        matches!(
+            behind(alloc, FALSE_ORIGIN, SIGNALED),
+            Err(Misfit::OriginUnfit)
+        )
+    );
     Ok(())
 }

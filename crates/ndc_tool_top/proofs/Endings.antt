@@ -64,7 +64,7 @@ module _ (all : List IndexerValue) (index late : List Name) where
         both (Some bytes) P Q R step p q = step bytes p q
 
     -- a front of it was
-    pub stops_within : ReportsFront script all index late before after → StopsWithin all index late left before after
-    stops_within front =
-        some_weaker left (λ bytes. (length bytes ≤ most_bytes) × (script_of bytes ≡ Ok script)) (λ bytes. (length bytes ≤ most_bytes) × IsOkAnd (script_of bytes) (λ s. ReportsFront s all index late before after))
-        (λ bytes p. (p.0, known-ok (script_of bytes) script (λ s. ReportsFront s all index late before after) p.1 front)) read
+    pub stops_within : ReportsFront script all index late before after → KeepsPromises script → StopsWithin all index late left before after
+    stops_within front keeps =
+        some_weaker left (λ bytes. (length bytes ≤ most_bytes) × (script_of bytes ≡ Ok script)) (λ bytes. (length bytes ≤ most_bytes) × IsOkAnd (script_of bytes) (λ s. ReportsFront s all index late before after × KeepsPromises s))
+        (λ bytes p. (p.0, known-ok (script_of bytes) script (λ s. ReportsFront s all index late before after × KeepsPromises s) p.1 (front, keeps))) read

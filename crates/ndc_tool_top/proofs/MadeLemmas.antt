@@ -6,7 +6,7 @@ use Rattle.ndc_script_types.specs.declared.script.Act.{Act}
 use Rattle.ndc_script_types.specs.declared.script.Act.TheVariants as act
 use Rattle.ndc_script_types.specs.declared.script.Header.{Header}
 use Rattle.ndc_script_types.specs.declared.script.Line.{Line}
-use Rattle.ndc_laws_program.proofs.GeneratedLemmas.{generated-same}
+use Rattle.ndc_laws_program.proofs.GeneratedLemmas.{generated-answers, generated-same, generated-sums}
 use Rattle.ndc_model.specs.Lines.{ran_of}
 use Rattle.ndc_script.specs.Generate.{drawn_lines, generated_header, generated_lines, generated_script, line_at, next_state}
 use Rattle.ndc_script.proofs.GeneratedFits.{generated_fits}
@@ -21,7 +21,7 @@ use Rattle.ndc_tool_words.specs.WellFormed.{IsWellFormedAsked}
 use Rattle.ndc_tool_words.specs.declared.words.Asked.{Asked}
 use Rattle.ndc_tool_words.specs.declared.words.Asked.TheVariants.{Demo, Inspect, Make, Rebuild, Run}
 use Rattle.ndc_tool_top.specs.Asking.{IfDemo, IfMade}
-use Rattle.ndc_tool_top.specs.Demo.{SaysSame, answer_of, summary_line}
+use Rattle.ndc_tool_top.specs.Demo.{SaysNumbers, SaysSame, answer_of, summary_line}
 use Rattle.ndc_tool_top.proofs.PlainLemmas.{generated_plain, is_burst}
 
 -- a line that is no burst is one line in print, and has no numbers but its own
@@ -75,6 +75,14 @@ demo-same : (count : ℕ) → count ≤ 99000 → SaysSame (generated_script cou
 demo-same count most =
     line-same (summary_with (length (ran_of (generated_script count 0))) (refused_in (ran_of (generated_script count 0))) (totals_of generated_header (last_world (generated_script count 0)))) (generated-same count 0 most)
 
+-- and shows numbers that sum its clusters up
+demo-numbers : (count : ℕ) → count ≤ 99000 → SaysNumbers (count + 7) (generated_script count 0)
+demo-numbers count most = record {
+  totals = totals_of generated_header (last_world (generated_script count 0));
+  sums = generated-sums count 0 most;
+  shown = ap (λ (n : ℕ). summary_line (summary_with n (refused_in (ran_of (generated_script count 0))) (totals_of generated_header (last_world (generated_script count 0))))) (generated-answers count 0);
+}
+
 -- so it is of what words ask for
 pub if-made-again : (asked : Asked) (n : ℕ) → IsWellFormedAsked asked → IfMade (Some asked) (λ count seed. n ≡ 0 → script_of (script_text (generated_script count seed)) ≡ Ok (generated_script count seed))
 if-made-again (Make count seed) n fit = λ _. made-again count seed fit.1
@@ -89,3 +97,10 @@ if-demo-same (Run workers index late) n fit = tt
 if-demo-same Rebuild n fit = tt
 if-demo-same Inspect n fit = tt
 if-demo-same (Make count seed) n fit = tt
+
+pub if-demo-numbers : (asked : Asked) (n : ℕ) → IsWellFormedAsked asked → IfDemo (Some asked) (λ count. n ≡ 0 → SaysNumbers (count + 7) (generated_script count 0))
+if-demo-numbers (Demo count) n fit = λ _. demo-numbers count fit.1
+if-demo-numbers (Run workers index late) n fit = tt
+if-demo-numbers Rebuild n fit = tt
+if-demo-numbers Inspect n fit = tt
+if-demo-numbers (Make count seed) n fit = tt

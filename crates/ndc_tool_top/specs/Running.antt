@@ -19,12 +19,12 @@ abbrev pub Succeeds : List IndexerValue → List Name → List Name → Option (
 Succeeds all index late left rest before after =
     IfSome left (λ bytes. (length bytes ≤ most_bytes) × (rest ≡ Some []) × IsOkAnd (script_of bytes) (λ script. Reports script all index late before after × KeepsPromises script))
 
--- a script was read, and a front of its report was written
+-- a script was read, a front of its report was written, and what is promised of every script holds of it
 abbrev pub StopsWithin : List IndexerValue → List Name → List Name → Option (List ℕ) → Option (List ℕ) → Option (List ℕ) → Type 0
 StopsWithin all index late left before after =
-    IfSome left (λ bytes. (length bytes ≤ most_bytes) × IsOkAnd (script_of bytes) (λ script. ReportsFront script all index late before after))
+    IfSome left (λ bytes. (length bytes ≤ most_bytes) × IsOkAnd (script_of bytes) (λ script. ReportsFront script all index late before after × KeepsPromises script))
 
--- nothing was written, or a script was read and a front of its report was written
+-- nothing was written, or a script was read, a front of its report was written, and what is promised holds of it
 abbrev pub FrontOfReport : List IndexerValue → List Name → List Name → Option (List ℕ) → Option (List ℕ) → Option (List ℕ) → Type 0
 FrontOfReport all index late left before after = (after ≡ before) ⊎ StopsWithin all index late left before after
 

@@ -8,7 +8,7 @@ ghost use Rattle.ndc_script_read.specs.Body.{script_of};
 ghost use Rattle.ndc_world.specs.Seats.{AreNew};
 ghost use Rattle.ndc_dump.specs.Input.{most_bytes};
 ghost use Rattle.ndc_dump.specs.Telling.{IsAmong, Streams, Tells};
-ghost use Rattle.ndc_tool_top.specs.Running.{FrontOfReport, ReadFault, RunFault, Succeeds, TellsError};
+ghost use Rattle.ndc_tool_top.specs.Running.{FrontOfReport, ReadFault, RunFault, StopsWithin, Succeeds, TellsError};
 ghost use Rattle.ndc_tool_top.specs.Top.{LeavesAfter, LeavesSource, TellsSomeLine, status_line, status_of};
 
 use crate::fault::Fault;
@@ -109,7 +109,7 @@ pub fn run_input<R: Threads + Sync, S: Source, K: Sink, E: Sink, G: Gate>(
     ensures unknown { all_known (map (λ b. shown (title b) (failing b) (list b)) indexers.items) (index.now ++ late.now) ≡ false → IsAmong result (2 ∷ 8 ∷ []) }
     ensures unknown_source { all_known (map (λ b. shown (title b) (failing b) (list b)) indexers.items) (index.now ++ late.now) ≡ false → source.new ≡ source.old }
     ensures unknown_out { all_known (map (λ b. shown (title b) (failing b) (list b)) indexers.items) (index.now ++ late.now) ≡ false → out.new ≡ out.old }
-    ensures dump { result ≢ 7 }
+    ensures among { IsAmong result (0 ∷ 2 ∷ 3 ∷ 4 ∷ 5 ∷ 6 ∷ 8 ∷ []) }
     ensures done { result ≡ 0 → Succeeds (map (λ b. shown (title b) (failing b) (list b)) indexers.items) index.now late.now (S.left source.old) (S.left source.new) (K.written out.old) (K.written out.new) }
     ensures silent { result ≡ 0 → E.written err.new ≡ E.written err.old }
     ensures script { result ≡ 3 → IfSome (S.left source.old) (λ bytes. (length bytes ≤ most_bytes)
@@ -124,6 +124,7 @@ pub fn run_input<R: Threads + Sync, S: Source, K: Sink, E: Sink, G: Gate>(
     ensures unread { IfSome (S.left source.old) (λ bytes. length bytes ≤ most_bytes → IsErr (script_of bytes) → IsAmong result (2 ∷ 3 ∷ 4 ∷ 8 ∷ [])) }
     ensures complete { IfSome (S.left source.old) (λ bytes. length bytes ≤ most_bytes → IsOk (script_of bytes) → IsAmong result (0 ∷ 2 ∷ 4 ∷ 5 ∷ 8 ∷ [])) }
     ensures early { IsAmong result (2 ∷ 3 ∷ 4 ∷ 6 ∷ 7 ∷ []) → K.written out.new ≡ K.written out.old }
+    ensures stopped { result ≡ 5 → StopsWithin (map (λ b. shown (title b) (failing b) (list b)) indexers.items) index.now late.now (S.left source.old) (K.written out.old) (K.written out.new) }
     ensures front { result ≢ 0 → FrontOfReport (map (λ b. shown (title b) (failing b) (list b)) indexers.items) index.now late.now (S.left source.old) (K.written out.old) (K.written out.new) }
 {
     match run(rt, alloc, gate, workers, index, late, source, out, indexers) {

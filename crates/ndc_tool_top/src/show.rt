@@ -8,7 +8,7 @@ ghost use Rattle.ndc_dump.specs.Read.{dump_of};
 ghost use Rattle.ndc_dump.specs.declared.error.PrintError.TheVariants as print;
 ghost use Rattle.ndc_dump.specs.Input.{most_bytes};
 ghost use Rattle.ndc_dump.specs.Telling.{IsAmong, Tells};
-ghost use Rattle.ndc_tool_top.specs.Show.{PrintsAsRead, ShowFault, Shows, ShowsFront, shown_text};
+ghost use Rattle.ndc_tool_top.specs.Show.{PrintsAsRead, ShowFault, Shows, ShowsFront, StopsShowing, shown_text};
 ghost use Rattle.ndc_tool_top.specs.Top.{LeavesAfter, LeavesSource, TellsDumpError, TellsSomeCause, status_line};
 
 use crate::fault::Fault;
@@ -93,8 +93,7 @@ pub fn show_input<S: Source, K: Sink, E: Sink>(
     out: &mut K,
     err: &mut E,
 ) -> u8
-    ensures words { result ≢ 2 }
-    ensures script { result ≢ 3 }
+    ensures among { IsAmong result (0 ∷ 4 ∷ 5 ∷ 6 ∷ 7 ∷ 8 ∷ []) }
     ensures done { result ≡ 0 → Shows how (S.left source.old) (S.left source.new) (K.written out.old) (K.written out.new) }
     ensures as_read { result ≡ 0 → PrintsAsRead how (S.left source.old) (K.written out.old) (K.written out.new) }
     ensures silent { result ≡ 0 → E.written err.new ≡ E.written err.old }
@@ -111,6 +110,7 @@ pub fn show_input<S: Source, K: Sink, E: Sink>(
     ensures whole_dump { IfSome (S.left source.old) (λ bytes. length bytes ≤ most_bytes → IsOk (dump_of bytes) → IsAmong result (0 ∷ 4 ∷ 5 ∷ 8 ∷ [])) }
     ensures early { IsAmong result (2 ∷ 3 ∷ 4 ∷ 6 ∷ 7 ∷ []) → K.written out.new ≡ K.written out.old }
     ensures unwritten { result ≡ 8 → K.written out.new ≡ K.written out.old }
+    ensures stopped { result ≡ 5 → StopsShowing how (S.left source.old) (K.written out.old) (K.written out.new) }
     ensures front { result ≢ 0 → ShowsFront how (S.left source.old) (K.written out.old) (K.written out.new) }
 {
     match show(alloc, how, source, out) {

@@ -1,4 +1,4 @@
-ghost use Rattle.std.specs.Prelude.{◌≡◌, ◌≢◌, ◌<◌, ◌≤◌, true, false, Some, [], ◌∷◌, IsOk, IsErr, IsErrAnd, map, length, IfSome, Ok};
+ghost use Rattle.std.specs.Prelude.{◌≡◌, ◌≢◌, ◌+◌, ◌<◌, ◌≤◌, true, false, Some, [], ◌∷◌, IsOk, IsErr, IsErrAnd, map, length, IfSome, Ok};
 ghost use Rattle.std.specs.String.{string_bytes};
 ghost use Rattle.ndc_script_types.specs.Print.{script_text};
 ghost use Rattle.ndc_dump.specs.Read.{dump_of};
@@ -13,9 +13,9 @@ ghost use Rattle.ndc_script.specs.Generate.{generated_script};
 ghost use Rattle.ndc_dump.specs.Input.{most_bytes};
 ghost use Rattle.ndc_dump.specs.Telling.{IsAmong, Tells};
 ghost use Rattle.ndc_tool_top.specs.Asking.{IfDemo, IfMade, IfRun, IfShown, is_refused, is_run, is_shown};
-ghost use Rattle.ndc_tool_top.specs.Demo.{SaysSame, demo_text};
-ghost use Rattle.ndc_tool_top.specs.Running.{FrontOfReport, Succeeds, TellsError};
-ghost use Rattle.ndc_tool_top.specs.Show.{PrintsAsRead, Shows, ShowsFront};
+ghost use Rattle.ndc_tool_top.specs.Demo.{SaysNumbers, SaysSame, demo_text};
+ghost use Rattle.ndc_tool_top.specs.Running.{FrontOfReport, StopsWithin, Succeeds, TellsError};
+ghost use Rattle.ndc_tool_top.specs.Show.{PrintsAsRead, Shows, ShowsFront, StopsShowing};
 ghost use Rattle.ndc_tool_top.specs.Top.{LeavesSource, TellsDumpError, TellsSomeCause, TellsSomeLine, status_line};
 
 use crate::demo::demo_text;
@@ -60,6 +60,7 @@ fn perform<R: Threads + Sync, S: Source, K: Sink, E: Sink, G: Gate>(
     ensures made_again { IfMade (Some asked) (λ count seed. result ≡ 0 → script_of (script_text (generated_script count seed)) ≡ Ok (generated_script count seed)) }
     ensures demo { IfDemo (Some asked) (λ count. result ≡ 0 → Appends (K.written out.old) (K.written out.new) (demo_text (generated_script count 0))) }
     ensures demo_same { IfDemo (Some asked) (λ count. result ≡ 0 → SaysSame (generated_script count 0)) }
+    ensures demo_numbers { IfDemo (Some asked) (λ count. result ≡ 0 → SaysNumbers (count + 7) (generated_script count 0)) }
     ensures silent { result ≡ 0 → E.written err.new ≡ E.written err.old }
 
     // Status 3 tells the first faulty line of a script with its cause, and comes from `run` alone.
@@ -82,7 +83,9 @@ fn perform<R: Threads + Sync, S: Source, K: Sink, E: Sink, G: Gate>(
     ensures run_source { IfRun (Some asked) (λ _ _. LeavesSource result (S.left source.old) (S.left source.new)) }
     ensures shown_source { IfShown (Some asked) (λ _. LeavesSource result (S.left source.old) (S.left source.new)) }
 
-    // Which statuses can come, by what was asked for and the bytes that were left.
+    // Which statuses can come, by what was asked for, and by the bytes that were left where the source tells them.
+    ensures among_run { IfRun (Some asked) (λ _ _. IsAmong result (0 ∷ 2 ∷ 3 ∷ 4 ∷ 5 ∷ 6 ∷ 8 ∷ [])) }
+    ensures among_shown { IfShown (Some asked) (λ _. IsAmong result (0 ∷ 4 ∷ 5 ∷ 6 ∷ 7 ∷ 8 ∷ [])) }
     ensures above { IfRun (Some asked) (λ _ _. IfSome (S.left source.old) (λ bytes. most_bytes < length bytes → IsAmong result (2 ∷ 4 ∷ 6 ∷ 8 ∷ []))) }
     ensures unread { IfRun (Some asked) (λ _ _. IfSome (S.left source.old) (λ bytes. length bytes ≤ most_bytes → IsErr (script_of bytes) → IsAmong result (2 ∷ 3 ∷ 4 ∷ 8 ∷ []))) }
     ensures complete { IfRun (Some asked) (λ _ _. IfSome (S.left source.old) (λ bytes. length bytes ≤ most_bytes → IsOk (script_of bytes) → IsAmong result (0 ∷ 2 ∷ 4 ∷ 5 ∷ 8 ∷ []))) }
@@ -95,7 +98,9 @@ fn perform<R: Threads + Sync, S: Source, K: Sink, E: Sink, G: Gate>(
     // What is written: nothing before the output begins or where the input is none, and never more than a front of it.
     ensures early { IsAmong result (2 ∷ 3 ∷ 4 ∷ 6 ∷ 7 ∷ []) → K.written out.new ≡ K.written out.old }
     ensures unwritten { is_run (Some asked) ≡ false → result ≡ 8 → K.written out.new ≡ K.written out.old }
+    ensures stopped { IfRun (Some asked) (λ index late. result ≡ 5 → StopsWithin (map (λ b. shown (title b) (failing b) (list b)) indexers.items) index late (S.left source.old) (K.written out.old) (K.written out.new)) }
     ensures front { IfRun (Some asked) (λ index late. result ≢ 0 → FrontOfReport (map (λ b. shown (title b) (failing b) (list b)) indexers.items) index late (S.left source.old) (K.written out.old) (K.written out.new)) }
+    ensures shown_stopped { IfShown (Some asked) (λ how. result ≡ 5 → StopsShowing how (S.left source.old) (K.written out.old) (K.written out.new)) }
     ensures shown_front { IfShown (Some asked) (λ how. result ≢ 0 → ShowsFront how (S.left source.old) (K.written out.old) (K.written out.new)) }
     ensures made_front { IfMade (Some asked) (λ count seed. AppendsFront (K.written out.old) (K.written out.new) (script_text (generated_script count seed))) }
     ensures demo_front { IfDemo (Some asked) (λ count. AppendsFront (K.written out.old) (K.written out.new) (demo_text (generated_script count 0))) }
@@ -158,6 +163,7 @@ pub fn ndc_top<R: Threads + Sync, S: Source, K: Sink, E: Sink, G: Gate>(
     ensures made_again { IfMade (asked_of (map string_bytes words.now)) (λ count seed. result ≡ 0 → script_of (script_text (generated_script count seed)) ≡ Ok (generated_script count seed)) }
     ensures demo { IfDemo (asked_of (map string_bytes words.now)) (λ count. result ≡ 0 → Appends (K.written out.old) (K.written out.new) (demo_text (generated_script count 0))) }
     ensures demo_same { IfDemo (asked_of (map string_bytes words.now)) (λ count. result ≡ 0 → SaysSame (generated_script count 0)) }
+    ensures demo_numbers { IfDemo (asked_of (map string_bytes words.now)) (λ count. result ≡ 0 → SaysNumbers (count + 7) (generated_script count 0)) }
     ensures silent { result ≡ 0 → E.written err.new ≡ E.written err.old }
 
     // Status 3 tells the first faulty line of a script with its cause, and comes from `run` alone.
@@ -180,7 +186,9 @@ pub fn ndc_top<R: Threads + Sync, S: Source, K: Sink, E: Sink, G: Gate>(
     ensures run_source { IfRun (asked_of (map string_bytes words.now)) (λ _ _. LeavesSource result (S.left source.old) (S.left source.new)) }
     ensures shown_source { IfShown (asked_of (map string_bytes words.now)) (λ _. LeavesSource result (S.left source.old) (S.left source.new)) }
 
-    // Which statuses can come, by what was asked for and the bytes that were left.
+    // Which statuses can come, by what was asked for, and by the bytes that were left where the source tells them.
+    ensures among_run { IfRun (asked_of (map string_bytes words.now)) (λ _ _. IsAmong result (0 ∷ 2 ∷ 3 ∷ 4 ∷ 5 ∷ 6 ∷ 8 ∷ [])) }
+    ensures among_shown { IfShown (asked_of (map string_bytes words.now)) (λ _. IsAmong result (0 ∷ 4 ∷ 5 ∷ 6 ∷ 7 ∷ 8 ∷ [])) }
     ensures above { IfRun (asked_of (map string_bytes words.now)) (λ _ _. IfSome (S.left source.old) (λ bytes. most_bytes < length bytes → IsAmong result (2 ∷ 4 ∷ 6 ∷ 8 ∷ []))) }
     ensures unread { IfRun (asked_of (map string_bytes words.now)) (λ _ _. IfSome (S.left source.old) (λ bytes. length bytes ≤ most_bytes → IsErr (script_of bytes) → IsAmong result (2 ∷ 3 ∷ 4 ∷ 8 ∷ []))) }
     ensures complete { IfRun (asked_of (map string_bytes words.now)) (λ _ _. IfSome (S.left source.old) (λ bytes. length bytes ≤ most_bytes → IsOk (script_of bytes) → IsAmong result (0 ∷ 2 ∷ 4 ∷ 5 ∷ 8 ∷ []))) }
@@ -193,7 +201,9 @@ pub fn ndc_top<R: Threads + Sync, S: Source, K: Sink, E: Sink, G: Gate>(
     // What is written: nothing before the output begins or where the input is none, and never more than a front of it.
     ensures early { IsAmong result (2 ∷ 3 ∷ 4 ∷ 6 ∷ 7 ∷ []) → K.written out.new ≡ K.written out.old }
     ensures unwritten { is_run (asked_of (map string_bytes words.now)) ≡ false → result ≡ 8 → K.written out.new ≡ K.written out.old }
+    ensures stopped { IfRun (asked_of (map string_bytes words.now)) (λ index late. result ≡ 5 → StopsWithin (map (λ b. shown (title b) (failing b) (list b)) indexers.items) index late (S.left source.old) (K.written out.old) (K.written out.new)) }
     ensures front { IfRun (asked_of (map string_bytes words.now)) (λ index late. result ≢ 0 → FrontOfReport (map (λ b. shown (title b) (failing b) (list b)) indexers.items) index late (S.left source.old) (K.written out.old) (K.written out.new)) }
+    ensures shown_stopped { IfShown (asked_of (map string_bytes words.now)) (λ how. result ≡ 5 → StopsShowing how (S.left source.old) (K.written out.old) (K.written out.new)) }
     ensures shown_front { IfShown (asked_of (map string_bytes words.now)) (λ how. result ≢ 0 → ShowsFront how (S.left source.old) (K.written out.old) (K.written out.new)) }
     ensures made_front { IfMade (asked_of (map string_bytes words.now)) (λ count seed. AppendsFront (K.written out.old) (K.written out.new) (script_text (generated_script count seed))) }
     ensures demo_front { IfDemo (asked_of (map string_bytes words.now)) (λ count. AppendsFront (K.written out.old) (K.written out.new) (demo_text (generated_script count 0))) }

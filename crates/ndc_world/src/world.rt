@@ -1,3 +1,7 @@
+ghost use Rattle.std.specs.Prelude.{◌≡◌, ◌<◌, length};
+ghost use Rattle.ndc_cluster_links.specs.Rest.{IsRestOf};
+ghost use Rattle.ndc_model.specs.World.{cluster_at, queue_at, trimmed_at};
+
 use crate::answer::Answer;
 use crate::reporting::no_reports;
 use crate::running::{line_count, run_line};
@@ -6,13 +10,18 @@ use crate::summary::Summary;
 use ndc_cluster::Cluster;
 use ndc_cluster_reads::Reads;
 use ndc_domain::ClusterNo;
-use ndc_event::OutOfMemory;
+use ndc_event::{Name, OutOfMemory};
+use ndc_letters::Letter;
+use ndc_model_cells::Message;
 use ndc_port::Gate;
 use ndc_progress::Reports;
+use ndc_queue::{Levels, Queue};
 use ndc_script_types::{Header, Line};
 use ndc_world_queries::totals;
 use ndc_world_replication::Replication;
-use ndc_world_replication::publishers::cluster_of;
+use ndc_world_replication::publishers::{
+    cluster_of, flight_of, levels_of, link_of, publisher_of,
+};
 use ndc_world_steps::moving::{Telling, settlement};
 use std::alloc::Global;
 use std::marker::Model;
@@ -20,6 +29,21 @@ use std::thread::Threads;
 
 /// How many lines a world runs at most.
 const MOST_LINES: u64 = 100_000;
+
+/// The queue of a source for a shard, as far as it is kept.
+fn kept_queue<C: Reads + Drop>(
+    replication: &Replication<C>,
+    source: ClusterNo,
+    shard: u32,
+) -> &Queue
+    requires source { source.number < length replication.now.clusters }
+    requires shard { shard < length (cluster_at source replication.now).cells }
+    ensures first { result.now.first ≡ trimmed_at source replication.now shard }
+    ensures rest { IsRestOf result.now (queue_at source shard replication.now) }
+{
+    let publisher = publisher_of(replication, source);
+    &publisher.queues().as_slice()[shard as usize]
+}
 
 /// The world of a script that runs: all clusters with the links between them, and the greatest progress report of each
 /// activity that each cluster was told or took over. They stand for the world that the lines lead to. It counts the lines
@@ -63,13 +87,14 @@ impl<'a, C: Reads + Drop> Drop for World<'a, C> {
 
 impl<'a, C: Reads + Drop> World<'a, C> {
     ghost use Rattle.std.specs.Prelude.{◌≡◌, ◌<◌, ◌+◌, ◌≤◌, ◌↔◌, false, length, true, IfOk, IsTrue, OnOk, OnErr};
-    ghost use Rattle.ndc_script_types.specs.WellFormed.{IsWellFormedAct, IsWellFormedHeader};
+    ghost use Rattle.ndc_script_types.specs.WellFormed.{IsCluster, IsWellFormedAct, IsWellFormedHeader};
     ghost use Rattle.ndc_domain.specs.Clusters.{cluster_no, count_of};
     ghost use Rattle.ndc_model.specs.Standing.{StandFor};
     ghost use Rattle.ndc_model.specs.Lines.{lines_of_act};
-    ghost use Rattle.ndc_model.specs.World.{cluster_at, opening_world};
+    ghost use Rattle.ndc_model.specs.World.{cluster_at, flight_at, lane_at, link_at, opening_world, queue_at, trimmed_at};
     ghost use Rattle.ndc_world.specs.Standing.{IsReachedWorld, IsSettledBy, IsSettledWorld, IsStepped, LeavesAllWhereRefused};
     ghost use Rattle.ndc_world.specs.Summary.{summary_of};
+    ghost use Rattle.ndc_cluster_links.specs.Rest.{IsRestOf};
     ghost use Rattle.ndc_world_replication.specs.Publishers.{cluster_alone};
 
     /// The world of a header in the beginning: nothing is registered, written or sent.
@@ -135,6 +160,55 @@ impl<'a, C: Reads + Drop> World<'a, C> {
         ensures shards { length result.now.cells ≡ self.now.header.shards }
     {
         cluster_of(&self.replication, ClusterNo { number: place })
+    }
+
+    /// What is in flight from a source to a reader for a shard, in order of place. Takes no memory.
+    pub fn flight(&self, reader: ClusterNo, source: ClusterNo, shard: u32) -> &[Message]
+        requires { self.now.spent ≡ false }
+        ensures { result.now ≡ flight_at reader source shard self.now.world }
+    {
+        flight_of(&self.replication, reader, source, shard)
+    }
+
+    /// How far a reader has read the queue of a source for a shard, and how far all of it is done. Takes no memory.
+    pub fn levels(&self, reader: ClusterNo, source: ClusterNo, shard: u32) -> Levels
+        requires { self.now.spent ≡ false }
+        ensures { result ≡ (lane_at reader source shard self.now.world).levels }
+    {
+        levels_of(&self.replication, reader, source, shard)
+    }
+
+    /// The domains of which a reader came to be a member late, so that it lacks what a source had before, until it takes it
+    /// over by a bootstrap or a settlement. Takes no memory.
+    pub fn late(&self, reader: ClusterNo, source: ClusterNo) -> &[Name]
+        requires { self.now.spent ≡ false }
+        ensures { result.now ≡ (link_at reader source self.now.world).late }
+    {
+        match link_of(&self.replication, reader, source) {
+            Some(link) => link.late(),
+            None => &[],
+        }
+    }
+
+    /// The queue of a source for a shard: all that its cell has written, of which the first entries may be trimmed. Takes no
+    /// memory.
+    pub fn queue(&self, source: ClusterNo, shard: u32) -> &Queue
+        requires unspent { self.now.spent ≡ false }
+        requires source { IsCluster self.now.header source }
+        requires shard { shard < self.now.header.shards }
+        ensures first { result.now.first ≡ trimmed_at source self.now.world shard }
+        ensures rest { IsRestOf result.now (queue_at source shard self.now.world) }
+    {
+        kept_queue(&self.replication, source, shard)
+    }
+
+    /// The letters that a cluster has set aside, in the order in which they came. Takes no memory.
+    pub fn letters(&self, cluster: ClusterNo) -> &[Letter]
+        requires unspent { self.now.spent ≡ false }
+        requires cluster { IsCluster self.now.header cluster }
+        ensures { result.now ≡ (cluster_at cluster self.now.world).letters }
+    {
+        publisher_of(&self.replication, cluster).letters().list()
     }
 
     /// Runs a line of the text, on so many workers at most, behind the gate. The lines in a burst run side by side. No more

@@ -62,7 +62,7 @@ returns-in-Err-Write-clause-fault g c =
     let after = g.K.Sink.written c.run_script.new.out in (
       (c.in-Err-Write.ensures.cause (ap (λ e. Err e) c.in-Err-Write.field-0-is)),
       stops_within _ c.args.index.now c.args.late.now (g.S.Source.left c.args.source.now) script c.in-Ok-read_script.ensures.script before after
-          (reports_front _ script c.args.index.now c.args.late.now _ _ c.requires.new seated before after c.in-Err-Write.ensures.front),
+          (reports_front _ script c.args.index.now c.args.late.now _ _ c.requires.new seated before after c.in-Err-Write.ensures.front) (keeps_promises script c.in-Ok-read_script.ensures.well_formed),
     )
 
 pub returns-clause-fault : goal.returns-clause-fault
@@ -72,4 +72,5 @@ returns-clause-fault g c =
     let before = g.K.Sink.written c.args.out.now in
     let after = g.K.Sink.written c.run_script.new.out in
     inr (stops_within _ c.args.index.now c.args.late.now (g.S.Source.left c.args.source.now) script c.in-Ok-read_script.ensures.script before after
-    (reports_front _ script c.args.index.now c.args.late.now _ _ c.requires.new seated before after c.in-Err-Memory-run_script.ensures.front))
+    (reports_front _ script c.args.index.now c.args.late.now _ _ c.requires.new seated before after c.in-Err-Memory-run_script.ensures.front)
+    (keeps_promises script c.in-Ok-read_script.ensures.well_formed))

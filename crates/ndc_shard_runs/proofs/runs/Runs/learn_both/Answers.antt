@@ -1,9 +1,10 @@
-use Rattle.std.proofs.Common.{IsOk, ◌<◌, ◌^◌, arith, ◌≡◌, List, [], None, ◌∙◌, ap, sym, subst, max, not, ◌&&◌}
+use Rattle.std.proofs.Common.{true, IsOk, ◌<◌, ◌^◌, arith, ◌≡◌, List, [], None, ◌∙◌, ap, sym, subst, max, not, ◌&&◌}
 use Rattle.ndc_event.specs.declared.batch.Batch.{Batch}
 use Rattle.ndc_run.specs.Learning.{learned}
 use Rattle.ndc_shard_runs.proofs.TakenLemmas.{taken-small, taken-second}
 use Rattle.ndc_model_sets.specs.Sets.{arrived, batch_at}
-use Rattle.ndc_model_sets.specs.Sound.{IsSound}
+use Rattle.ndc_model_sets.specs.Sound.{CopiesNamed, IsSound}
+use Rattle.ndc_shard_runs.specs.Copies.{are_named_copies}
 use Rattle.ndc_model_sets.specs.Reading.{current_key}
 use Rattle.std.specs.Option.{option_map}
 use Rattle.ndc_event.specs.Key.{key_lt}
@@ -13,6 +14,7 @@ use Rattle.ndc_shard_runs.specs.Kept.{follows, is_open, lies_beside}
 use Rattle.ndc_shard_runs.specs.RunMap.{all_of, batches_of, part_of, run_at}
 use Rattle.ndc_shard_runs.proofs.InsideLemmas.{second-none, second-apart, other-run, second-run, all-both, inside-both, known-both}
 use Rattle.ndc_shard_runs.proofs.JudgeLemmas.{both-fine}
+use Rattle.ndc_shard_runs.proofs.NamedLemmas.{named-both}
 use Rattle.ndc_shard_runs.proofs.ReadLemmas.{new-faultless}
 use Rattle.ndc_shard_runs.proofs.PartLemmas.{part-key}
 use Rattle.ndc_shard_runs.proofs.runs.Runs.learn_both.Goals as goal
@@ -85,6 +87,9 @@ invariant_of-self-2 g c =
     (known-both c.self.inside c.self.invariant b second none fresh begins c.lies_beside-beside.result c.follows-follows.result c.is_left-both_follow.result c.pass.new.self c.pass-2.new.self sound both c.requires.first
     (c.lies_beside-beside.ensures ∙ ap (λ (l : List Batch). lies_beside l b) (sym c.self.view_is)) told tells c.pass.ensures c.pass-2.ensures)
     c.in-Ok.ensures.ok (c.greater-greatest.ensures.greater ∙ ap (λ n. max n b.key.task) c.greater-before.ensures.greater)
+    (λ t. let n = subst (λ (l : List Batch). CopiesNamed l × (are_named_copies l b ≡ true) × (are_named_copies l second ≡ true)) (sym c.self.view_is) (c.both_stay_named-named.ensures t) in
+    named-both (all_of c.self.inside.runs) b second c.self.invariant.sound sound both none fresh (new-faultless b (all_of c.self.inside.runs) c.self.invariant.sound sound none)
+    (new-faultless second (arrived b (all_of c.self.inside.runs)) sound both fresh) n.0 n.1 n.2)
 
 pub returns-clause-ok : goal.returns-clause-ok
 returns-clause-ok g c =
@@ -125,3 +130,14 @@ learn_both-requires-clause-fits_both g c =
     let runs = c.self.inside.runs in
     both-fine (learned second.run [] second) (learned b.run (batches_of (run_at b.run runs)) b) (taken-second (all_of c.self.inside.runs) b second sound both none fresh begins most)
     (learn_both-requires-clause-fits g c)
+
+pub both_stay_named-named-requires-clause-first : goal.both_stay_named-named-requires-clause-first
+both_stay_named-named-requires-clause-first g c =
+    let b = c.args.batch.now in
+    let none = subst (λ (l : List Batch). batch_at b.key l ≡ None) (sym c.self.view_is) c.requires.fresh in
+    let sound = subst (λ (l : List Batch). IsSound (arrived b l)) (sym c.self.view_is) c.requires.sound in
+    new-faultless b (all_of c.self.inside.runs) c.self.invariant.sound sound none
+
+pub both_stay_named-named-requires-clause-second : goal.both_stay_named-named-requires-clause-second
+both_stay_named-named-requires-clause-second g c =
+    new-faultless c.args.second.now (arrived c.args.batch.now c.args.self.now) c.requires.sound c.requires.sound_both c.requires.second_fresh

@@ -1,0 +1,187 @@
+// Messages of which nobody vouches, in one workflow.
+ghost use Rattle.std.specs.Prelude.{◌≡◌, ◌∷◌, [], false, true, Some, Option, None, not, is_some, map, IfOk, OnOk, OnErr};
+ghost use Rattle.std.specs.List.{AllByRecursion};
+ghost use Rattle.std.specs.Option.{option_copied};
+ghost use Rattle.ndc_event.specs.Batch.{fault_of};
+ghost use Rattle.ndc_event.specs.Outcome.{Gives};
+ghost use Rattle.ndc_model_cells.specs.Cells.{both};
+ghost use Rattle.ndc_model_cells.specs.Messages.{batches_of, HasSmallIds, IsMessage, IsNewTo};
+ghost use Rattle.ndc_model_sets.specs.Learned.{has_key};
+ghost use Rattle.ndc_model_sets.specs.Sets.{earlier};
+ghost use Rattle.ndc_shard_runs.specs.declared.misfit.Misfit.TheVariants.{Memory};
+ghost use Rattle.ndc_shard_waiting.specs.Learning.{with_message, with_messages, ArePutOff};
+ghost use Rattle.ndc_shard_waiting.specs.Waiting.{CanWait, freed, still_put_off};
+ghost use Rattle.ndc_shard_workflows.specs.Admitting.{fit_in, is_faultless, is_second_faultless, is_whole, settled, settled_one, settled_with, IsAdmitted, Settling};
+ghost use Rattle.ndc_shard_workflows.specs.Settling.{CanSettle, IsLeft};
+ghost use Rattle.ndc_shard_workflows.specs.Workflow.{beside};
+
+use crate::admission::{Admission, SetAside};
+use crate::arrival::batches_in;
+use crate::learning::is_reached;
+use ndc_event::{Batch, OutOfMemory};
+use ndc_model_cells::Message;
+use ndc_model_sets::Batches;
+use ndc_run::Learned;
+use ndc_shard_runs::{Misfit, Runs};
+use ndc_shard_waiting::Waiting;
+use ndc_state::Steps;
+use std::alloc::{AllocError, Global};
+
+/// What became of messages that are gone over: those that are learned, and those that do not fit.
+#[derive(Drop)]
+struct Settled {
+    learned: Vec<Message>,
+    aside: Vec<SetAside>,
+}
+
+/// Whether a batch has no fault of its own.
+fn is_faultless(batch: &Batch) -> bool
+    ensures { result ≡ is_faultless batch.now }
+{
+    match batch.check() {
+        Ok(()) => true,
+        Err(_) => false,
+    }
+}
+
+/// The same of the batch that is carried, where there is one.
+fn is_second_faultless(second: Option<&Batch>) -> bool
+    ensures { result ≡ is_second_faultless (option_copied second.entry) }
+{
+    match second {
+        None => true,
+        Some(second) => is_faultless(second),
+    }
+}
+
+/// Whether no other carries the batch of a message, and neither that batch nor the one that it carries has a fault.
+fn is_whole(sent: &Message) -> bool
+    ensures { result ≡ is_whole sent.now }
+{
+    sent.batch.carrier.is_none()
+        && is_faultless(&sent.batch)
+        && is_second_faultless(sent.second.as_ref())
+}
+
+/// Learns a message, if it is whole and fits; or nothing changes.
+fn fit<L>(
+    runs: &mut Runs,
+    alloc: Global,
+    sent: &Message,
+    steps: &mut Steps<L>,
+) -> Result<Learned, Misfit>
+    requires message { IsMessage sent.now }
+    requires fresh { IsNewTo runs.old sent.now }
+    requires reached { has_key (earlier sent.now.batch) runs.old ≡ true }
+    requires ids { AllByRecursion HasSmallIds (both sent.now) }
+    ensures answer { Gives Memory (λ done. done) result (fit_in runs.old sent.now) }
+    ensures ok { OnOk result (runs.new ≡ with_message sent.now runs.old) }
+    ensures err { OnErr result (runs.new ≡ runs.old) }
+{
+    if !is_whole(sent) {
+        return Err(Misfit::IllFormed);
+    }
+    runs.admit(alloc, &sent.batch, sent.second.as_ref(), steps)
+}
+
+/// One of the messages that are gone over: it counts as learned, is tried, or waits on. For want of memory nothing is said
+/// of any.
+fn settle_one<L>(
+    runs: &mut Runs,
+    waiting: &mut Waiting,
+    done: &mut Settled,
+    alloc: Global,
+    sent: Message,
+    steps: &mut Steps<L>,
+) -> Result<(), OutOfMemory>
+    requires left { IsLeft runs.old sent }
+    requires new { IsNewTo (batches_of waiting.old) sent }
+    requires ids { AllByRecursion HasSmallIds (both sent) }
+    ensures { OnOk result (record { known = runs.new; waiting = waiting.new; learned = done.new.learned.items; aside = done.new.aside.items }
+        ≡ settled_one sent (record { known = runs.old; waiting = waiting.old; learned = done.old.learned.items; aside = done.old.aside.items })) }
+{
+    if runs.has(sent.batch.key) {
+        done.learned.push(sent)?;
+        return Ok(());
+    }
+    if !is_reached(runs, &sent.batch) {
+        waiting.put(sent)?;
+        return Ok(());
+    }
+    match fit(runs, alloc, &sent, steps) {
+        Ok(_) => done.learned.push(sent)?,
+        Err(Misfit::Memory) => return Err(AllocError),
+        Err(misfit) => done.aside.push(SetAside {
+            message: sent,
+            misfit,
+        })?,
+    }
+    Ok(())
+}
+
+/// What waited for a message that is learned is gone over, in key order.
+fn settle<L>(
+    runs: &mut Runs,
+    waiting: &mut Waiting,
+    alloc: Global,
+    message: Message,
+    steps: &mut Steps<L>,
+) -> Result<Settled, OutOfMemory>
+    requires new { IsNewTo (batches_of waiting.old) message }
+    requires can { CanSettle runs.old (still_put_off message waiting.old) (freed message waiting.old) }
+    ensures settled { IfOk result (λ done. record { known = runs.new; waiting = waiting.new; learned = done.learned.items; aside = done.aside.items }
+        ≡ settled (freed message waiting.old) (record { known = runs.old; waiting = still_put_off message waiting.old; learned = []; aside = [] })) }
+    ensures can { OnOk result (CanSettle runs.new waiting.new []) }
+{
+    let freed = waiting.free(alloc, message)?;
+    let mut done = Settled {
+        learned: Vec::new(alloc),
+        aside: Vec::new(alloc),
+    };
+    for sent in freed {
+        settle_one(runs, waiting, &mut done, alloc, sent, steps)?;
+    }
+    Ok(done)
+}
+
+/// What comes of a message of which nobody vouches. For want of memory nothing is said of what has arrived.
+pub(crate) fn admit<L>(
+    runs: &mut Runs,
+    waiting: &mut Waiting,
+    alloc: Global,
+    message: Message,
+    steps: &mut Steps<L>,
+) -> Result<Admission, OutOfMemory>
+    requires apart { ArePutOff runs.old waiting.old }
+    requires small { AllByRecursion HasSmallIds (batches_of waiting.old) }
+    requires message { IsMessage message }
+    requires new { IsNewTo (with_messages waiting.old runs.old) message }
+    requires ids { AllByRecursion HasSmallIds (both message) }
+    ensures admitted { IfOk result (λ admission. IsAdmitted message admission (beside runs.old waiting.old) (beside runs.new waiting.new)) }
+    ensures apart { OnOk result (ArePutOff runs.new waiting.new) }
+    ensures small { OnOk result (AllByRecursion HasSmallIds (batches_of waiting.new)) }
+{
+    if !is_whole(&message) {
+        return Ok(Admission::Refused {
+            misfit: Misfit::IllFormed,
+        });
+    }
+    if !is_reached(runs, &message.batch) {
+        let key = message.batch.key;
+        waiting.put(message)?;
+        let missing = waiting.missing(key);
+        return Ok(Admission::PutOff { missing });
+    }
+    match fit(runs, alloc, &message, steps) {
+        Ok(_) => {
+            let done = settle(runs, waiting, alloc, message, steps)?;
+            let batches = Batches::new(batches_in(alloc, done.learned)?);
+            Ok(Admission::Learned {
+                batches,
+                aside: done.aside,
+            })
+        }
+        Err(Misfit::Memory) => Err(AllocError),
+        Err(misfit) => Ok(Admission::Refused { misfit }),
+    }
+}
