@@ -6,9 +6,9 @@ use Rattle.ndc_port.specs.Bytes.{Appends, AppendsFront, Sent}
 use Rattle.ndc_port.proofs.Steps.{Sent_start, Sent_stop}
 use Rattle.ndc_script_words.specs.Text.{KeptLine}
 use Rattle.ndc_world.specs.Rest.{at_world}
-use Rattle.ndc_world.specs.Running.{ran_at}
+use Rattle.ndc_world.specs.Running.{behind_line, ran_at}
 use Rattle.ndc_world.proofs.Ends.{on_err}
-use Rattle.ndc_world.proofs.LeftLemmas.{may_opening, may_run_more, moved_at, opened_at}
+use Rattle.ndc_world.proofs.LeftLemmas.{may_opening, may_run_more, may_run_room, moved_at, opened_at}
 use Rattle.ndc_probe.specs.Answers.{answer_to}
 use Rattle.ndc_probe.specs.Comments.{commented}
 use Rattle.ndc_probe.specs.Probed.{above, answers_to, line_text, parts_of, probed, text_of}
@@ -40,6 +40,15 @@ loop-line-init g c =
       may = may_opening script running items opened c.as_slice-line-items.ensures c.requires.script;
       faults = omega arith;
     }
+
+-- the world has room for the line
+pub line_text-requires-clause-lines : goal.line_text-requires-clause-lines
+line_text-requires-clause-lines g c κs inside =
+    let line = c.line-item.result in
+    let items = c.as_slice-line-items.result.now in
+    let running = at_world c.loop-line.world c.loop-line.invariant.way.whole in
+    let within : c.loop-line.line-index < length items = omega arith in
+    may_run_room running (behind_line running line) items c.loop-line.line-index line within c.line-item.is refl c.loop-line.invariant.may
 
 -- of a line nothing was written
 pub returns-in_err-text-clause-front : goal.returns-in_err-text-clause-front
