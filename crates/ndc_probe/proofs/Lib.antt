@@ -1,2 +1,4 @@
+pub mod AmongLemmas
 pub mod CommentLemmas
-pub mod Ranges
+pub mod HoldLemmas
+pub mod ProbeLemmas

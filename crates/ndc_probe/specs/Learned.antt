@@ -23,7 +23,7 @@ abbrev pub workflows_text : List Name → List ℕ
 workflows_text workflows = decimal (length workflows) ++ codes " workflows\n" ++ flat_map workflow_line workflows
 
 -- `WORKFLOW run RUN has COUNT branches`, where these are several
-abbrev pub fork_line : Name → RunView → List ℕ
+unfoldable pub fork_line : Name → RunView → List ℕ
 fork_line workflow run =
     if length run.branches == 1 then []
     else workflow ++ codes " run " ++ run_text run.run ++ codes " has " ++ decimal (length run.branches) ++ codes " branches\n"

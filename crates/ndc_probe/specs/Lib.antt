@@ -1,8 +1,12 @@
 pub mod Comments
 pub mod Pieces
-pub mod Top
 pub mod Sent
 pub mod Late
 pub mod Holding
 pub mod Learned
 pub mod Unasked
+pub mod Workflows
+pub mod Answers
+pub mod Notices
+pub mod Probed
+pub mod Top

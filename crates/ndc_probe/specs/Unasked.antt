@@ -34,12 +34,12 @@ names_text header = flat_map (name_word header) (range_with_len 0 (count_of head
 
 -- from which to which a shard is
 unfoldable pub shards_text : ℕ → List ℕ
-shards_text last = codes " and shards 0 to " ++ (decimal last ++ codes "\n")
+shards_text last = codes ", shards 0 to " ++ (decimal last ++ codes "\n")
 
 -- of what words the clusters and shards are to be
 unfoldable pub range_text : Header → List ℕ
-range_text header = codes ", of clusters" ++ (names_text header ++ shards_text (header.shards - 1))
+range_text header = codes "; clusters" ++ (names_text header ++ shards_text (header.shards - 1))
 
 -- what was expected in the place of words
 unfoldable pub unasked_text : Header → List (List ℕ) → List ℕ
-unasked_text header words = codes "no question; expected is " ++ (usage_of (verb_among words) ++ range_text header)
+unasked_text header words = codes "no question; expected: " ++ (usage_of (verb_among words) ++ range_text header)

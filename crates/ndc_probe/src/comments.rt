@@ -25,5 +25,4 @@ pub(crate) fn push_comments(text: &mut Vec<u8>, bytes: &[u8]) -> Result<(), OutO
 /// Whatever the text, it is then whole lines that begin with `# `.
 pub fn what_is_told_beside_is_comments_alone()
     ensures { (text : List ℕ) → AreComments (commented text) }
-{
-}
+{}

@@ -71,7 +71,10 @@ impl Fault {
         ensures count { E.faults err.old ≤ E.faults err.new }
     {
         match self {
-            Fault::Words => write_all(err, b"ndc: words: none; the script comes on standard input\n"),
+            Fault::Words => write_all(
+                err,
+                b"ndc: words: none; the script comes on standard input\n",
+            ),
             Fault::Script { line, cause } => tell_script(err, line, cause),
             Fault::Read => write_all(err, b"ndc: read fault\n"),
             Fault::Write => write_all(err, b"ndc: write fault\n"),

@@ -91,7 +91,14 @@ pub(crate) fn push_reason<'x>(
     let end = Piece::Plain("\n");
     match reason {
         Reason::Needless => {
-            push_pieces(text, &[Piece::Plain("nothing is to be done for it: work "), reader, end])
+            push_pieces(
+                text,
+                &[
+                    Piece::Plain("nothing is to be done for it: work "),
+                    reader,
+                    end,
+                ],
+            )
         }
         Reason::PutOff { missing } => push_pieces(
             text,
@@ -104,7 +111,10 @@ pub(crate) fn push_reason<'x>(
             ],
         ),
         Reason::InFlight => push_pieces(text, &[Piece::Plain("in flight: work "), reader, end]),
-        Reason::Letter => push_pieces(text, &[Piece::Plain("a letter: mergeletters "), reader, end]),
+        Reason::Letter => push_pieces(
+            text,
+            &[Piece::Plain("a letter: mergeletters "), reader, end],
+        ),
         Reason::Unread => push_pieces(
             text,
             &[Piece::Plain("not read: pull "), reader, space, source, end],

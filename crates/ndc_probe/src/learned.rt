@@ -43,6 +43,7 @@ pub(crate) fn push_workflows(text: &mut Vec<u8>, workflows: &[Name]) -> Result<(
 }
 
 /// Appends the line of a run that has several branches.
+#[tactic(auto, unfolding(crate::specs::Learned::fork_line))]
 pub(crate) fn push_fork(
     alloc: Global,
     text: &mut Vec<u8>,

@@ -6,9 +6,7 @@ pub enum Reason {
     /// Nothing is to be done for it: the reader has learned it, or it is not addressed to the reader.
     Needless,
     /// It has arrived and is put off, since this batch has not come.
-    PutOff {
-        missing: BatchKey,
-    },
+    PutOff { missing: BatchKey },
     /// It is in flight.
     InFlight,
     /// It came damaged, and was set aside.

@@ -19,11 +19,7 @@ fn carried_key(sent: &Message) -> Option<BatchKey>
 }
 
 /// Appends the line of an entry.
-pub(crate) fn push_entry(
-    text: &mut Vec<u8>,
-    place: u64,
-    sent: &Message,
-) -> Result<(), OutOfMemory>
+pub(crate) fn push_entry(text: &mut Vec<u8>, place: u64, sent: &Message) -> Result<(), OutOfMemory>
     ensures { OnOk result (text.new.items ≡ text.old.items ++ entry_line place sent.now) }
 {
     push_pieces(

@@ -63,7 +63,7 @@ fn push_names(text: &mut Vec<u8>, header: &Header) -> Result<(), OutOfMemory>
 fn push_shards(text: &mut Vec<u8>, last: u32) -> Result<(), OutOfMemory>
     ensures { OnOk result (text.new.items ≡ text.old.items ++ shards_text last) }
 {
-    text.extend_from_slice(b" and shards 0 to ")?;
+    text.extend_from_slice(b", shards 0 to ")?;
     push_number(text, u64::from(last))?;
     text.extend_from_slice(b"\n")
 }
@@ -74,7 +74,7 @@ fn push_range(text: &mut Vec<u8>, header: &Header) -> Result<(), OutOfMemory>
     requires { 1 ≤ header.now.shards }
     ensures { OnOk result (text.new.items ≡ text.old.items ++ range_text header.now) }
 {
-    text.extend_from_slice(b", of clusters")?;
+    text.extend_from_slice(b"; clusters")?;
     push_names(text, header)?;
     push_shards(text, header.shards - 1)
 }
@@ -90,7 +90,7 @@ pub(crate) fn push_unasked(
     ensures { OnOk result (text.new.items ≡ text.old.items ++ unasked_text header.now (map (λ word. word.now) words.now)) }
 {
     let usage = usage_of(verb_among(words));
-    text.extend_from_slice(b"no question; expected is ")?;
+    text.extend_from_slice(b"no question; expected: ")?;
     text.extend_from_slice(usage.as_bytes())?;
     push_range(text, header)
 }

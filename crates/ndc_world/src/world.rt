@@ -19,9 +19,7 @@ use ndc_queue::{Levels, Queue};
 use ndc_script_types::{Header, Line};
 use ndc_world_queries::totals;
 use ndc_world_replication::Replication;
-use ndc_world_replication::publishers::{
-    cluster_of, flight_of, levels_of, link_of, publisher_of,
-};
+use ndc_world_replication::publishers::{cluster_of, flight_of, levels_of, link_of, publisher_of};
 use ndc_world_steps::moving::{Telling, settlement};
 use std::alloc::Global;
 use std::marker::Model;

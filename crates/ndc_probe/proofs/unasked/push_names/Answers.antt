@@ -1,7 +1,7 @@
 use Rattle.std.proofs.Common.{ℕ, List, ◌++◌, append_assoc, ap, ◌∙◌}
 use Rattle.std.specs.List.{flat_map, range_with_len}
 use Rattle.ndc_probe.specs.Unasked.{name_word}
-use Rattle.ndc_probe.proofs.Ranges.{shards_more}
+use Rattle.ndc_world_queries.proofs.GapLemmas.{shards_more}
 use Rattle.ndc_probe.proofs.unasked.push_names.Goals as goal
 
 pub loop-number-preserved : goal.loop-number-preserved

@@ -11,6 +11,6 @@ returns c =
     rw (
       c.in_ok-push_names.ensures,
       c.in_ok-extend_from_slice.ensures.items,
-      append_assoc (before ++ codes ", of clusters") names shards,
-      append_assoc before (codes ", of clusters") (names ++ shards),
+      append_assoc (before ++ codes "; clusters") names shards,
+      append_assoc before (codes "; clusters") (names ++ shards),
     ) at c.push_shards.ensures

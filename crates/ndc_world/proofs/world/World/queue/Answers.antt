@@ -1,6 +1,5 @@
 use Rattle.std.proofs.Common.{◌<◌, length, ap, subst, sym, ◌∙◌}
 use Rattle.ndc_domain.specs.Clusters.{count_of}
-use Rattle.ndc_model.specs.World.{cluster_at}
 use Rattle.ndc_world.specs.Standing.{WorldValue}
 use Rattle.ndc_world.proofs.StandingLemmas.{clusters_reached}
 use Rattle.ndc_world_replication.proofs.ShapeLemmas.{cells_there, there}
