@@ -1,8 +1,7 @@
 -- What two cells share stays shared.
-use Rattle.std.proofs.Common.{◌≡◌, ◌≤◌, ◌+◌, ◌^◌, ℕ, Bool, true, false, ◌&&◌, is_some, List, [], ◌∷◌, Option, Some, None, Result, Ok, Err, refl, sym, ◌∙◌, subst, ap, arith, true≢false}
+use Rattle.std.proofs.Common.{◌≡◌, ◌≤◌, ◌+◌, ◌^◌, ℕ, Bool, true, false, List, [], ◌∷◌, Option, Some, None, Result, Ok, Err, refl, sym, ◌∙◌, subst, ap, arith, true≢false}
 use Rattle.std.specs.Str.{bytes_eq}
-use Rattle.std.specs.List.{AllByRecursion, filter, list_any}
-use Rattle.std.proofs.lemmas.Bool.{and_parts}
+use Rattle.std.specs.List.{AllByRecursion, IsAmong}
 use Rattle.std.proofs.lemmas.Slice.Eq.{bytes_eq-Decides}
 use Rattle.ndc_cluster.specs.Homes.{HomeValue, desk_of}
 use Rattle.ndc_command.specs.declared.command.Command.{Command}
@@ -11,22 +10,21 @@ use Rattle.ndc_domain.specs.Clusters.{ClusterList}
 use Rattle.ndc_domain.specs.declared.clusters.ClusterNo.{ClusterNo}
 use Rattle.ndc_domain.specs.declared.record.DomainRecord.{DomainRecord}
 use Rattle.ndc_event.specs.declared.batch.Batch.{Batch}
-use Rattle.ndc_event.specs.declared.key.BatchKey.{BatchKey}
 use Rattle.ndc_event.specs.declared.name.Name.{Name}
 use Rattle.ndc_model_cells.specs.declared.message.Message.{Message}
 use Rattle.ndc_model_cells.specs.declared.place.Place.{Place}
 use Rattle.ndc_model_cells.specs.Arrival.{arrived_at}
-use Rattle.ndc_model_cells.specs.Cells.{Cell, IsCell, arrived_of, empty_cell, is_learned_in, learned_message, learned_of, message_at, message_found}
+use Rattle.ndc_model_cells.specs.Cells.{Cell, IsCell, arrived_of, empty_cell, learned_of, message_at, message_found}
 use Rattle.ndc_model_cells.specs.Domains.{learned_of_domains}
 use Rattle.ndc_model_cells.specs.Jobs.{written_at}
 use Rattle.ndc_model_cells.specs.Places.{batch_there, is_of, place_of}
 use Rattle.ndc_model_cells.specs.Writing.{Desk, Entry, command_of}
 use Rattle.ndc_model_sets.specs.Learned.{IsPart, learned}
-use Rattle.ndc_model_sets.specs.Sets.{Has, batch_at}
-use Rattle.ndc_model_sets.proofs.SetLemmas.{at-first, found-has, found-key}
+use Rattle.ndc_model_sets.specs.Sets.{Has}
+use Rattle.ndc_model_sets.proofs.SetLemmas.{at-first}
 use Rattle.ndc_model_sets.proofs.BranchLemmas.{among-has, has-among}
 use Rattle.ndc_model_sets.proofs.LearnedLemmas.{learned-reaches, learned_closed, reaches-has}
-use Rattle.ndc_model_sets.proofs.Lists.{Among, all-from, among-filter, filter-among, filter_map-among}
+use Rattle.ndc_model_sets.proofs.Lists.{all-from, filter-among, filter_map-among}
 use Rattle.ndc_model_cells.proofs.PlaceLemmas.{set_of_workflow}
 use Rattle.ndc_resend.specs.Serving.{answered, served_for}
 use Rattle.ndc_resend.specs.declared.asking.GapOf.{GapOf}
@@ -39,7 +37,9 @@ use Rattle.ndc_laws_cells.proofs.NameLemmas.{names-of, own-names}
 use Rattle.ndc_shard.specs.Orderly.{IsOrderly}
 use Rattle.ndc_shard.proofs.KeepLaws.{arrival-keeps-author, arrival-keeps-others, arrival-keeps-set, arrival-keeps-this-whole, command-elsewhere, command-keeps}
 use Rattle.ndc_shard.proofs.KeepingLemmas.{fine-of}
-use Rattle.ndc_example_cell.specs.Shared.{AreShared, CanTell, HoldsOnly, IsSentBy, IsSmallSet, standing}
+use Rattle.ndc_shard.proofs.LoadLemmas.{loads}
+use Rattle.ndc_example_cell.specs.Shared.{AreShared, CanTell, HoldsOnly, IsSmallSet, standing}
+use Rattle.ndc_shard.specs.Loading.{IsSentBy, handed}
 use Rattle.ndc_example_cell.proofs.SizeLemmas.{command-small}
 
 -- what a small set is: in range
@@ -244,29 +244,6 @@ served-sent cell is asked =
     all-from (IsSentBy cell) (served_for asked cell)
     (λ sent h. let m = filter_map-among (λ b. message_at cell (place_of b)) (answered (learned_of asked.domain asked.workflow cell) asked.gap asked.key) sent h in place-sent cell is (place_of m.0) sent m.2)
 
--- and so is what is given of a domain
-pub given-sent : (cell : Cell) → IsCell cell → (domains : List Name) → AllByRecursion (IsSentBy cell) (learned_of_domains domains cell)
-given-sent cell is domains = all-from (IsSentBy cell) (learned_of_domains domains cell) each
-  where
-    each : (sent : Message) → Among sent (learned_of_domains domains cell) → IsSentBy cell sent
-    each sent h =
-        let m = filter_map-among (learned_message cell) (filter (λ b. is_learned_in cell b && list_any (λ domain. bytes_eq domain b.domain) domains) cell.arrived) sent h in
-        let p = filter-among (λ b. is_learned_in cell b && list_any (λ domain. bytes_eq domain b.domain) domains) cell.arrived m.0 m.1 in
-        let q = and_parts (is_learned_in cell m.0) (list_any (λ domain. bytes_eq domain m.0.domain) domains) p.0 in
-        record { batch = m.0; learned = found m.0 p.1 (batch_at m.0.key (learned_of m.0.domain m.0.workflow cell)) refl q.0; is = m.2 }
-      where
-        found : (b : Batch) → Among b cell.arrived → (o : Option Batch) → batch_at b.key (learned_of b.domain b.workflow cell) ≡ o → is_some o ≡ true → Has (learned_of b.domain b.workflow cell) b
-        found b there None at none = absurd (true≢false (sym none))
-        found b there (Some x) at _ =
-            let held = arrived_of b.domain b.workflow cell in
-            let set = set_of_workflow b.domain b.workflow cell is in
-            let mine : Has held b = among-has held b set.ordered (among-filter (is_of b.domain b.workflow) cell.arrived b (own-names b) there) in
-            let key : x.key ≡ b.key = found-key (learned_of b.domain b.workflow cell) b.key x at in
-            let other : Has held x = reaches-has held x (learned-reaches held x set (found-has (learned_of b.domain b.workflow cell) b.key x at)) in
-            let both_are : Some x ≡ Some b = sym other ∙ ap (λ (k : BatchKey). batch_at k held) key ∙ mine in
-            let one : x ≡ b = cc in
-            subst (λ (y : Batch). batch_at b.key (learned_of b.domain b.workflow cell) ≡ Some y) one at
-
 -- a message that is told
 module _ (most : ℕ) (domain workflow : Name) (teller hearer : Cell) (can : CanTell most domain workflow teller hearer) (teller_is : IsOrderly teller) (hearer_is : IsOrderly hearer)
     (sent : Message) (e : IsSentBy teller sent) where
@@ -382,3 +359,10 @@ pub learn-then : (most : ℕ) (domain workflow : Name) (mine copy new : Cell) �
     → CanTell most domain workflow mine new
 learn-then most domain workflow mine copy new can mine_is copy_is sent e is =
     subst (λ (c : Cell). CanTell most domain workflow mine c) (sym is) (told-then most domain workflow mine copy can mine_is copy_is sent e)
+
+-- a new cell that learns all that one of two has learned of the domain has learned the same of the workflow
+pub remake-then : (clusters : ClusterList) (me them : ClusterNo) (most : ℕ) (domain workflow : Name) (mine theirs begun copy : Cell) (messages : List Message) → AreShared clusters me them most domain workflow mine theirs → IsOrderly mine
+    → copy ≡ handed messages begun → messages ≡ learned_of_domains (domain ∷ []) mine → begun ≡ empty_cell → learned_of domain workflow copy ≡ learned_of domain workflow mine
+remake-then clusters me them most domain workflow mine theirs begun copy messages s is loaded are empty =
+    ap (learned_of domain workflow) (loaded ∙ ap (handed messages) empty)
+    ∙ loads s.all domain workflow mine messages is s.mine_is.kept s.mine_is.whole (record { told = λ sent h. subst (λ l. IsAmong l sent) are h; all = λ sent h. subst (λ l. IsAmong l sent) (sym are) h })

@@ -1,5 +1,5 @@
 -- Two cells of two clusters that hold batches of one workflow.
-use Rattle.std.specs.Prelude.{◌≡◌, ◌≢◌, ◌≤◌, ◌^◌, ℕ, false, length, List, [], Some}
+use Rattle.std.specs.Prelude.{◌≡◌, ◌≢◌, ◌≤◌, ◌^◌, ℕ, false, length, List, []}
 use Rattle.std.specs.List.{flat_map}
 use Rattle.ndc_domain.specs.Clusters.{ClusterList}
 use Rattle.ndc_domain.specs.declared.clusters.ClusterNo.{ClusterNo}
@@ -7,9 +7,7 @@ use Rattle.ndc_domain.specs.declared.record.DomainRecord.{DomainRecord}
 use Rattle.ndc_event.specs.declared.batch.Batch.{Batch}
 use Rattle.ndc_event.specs.declared.name.Name.{Name}
 use Rattle.ndc_model_cells.specs.Keeping.{IsAuthored, IsKept, IsWhole, HaveTasksUpTo}
-use Rattle.ndc_model_cells.specs.declared.message.Message.{Message}
-use Rattle.ndc_model_cells.specs.Cells.{Cell, arrived_of, learned_message, learned_of}
-use Rattle.ndc_model_sets.specs.Sets.{Has}
+use Rattle.ndc_model_cells.specs.Cells.{Cell, arrived_of}
 use Rattle.ndc_model_cells.specs.Places.{is_of}
 use Rattle.ndc_model_cells.specs.Writing.{Desk}
 
@@ -46,9 +44,3 @@ pub record CanTell (most : ℕ) (domain workflow : Name) (teller hearer : Cell) 
   pub whole : IsWhole domain workflow teller
   pub heard : IsKept all domain workflow hearer
   pub only : HoldsOnly domain workflow teller
-
--- a message of what a cell has learned
-pub record IsSentBy (cell : Cell) (sent : Message) : Type 0 where
-  pub batch : Batch
-  pub learned : Has (learned_of batch.domain batch.workflow cell) batch
-  pub is : learned_message cell batch ≡ Some sent

@@ -1,7 +1,10 @@
 //! Two cells of two clusters by hand: what one writes it sends to the other, as it likes.
 ghost use Rattle.std.specs.List.{AllByRecursion};
-ghost use Rattle.std.specs.Prelude.{◌≡◌, ◌+◌, ◌≤◌, OnOk};
-ghost use Rattle.ndc_example_cell.specs.Shared.{AreShared, CanTell, IsSentBy};
+ghost use Rattle.std.specs.Prelude.{◌≡◌, ◌+◌, ◌≤◌, IfOk, OnOk};
+ghost use Rattle.ndc_example_cell.specs.Shared.{AreShared, CanTell};
+ghost use Rattle.ndc_model_cells.specs.Arrival.{arrived_at};
+ghost use Rattle.ndc_model_cells.specs.Cells.{learned_of};
+ghost use Rattle.ndc_shard.specs.Loading.{IsSentBy, handed};
 
 use ndc_command::{Command, Refusal};
 use ndc_domain::{ClusterNo, Clusters, DomainTable};
@@ -194,7 +197,8 @@ fn learn(
 ) -> Result<Arrived, OutOfMemory>
     requires told { CanTell shared.now.most shared.now.domain.now shared.now.workflow.now mine.now copy.old }
     requires sent { IsSentBy mine.now message.now }
-    ensures { OnOk result (CanTell shared.now.most shared.now.domain.now shared.now.workflow.now mine.now copy.new) }
+    ensures cell { OnOk result (copy.new ≡ arrived_at message.now copy.old) }
+    ensures told { OnOk result (CanTell shared.now.most shared.now.domain.now shared.now.workflow.now mine.now copy.new) }
 {
     let mut steps: Steps<Replay> = Steps::new();
     mine.is_in_order();
@@ -212,6 +216,7 @@ fn learn_all(
 ) -> Result<(), OutOfMemory>
     requires told { CanTell shared.now.most shared.now.domain.now shared.now.workflow.now mine.now copy.old }
     requires sent { AllByRecursion (IsSentBy mine.now) messages.now }
+    ensures { OnOk result (copy.new ≡ handed messages.now copy.old) }
 {
     for message in messages {
         learn(mine, copy, shared, message)?;
@@ -219,7 +224,8 @@ fn learn_all(
     Ok(())
 }
 
-/// A new cell is made of all that a cell has learned of the domain, as an engine does that loads its state again.
+/// A new cell is made of all that a cell has learned of the domain, as an engine does that loads its state again. It has
+/// learned the same of the workflow.
 pub(crate) fn remake(
     alloc: Global,
     mine: &Shard,
@@ -227,6 +233,7 @@ pub(crate) fn remake(
     shared: &Shared,
 ) -> Result<Shard, OutOfMemory>
     requires { AreShared shared.now.clusters.now shared.now.me shared.now.them shared.now.most shared.now.domain.now shared.now.workflow.now mine.now theirs.now }
+    ensures { IfOk result (λ copy. learned_of shared.now.domain.now shared.now.workflow.now copy ≡ learned_of shared.now.domain.now shared.now.workflow.now mine.now) }
 {
     let home = home_of(shared.clusters, shared.them);
     let mut copy = Shard::new(alloc, &home)?;

@@ -24,7 +24,8 @@ use Rattle.ndc_model_sets.specs.Sets.{Has, batch_at, earlier}
 use Rattle.ndc_model_sets.proofs.BranchLemmas.{among-has, has-among}
 use Rattle.ndc_model_sets.proofs.ForkLemmas.{among-left, among-right}
 use Rattle.ndc_model_sets.proofs.Lists.{Among, all-among, filter-among}
-use Rattle.ndc_shard.specs.Sent.{HasCarrier}
+use Rattle.ndc_shard.specs.Sent.{HasCarrier, is_lone}
+use Rattle.ndc_shard.proofs.SentLemmas.{lone-some}
 use Rattle.ndc_shard_waiting.specs.Waiting.{CanWait}
 use Rattle.ndc_shard_waiting.specs.Learning.{with_messages}
 use Rattle.ndc_shard_waiting.proofs.LearnLemmas.{found-all-of}
@@ -66,7 +67,8 @@ carriers-of : (domain workflow : Name) (cell : Cell) → AllByRecursion (HasCarr
 carriers-of domain workflow cell carried b key has e =
     let p = filter-among (is_of domain workflow) cell.arrived b (has-among (arrived_of domain workflow cell) b has) in
     let n = names-of domain workflow b p.0 in
-    let here = subst (λ o. IfSome o (λ k. has_key (Some k) (arrived_of b.domain b.workflow cell) ≡ true)) e (all-among (HasCarrier cell) cell.arrived b carried p.1) in
+    let lone = subst (λ o. IfSome o (λ k. is_lone (batch_at k (arrived_of b.domain b.workflow cell)) ≡ true)) e (all-among (HasCarrier cell) cell.arrived b carried p.1) in
+    let here = lone-some (batch_at key (arrived_of b.domain b.workflow cell)) lone in
     subst (λ d. has_key (Some key) (arrived_of d workflow cell) ≡ true) n.0 (subst (λ u. has_key (Some key) (arrived_of b.domain u cell) ≡ true) n.1 here)
 
 pub can-arrive : (sent : Message) (cell : Cell) → IsCell cell → AllByRecursion (HasCarrier cell) cell.arrived → CanArrive sent cell → MayArrive sent cell

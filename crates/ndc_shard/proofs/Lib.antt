@@ -12,6 +12,7 @@ pub mod SentLemmas
 pub mod LoneLemmas
 pub mod KeepingLemmas
 pub mod KeepLaws
+pub mod LoadLemmas
 pub mod TwoLemmas
 pub mod SoFarLemmas
 mod BranchLemmas

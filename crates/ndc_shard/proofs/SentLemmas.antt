@@ -1,6 +1,6 @@
 -- What a shard has written stays as it is where batches arrive, and where it writes one more.
 use Rattle.std.proofs.Common.{◌≡◌, ◌<◌, ℕ, zero, suc, Bool, true, false, List, [], ◌∷◌, ◌++◌, Option, Some, None, length, slice_get, refl, sym, ◌∙◌, ap, subst, if◌then◌else◌, get_or, arith}
-use Rattle.std.specs.Prelude.{IfSome, is_some, option_to_list, ◌&&◌}
+use Rattle.std.specs.Prelude.{IfSome, is_some, not, option_to_list, ◌&&◌}
 use Rattle.std.specs.List.{AllByRecursion, cons_option, filter}
 use Rattle.ndc_event.specs.Key.{key_eq}
 use Rattle.ndc_event.specs.declared.batch.Batch.{Batch}
@@ -27,7 +27,7 @@ use Rattle.ndc_model_sets.specs.Learned.ReachesTop.{top, up}
 use Rattle.ndc_model_sets.specs.Paths.{is_wanted, path_to, versions_of}
 use Rattle.ndc_model_sets.specs.Sets.{Has, IsSet, PointsBack, arrived, batch_at, earlier}
 use Rattle.ndc_shard.proofs.StayLemmas.{key-stays, new-own}
-use Rattle.ndc_shard.specs.Sent.{AreSent, HasCarrier, IsSent, messages_at}
+use Rattle.ndc_shard.specs.Sent.{AreSent, HasCarrier, IsSent, is_lone, messages_at}
 use Rattle.ndc_shard.specs.Shards.{having_written}
 use Rattle.ndc_shard_waiting.proofs.KeptLemmas.{both-back}
 use Rattle.ndc_shard_waiting.proofs.LearnLemmas.{with-set}
@@ -45,13 +45,18 @@ use Rattle.ndc_state.specs.Replay.{history_of}
 at-place : (cell : Cell) (place : Place) → own_message_of (arrived_of place.domain place.workflow cell) (batch_at place.key (learned_of place.domain place.workflow cell)) ≡ message_at cell place
 at-place cell place = place-is cell place (workflow_of place.domain place.workflow cell) refl
 
+-- a batch that no other one carries is one
+pub lone-some : (o : Option Batch) → is_lone o ≡ true → is_some o ≡ true
+lone-some None alone = alone
+lone-some (Some b) alone = refl
+
 -- what was there is there with a message more
-part-more-of : (first : Batch) (second : Option Batch) (all : List Batch) → IsSet all → PointsBack first → IsPart all (arrived_second second (arrived first all))
+pub part-more-of : (first : Batch) (second : Option Batch) (all : List Batch) → IsSet all → PointsBack first → IsPart all (arrived_second second (arrived first all))
 part-more-of first None all set back = stays first all set.ordered
 part-more-of first (Some s) all set back = λ b has. stays s (arrived first all) (arrival_keeps_sets first all set back).ordered b (stays first all set.ordered b has)
 
 -- the batch of a message is there behind it
-first-there : (first : Batch) (second : Option Batch) (all : List Batch) → IsSet all → PointsBack first → batch_at first.key all ≡ None → Has (arrived_second second (arrived first all)) first
+pub first-there : (first : Batch) (second : Option Batch) (all : List Batch) → IsSet all → PointsBack first → batch_at first.key all ≡ None → Has (arrived_second second (arrived first all)) first
 first-there first None all set back fresh = is_there first all set.ordered fresh
 first-there first (Some s) all set back fresh = stays s (arrived first all) (arrival_keeps_sets first all set back).ordered first (is_there first all set.ordered fresh)
 
@@ -102,41 +107,41 @@ module _ (old new : Cell) (sent : Message) (list : new.arrived ≡ placed_second
   sent-stay (place ∷ places) all = (ap is_some (place-stays place all.0) ∙ all.0, sent-stay places all.1)
 
   -- what has arrived of a workflow has arrived still
-  key-there : (domain workflow : Name) (key : BatchKey) → has_key (Some key) (arrived_of domain workflow old) ≡ true → has_key (Some key) (arrived_of domain workflow new) ≡ true
-  key-there domain workflow key has = by (is_of domain workflow sent.batch) refl
+  lone-there : (domain workflow : Name) (key : BatchKey) → is_lone (batch_at key (arrived_of domain workflow old)) ≡ true → is_lone (batch_at key (arrived_of domain workflow new)) ≡ true
+  lone-there domain workflow key has = by (is_of domain workflow sent.batch) refl
     where
-      more : (o : Option Batch) → batch_at key (arrived_of domain workflow old) ≡ o → is_some o ≡ true → has_key (Some key) (with_message sent (arrived_of domain workflow old)) ≡ true
+      more : (o : Option Batch) → batch_at key (arrived_of domain workflow old) ≡ o → is_lone o ≡ true → is_lone (batch_at key (with_message sent (arrived_of domain workflow old))) ≡ true
       more None at some = absurd (cc)
       more (Some b) at some =
           let named : b.key ≡ key = found-key (arrived_of domain workflow old) key b at in
           let has_b : Has (arrived_of domain workflow old) b = ap (λ (k : BatchKey). batch_at k (arrived_of domain workflow old)) named ∙ at in
-          ap (λ (k : BatchKey). is_some (batch_at k (with_message sent (arrived_of domain workflow old)))) (sym named) ∙ ap is_some (part-more-of sent.batch sent.second (arrived_of domain workflow old) (set_of_workflow domain workflow old is) message.back b has_b)
+          ap (λ (k : BatchKey). is_lone (batch_at k (with_message sent (arrived_of domain workflow old)))) (sym named) ∙ ap is_lone (part-more-of sent.batch sent.second (arrived_of domain workflow old) (set_of_workflow domain workflow old is) message.back b has_b) ∙ some
 
-      by : (t : Bool) → is_of domain workflow sent.batch ≡ t → has_key (Some key) (arrived_of domain workflow new) ≡ true
-      by true of = ap (has_key (Some key)) (here domain workflow of) ∙ more (batch_at key (arrived_of domain workflow old)) refl has
-      by false other = ap (has_key (Some key)) (there domain workflow other) ∙ has
+      by : (t : Bool) → is_of domain workflow sent.batch ≡ t → is_lone (batch_at key (arrived_of domain workflow new)) ≡ true
+      by true of = ap (λ bs. is_lone (batch_at key bs)) (here domain workflow of) ∙ more (batch_at key (arrived_of domain workflow old)) refl has
+      by false other = ap (λ bs. is_lone (batch_at key bs)) (there domain workflow other) ∙ has
 
   -- no batch has arrived without its carrier
   carrier-stays : (b : Batch) → HasCarrier old b → HasCarrier new b
   carrier-stays b has = by b.carrier has
     where
-      by : (o : Option BatchKey) → IfSome o (λ key. has_key (Some key) (arrived_of b.domain b.workflow old) ≡ true) → IfSome o (λ key. has_key (Some key) (arrived_of b.domain b.workflow new) ≡ true)
+      by : (o : Option BatchKey) → IfSome o (λ key. is_lone (batch_at key (arrived_of b.domain b.workflow old)) ≡ true) → IfSome o (λ key. is_lone (batch_at key (arrived_of b.domain b.workflow new)) ≡ true)
       by None h = tt
-      by (Some key) h = key-there b.domain b.workflow key h
+      by (Some key) h = lone-there b.domain b.workflow key h
 
   first-carrier : HasCarrier new sent.batch
-  first-carrier = subst (λ (o : Option BatchKey). IfSome o (λ key. has_key (Some key) (arrived_of sent.batch.domain sent.batch.workflow new) ≡ true)) (sym lone) tt
+  first-carrier = subst (λ (o : Option BatchKey). IfSome o (λ key. is_lone (batch_at key (arrived_of sent.batch.domain sent.batch.workflow new)) ≡ true)) (sym lone) tt
 
   second-carrier : (s : Batch) → IsCarriedBy sent.batch s → is_of sent.batch.domain sent.batch.workflow s ≡ true → HasCarrier new s
   second-carrier s carried of =
       let names = names-of sent.batch.domain sent.batch.workflow s of in
       let all = arrived_of sent.batch.domain sent.batch.workflow old in
       let first : Has (with_message sent all) sent.batch = first-there sent.batch sent.second all (set_of_workflow sent.batch.domain sent.batch.workflow old is) message.back fresh.0 in
-      let has : has_key (Some sent.batch.key) (arrived_of sent.batch.domain sent.batch.workflow new) ≡ true =
-      ap (has_key (Some sent.batch.key)) (here sent.batch.domain sent.batch.workflow (own-names sent.batch)) ∙ ap is_some first in
-      subst (λ (o : Option BatchKey). IfSome o (λ key. has_key (Some key) (arrived_of s.domain s.workflow new) ≡ true)) (sym carried.carrier)
-      (subst (λ (n : Name). has_key (Some sent.batch.key) (arrived_of n s.workflow new) ≡ true) (sym names.0)
-      (subst (λ (n : Name). has_key (Some sent.batch.key) (arrived_of sent.batch.domain n new) ≡ true) (sym names.1) has))
+      let has : is_lone (batch_at sent.batch.key (arrived_of sent.batch.domain sent.batch.workflow new)) ≡ true =
+      ap (λ bs. is_lone (batch_at sent.batch.key bs)) (here sent.batch.domain sent.batch.workflow (own-names sent.batch)) ∙ ap is_lone first ∙ ap (λ (o : Option BatchKey). not (is_some o)) lone in
+      subst (λ (o : Option BatchKey). IfSome o (λ key. is_lone (batch_at key (arrived_of s.domain s.workflow new)) ≡ true)) (sym carried.carrier)
+      (subst (λ (n : Name). is_lone (batch_at sent.batch.key (arrived_of n s.workflow new)) ≡ true) (sym names.0)
+      (subst (λ (n : Name). is_lone (batch_at sent.batch.key (arrived_of sent.batch.domain n new)) ≡ true) (sym names.1) has))
 
   pub carriers-stay : AllByRecursion (HasCarrier old) old.arrived → AllByRecursion (HasCarrier new) new.arrived
   carriers-stay all = subst (AllByRecursion (HasCarrier new)) (sym list) (both sent.second message.second own)
@@ -156,7 +161,7 @@ module _ (old new : Cell) (sent : Message) (list : new.arrived ≡ placed_second
   none-carried-in [] all = tt
   none-carried-in (o ∷ bs) all = by (is_of sent.batch.domain sent.batch.workflow o) refl (none-carried-in bs all.1)
     where
-      not-by : is_of sent.batch.domain sent.batch.workflow o ≡ true → (c : Option BatchKey) → o.carrier ≡ c → IfSome c (λ key. has_key (Some key) (arrived_of o.domain o.workflow old) ≡ true) → carries sent.batch o ≡ false
+      not-by : is_of sent.batch.domain sent.batch.workflow o ≡ true → (c : Option BatchKey) → o.carrier ≡ c → IfSome c (λ key. is_lone (batch_at key (arrived_of o.domain o.workflow old)) ≡ true) → carries sent.batch o ≡ false
       not-by of None e has = ap (λ (x : Option BatchKey). (is_of sent.batch.domain sent.batch.workflow) o && is_wanted x sent.batch) e ∙ and-not ((is_of sent.batch.domain sent.batch.workflow) o)
         where
           and-not : (t : Bool) → (t && false) ≡ false
@@ -168,7 +173,7 @@ module _ (old new : Cell) (sent : Message) (list : new.arrived ≡ placed_second
           wanted true same =
               let names = names-of sent.batch.domain sent.batch.workflow o of in
               let there_is : has_key (Some key) (arrived_of sent.batch.domain sent.batch.workflow old) ≡ true =
-              subst (λ (n : Name). has_key (Some key) (arrived_of sent.batch.domain n old) ≡ true) names.1 (subst (λ (n : Name). has_key (Some key) (arrived_of n o.workflow old) ≡ true) names.0 has) in
+              subst (λ (n : Name). has_key (Some key) (arrived_of sent.batch.domain n old) ≡ true) names.1 (subst (λ (n : Name). has_key (Some key) (arrived_of n o.workflow old) ≡ true) names.0 (lone-some (batch_at key (arrived_of o.domain o.workflow old)) has)) in
               let clash : true ≡ false =
               sym there_is ∙ ap (λ (k : BatchKey). has_key (Some k) (arrived_of sent.batch.domain sent.batch.workflow old)) (sym (same-keys sent.batch.key key same)) ∙ ap is_some fresh.0 in
               absurd (cc)

@@ -3,6 +3,7 @@ pub mod Shards
 pub mod Answers
 pub mod Sent
 pub mod Orderly
+pub mod Loading
 pub mod Ends
 pub mod Gaps
 pub mod Histories

@@ -11,11 +11,12 @@ ghost use Rattle.ndc_model_cells.specs.Keeping.{CanArrive, CanWrite, CanWriteEac
 ghost use Rattle.ndc_model_cells.specs.declared.job.Job.TheVariants.{Arrive, Command as Commanded, Reapply, Reset};
 ghost use Rattle.ndc_model_cells.specs.declared.message.Message.{Message as Sent};
 ghost use Rattle.ndc_model_cells.specs.Arrival.{arrived_at};
-ghost use Rattle.ndc_model_cells.specs.Cells.{Cell as CellValue, empty_cell, message_at};
+ghost use Rattle.ndc_model_cells.specs.Cells.{Cell as CellValue, empty_cell, learned_of, message_at};
 ghost use Rattle.ndc_model_cells.specs.Jobs.{written_at};
 ghost use Rattle.ndc_model_cells.specs.Places.{is_of};
 ghost use Rattle.ndc_model_cells.specs.Writing.{Desk as DeskValue, command_of, reapplication_of, reset_at, with_all_written};
 ghost use Rattle.ndc_model_sets.specs.Sound.{IsSound};
+ghost use Rattle.ndc_shard.specs.Loading.{AreAllOf, handed};
 ghost use Rattle.ndc_shard.specs.Orderly.{IsOrderly};
 
 /// Where the caller vouches for what a call asks, a cell may do the job of the call, so a round may be asked for it.
@@ -71,4 +72,12 @@ pub fn what_another_writes_is_in_the_set()
 pub fn what_is_sent_is_of_the_set()
     ensures { (all : List One) (domain workflow : Text) (key : Key) (cell : CellValue) → IsOrderly cell → IsKept all domain workflow cell → IsWhole domain workflow cell → (sent : Sent)
         → message_at cell (record { domain = domain; workflow = workflow; key = key }) ≡ Some sent → IsMessageOf all sent × (is_of domain workflow sent.batch ≡ true) }
+{}
+
+/// An engine loads its state again: an empty cell to which the messages of all that a cell has learned of a domain are handed,
+/// in any order and each any number of times, has learned of each workflow of the domain what that cell has, and shows the
+/// same of it.
+pub fn a_cell_that_is_loaded_has_learned_the_same()
+    ensures { (all : List One) (domain workflow : Text) (cell : CellValue) (messages : List Sent) → IsOrderly cell → IsKept all domain workflow cell → IsWhole domain workflow cell → AreAllOf domain cell messages
+        → learned_of domain workflow (handed messages empty_cell) ≡ learned_of domain workflow cell }
 {}

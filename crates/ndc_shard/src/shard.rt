@@ -93,7 +93,8 @@ impl Shard {
         &self.workflows
     }
 
-    /// It is in order, and so is each workflow of it; no batch has arrived without its carrier. Takes no time.
+    /// It is in order, and so is each workflow of it; no batch has arrived without its carrier, which none carries. Takes no
+    /// time.
     pub fn is_in_order(&self)
         ensures cell { IsCell self.now }
         ensures workflows { (domain workflow : Text) → IsWorkflow (workflow_of domain workflow self.now) }

@@ -1,7 +1,7 @@
 use Rattle.std.proofs.Common.{◌∙◌, sym, subst, List}
 use Rattle.std.specs.List.{AllByRecursion}
 use Rattle.ndc_model_cells.specs.declared.message.Message.{Message}
-use Rattle.ndc_example_cell.specs.Shared.{IsSentBy}
+use Rattle.ndc_shard.specs.Loading.{IsSentBy}
 use Rattle.ndc_example_cell.proofs.SharedLemmas.{served-sent}
 use Rattle.ndc_example_cell.proofs.engine.repair.Goals as goal
 
