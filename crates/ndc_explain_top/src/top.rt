@@ -149,7 +149,8 @@ pub fn explain_top<S: Source, K: Sink, E: Sink>(
     // What is left in the source of an input.
     ensures source { IfOk (asked_of (map string_bytes words.now)) (λ request. result ≢ 2 → LeavesSource request result (S.left source.old) (S.left source.new)) }
 
-    // Which statuses can come, by the bytes that were left.
+    // Which statuses can come: whatever the source tells of itself, and by the bytes that were left.
+    ensures among { IfOk (asked_of (map string_bytes words.now)) (λ _. IsAmong result (0 ∷ 1 ∷ 4 ∷ 5 ∷ 6 ∷ 7 ∷ 8 ∷ [])) }
     ensures above { IfOk (asked_of (map string_bytes words.now)) (λ request. IfSome (S.left source.old) (λ bytes. limit_of request < length bytes → IsAmong result (4 ∷ 6 ∷ 8 ∷ []))) }
     ensures untold { IfOk (asked_of (map string_bytes words.now)) (λ request. IfSome (S.left source.old) (λ bytes. length bytes ≤ limit_of request → IsErr (report_of request bytes) → IsAmong result (4 ∷ 7 ∷ 8 ∷ []))) }
     ensures tellable { IfOk (asked_of (map string_bytes words.now)) (λ request. IfSome (S.left source.old) (λ bytes. length bytes ≤ limit_of request → IsOk (report_of request bytes) → IsAmong result (0 ∷ 1 ∷ 4 ∷ 5 ∷ 8 ∷ []))) }
