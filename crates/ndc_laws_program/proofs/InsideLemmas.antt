@@ -20,7 +20,8 @@ use Rattle.ndc_domain.specs.Records.{record_of}
 use Rattle.ndc_domain.specs.declared.clusters.ClusterNo.{ClusterNo}
 use Rattle.ndc_event.specs.declared.batch.Batch.{Batch}
 use Rattle.ndc_event.specs.declared.name.Name.{Name}
-use Rattle.ndc_laws.proofs.AnswerLemmas.{known-where, put-off-exactly, put-off-first}
+use Rattle.ndc_laws.proofs.AnswerLemmas.{reached-first, reached-put-off}
+use Rattle.ndc_laws.proofs.CellArrivalLemmas.{known-where}
 use Rattle.ndc_laws.proofs.MergeLettersLemmas.{all-may}
 use Rattle.ndc_laws_cells.proofs.FoundLemmas.{find-passes}
 use Rattle.ndc_laws_program.specs.Arriving.{IsAnswered, MayCome}
@@ -51,8 +52,8 @@ use Rattle.ndc_model_sets.proofs.Lists.{Among, all-among, all-from, filter-among
 pub is-answered : (header : Header) (lines : ℕ) (w : World) → IsReached header lines w → (cluster : ClusterNo) (shard : ℕ) (sent : Message) → MayCome header w cluster shard sent → IsAnswered header w cluster shard sent
 is-answered header lines w is cluster shard sent may = record {
   known = known-where sent (cell_at cluster shard w);
-  put_off = put-off-exactly header lines w cluster shard sent is may.known may.below may.written may.named;
-  missing = λ key. put-off-first header lines w cluster shard sent key is may.known may.below may.written may.named;
+  put_off = reached-put-off header lines w is cluster may.known shard may.below sent (record { is_true = may.written; named = may.named });
+  missing = reached-first header lines w is cluster may.known shard may.below sent (record { is_true = may.written; named = may.named });
 }
 
 -- the items before one of a list, and the one

@@ -4,7 +4,7 @@ use Rattle.std.specs.List.{AllByRecursion}
 use Rattle.ndc_script_types.specs.WellFormed.{IsWellFormed}
 use Rattle.ndc_script_types.specs.declared.script.Header.{Header}
 use Rattle.ndc_script_types.specs.declared.script.Script.{Script}
-use Rattle.ndc_laws.proofs.AnswerLemmas.{known-where}
+use Rattle.ndc_laws.proofs.CellArrivalLemmas.{known-where}
 use Rattle.ndc_laws.proofs.CountedLemmas.{worlds-counted}
 use Rattle.ndc_laws.proofs.HeldLemmas.{same-held}
 use Rattle.ndc_laws.proofs.ReachedLemmas.{worlds_promised, worlds_reached}
