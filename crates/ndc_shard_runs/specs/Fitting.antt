@@ -1,5 +1,5 @@
 -- Which batches are learned next.
-use Rattle.std.specs.Prelude.{◌≡◌, Bool, true, false, not, List, [], Option, Some, None, Result, Ok, Err, IsOk, if◌then◌else◌}
+use Rattle.std.specs.Prelude.{◌≡◌, Bool, true, false, not, List, [], Option, Some, None, Result, Err, IsOk, if◌then◌else◌}
 use Rattle.ndc_event.specs.Batch.{fault_of}
 use Rattle.ndc_event.specs.Outcome.{◌>>=◌}
 use Rattle.ndc_event.specs.declared.batch.Batch.{Batch}
@@ -12,7 +12,7 @@ use Rattle.ndc_model_cells.specs.Messages.{IsCarriedBy}
 use Rattle.ndc_model_sets.specs.Branches.{same_run}
 use Rattle.ndc_model_sets.specs.Learned.{has_key}
 use Rattle.ndc_model_sets.specs.Paths.{last_event}
-use Rattle.ndc_model_sets.specs.Sets.{earlier, batch_at, arrived}
+use Rattle.ndc_model_sets.specs.Sets.{earlier, batch_at}
 use Rattle.ndc_model_sets.specs.Sound.{ContinuesAs}
 use Rattle.ndc_model_sets.specs.Writing.{CopiesFitWith}
 use Rattle.ndc_run.specs.Learning.{learned, of_tree_error, or_error}

@@ -1,5 +1,6 @@
 // Whether the copied signals of a batch fit the events that their origins name.
-ghost use Rattle.std.specs.Prelude.{◌≡◌, [], ◌∷◌, map, None, IfOk, IsTrue, ◌↔◌};
+ghost use Rattle.std.specs.Prelude.{◌≡◌, [], ◌∷◌, map, None, List, IfOk, IsTrue, false, true, ◌↔◌};
+ghost use Rattle.ndc_event.specs.declared.batch.Batch.{Batch as One};
 ghost use Rattle.std.specs.List.{list_all};
 ghost use Rattle.std.specs.Option.{option_copied};
 ghost use Rattle.ndc_event.specs.Batch.{fault_of};
@@ -11,7 +12,7 @@ use ndc_tree::event_in;
 use std::alloc::Global;
 
 impl Runs {
-    ghost use Rattle.std.specs.Prelude.{◌≡◌, map, None, IfOk, IsTrue, ◌↔◌};
+    ghost use Rattle.std.specs.Prelude.{◌≡◌, map, None, IfOk, IsTrue, true, ◌↔◌};
     ghost use Rattle.std.specs.List.{list_all};
     ghost use Rattle.ndc_event.specs.Batch.{fault_of};
     ghost use Rattle.ndc_shard_runs.specs.Copies.{are_fit_copies, are_named_copies, are_open_fit, copies_fit_both_ways, CopiesFitInto, is_fit_copy, is_named_copy, is_open_fit, open_copies_fit, second_copies_fit};
@@ -59,6 +60,18 @@ impl Runs {
             },
             _ => true,
         }
+    }
+
+    /// Whether the batch has no copied signal, so that each names an event that is there. No look-up.
+    pub(crate) fn has_no_copies(&self, batch: &Batch) -> bool
+        ensures { result ≡ true → are_named_copies self.now batch.now ≡ true }
+    {
+        for event in batch.events.as_slice() {
+            if is_copy(&event.kind) {
+                return false;
+            }
+        }
+        true
     }
 
     /// Whether each copied signal of the batch names an event of it or a learned one. A look-up for each copied signal.
@@ -251,6 +264,16 @@ fn is_original(kind: &EventKind, name: &Name, input: &Name) -> bool
             None => other == name && more == input,
             Some(_) => false,
         },
+        _ => false,
+    }
+}
+
+/// Whether an event of this kind is a copied signal.
+fn is_copy(kind: &EventKind) -> bool
+    ensures { result ≡ false → (batches : List One) (b : One) → is_named_copy batches b kind.now ≡ true }
+{
+    match kind {
+        EventKind::WorkflowExecutionSignaled { origin, .. } => origin.as_ref().is_some(),
         _ => false,
     }
 }

@@ -140,7 +140,7 @@ impl Runs {
         let follows = self.follows(batch);
         let beside = self.lies_beside(batch);
         let greatest = greater(self.greatest_task, batch.key.task);
-        let named = self.stays_named(batch);
+        let named = self.will_be_named(batch);
         match self.runs.judge(batch) {
             Ok(_) => {}
             Err(error) => return Err(RunError::from(error)),
@@ -228,7 +228,7 @@ impl Runs {
         let beside = self.lies_beside(batch);
         let before = greater(self.greatest_task, second.key.task);
         let greatest = greater(before, batch.key.task);
-        let named = self.both_stay_named(batch, second);
+        let named = self.both_will_be_named(batch, second);
         match self.runs.judge(batch) {
             Ok(_) => {}
             Err(error) => return Err(RunError::from(error)),
@@ -345,8 +345,22 @@ impl Runs {
         self.named
     }
 
-    /// Whether it is known that this will be so once the batch is learned too.
+    /// Whether it is known without a look-up that this will be so once the batch is learned too.
     fn stays_named(&self, batch: &Batch) -> bool
+        ensures { result ≡ true → CopiesNamed self.now × (are_named_copies self.now batch.now ≡ true) }
+    {
+        self.is_named() && self.has_no_copies(batch)
+    }
+
+    /// The same once the batch is learned and then another one.
+    fn both_stay_named(&self, batch: &Batch, second: &Batch) -> bool
+        ensures { result ≡ true → CopiesNamed self.now × (are_named_copies self.now batch.now ≡ true) × (are_named_copies self.now second.now ≡ true) }
+    {
+        self.stays_named(batch) && self.has_no_copies(second)
+    }
+
+    /// Whether it will be so once the batch is learned too, where it is known that it is so. A look-up for each copied signal.
+    fn will_be_named(&self, batch: &Batch) -> bool
         requires { fault_of batch.now ≡ None }
         ensures { result ≡ true → CopiesNamed self.now × (are_named_copies self.now batch.now ≡ true) }
     {
@@ -354,12 +368,12 @@ impl Runs {
     }
 
     /// The same once the batch is learned and then another one.
-    fn both_stay_named(&self, batch: &Batch, second: &Batch) -> bool
+    fn both_will_be_named(&self, batch: &Batch, second: &Batch) -> bool
         requires first { fault_of batch.now ≡ None }
         requires second { fault_of second.now ≡ None }
         ensures { result ≡ true → CopiesNamed self.now × (are_named_copies self.now batch.now ≡ true) × (are_named_copies self.now second.now ≡ true) }
     {
-        self.stays_named(batch) && self.has_named_copies(second)
+        self.will_be_named(batch) && self.has_named_copies(second)
     }
 
     /// Whether there may be strays: not where they are known, and there is none. What is known stays so with each batch

@@ -1,4 +1,4 @@
-use Rattle.std.proofs.Common.{◌≡◌, false, ◌∙◌, ap, sym}
+use Rattle.std.proofs.Common.{◌∙◌, ap, sym}
 use Rattle.ndc_model_sets.specs.Paths.{last_event}
 use Rattle.ndc_shard_runs.specs.Fitting.{is_continued_by}
 use Rattle.ndc_shard_runs.proofs.AdmitLemmas.{alone-copies, first-taken, lone-carrier, runs-apart, second-begins, second-carrier, second-copies, second-next}

@@ -53,10 +53,3 @@ learn-requires-clause-fits g c =
     let most = subst (λ n. max n b.key.task < 2 ^ 64) c.self.invariant.task c.greater-greatest.ensures.small in
     subst (λ (l : List Batch). IsOk (learned b.run l b)) (sym (c.self.invariant.parts b.run))
     (taken-small (all_of c.self.inside.runs) b c.self.invariant.sound sound none (omega (arith, most)) (omega (arith, most)))
-
-pub stays_named-named-requires : goal.stays_named-named-requires
-stays_named-named-requires g c =
-    let b = c.args.batch.now in
-    let none = subst (λ (l : List Batch). batch_at b.key l ≡ None) (sym c.self.view_is) c.requires.fresh in
-    let sound = subst (λ (l : List Batch). IsSound (arrived b l)) (sym c.self.view_is) c.requires.sound in
-    new-faultless b (all_of c.self.inside.runs) c.self.invariant.sound sound none

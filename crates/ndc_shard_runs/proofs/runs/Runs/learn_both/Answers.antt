@@ -130,14 +130,3 @@ learn_both-requires-clause-fits_both g c =
     let runs = c.self.inside.runs in
     both-fine (learned second.run [] second) (learned b.run (batches_of (run_at b.run runs)) b) (taken-second (all_of c.self.inside.runs) b second sound both none fresh begins most)
     (learn_both-requires-clause-fits g c)
-
-pub both_stay_named-named-requires-clause-first : goal.both_stay_named-named-requires-clause-first
-both_stay_named-named-requires-clause-first g c =
-    let b = c.args.batch.now in
-    let none = subst (λ (l : List Batch). batch_at b.key l ≡ None) (sym c.self.view_is) c.requires.fresh in
-    let sound = subst (λ (l : List Batch). IsSound (arrived b l)) (sym c.self.view_is) c.requires.sound in
-    new-faultless b (all_of c.self.inside.runs) c.self.invariant.sound sound none
-
-pub both_stay_named-named-requires-clause-second : goal.both_stay_named-named-requires-clause-second
-both_stay_named-named-requires-clause-second g c =
-    new-faultless c.args.second.now (arrived c.args.batch.now c.args.self.now) c.requires.sound c.requires.sound_both c.requires.second_fresh

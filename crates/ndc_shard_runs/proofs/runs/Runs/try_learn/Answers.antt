@@ -45,7 +45,7 @@ invariant_of-self g c =
     inside-with c.self.inside c.self.invariant b next.fresh _ c.lies_beside-beside.result c.follows-follows.result sound
     (c.lies_beside-beside.ensures ∙ ap (λ (l : List Batch). lies_beside l b) (sym c.self.view_is)) (c.follows-follows.ensures ∙ ap (λ (l : List Batch). follows l b) (sym c.self.view_is))
     c.pass.ensures c.in-Ok-try_learn.ensures.ok c.greater-greatest.ensures.greater
-    (λ t. let n = subst (λ (l : List Batch). CopiesNamed l × (are_named_copies l b ≡ true)) (sym c.self.view_is) (c.stays_named-named.ensures t) in
+    (λ t. let n = subst (λ (l : List Batch). CopiesNamed l × (are_named_copies l b ≡ true)) (sym c.self.view_is) (c.will_be_named-named.ensures t) in
     named-with all b c.self.invariant.sound sound next.fresh next.faultless n.0 n.1)
 
 pub returns-in-Ok-try_learn-clause-ok : goal.returns-in-Ok-try_learn-clause-ok

@@ -105,7 +105,7 @@ invariant_of-self g c =
     (known-both c.self.inside c.self.invariant b second next.fresh second_next.fresh begins c.lies_beside-beside.result c.follows-follows.result c.is_left-both_follow.result c.pass.new.self c.pass-in-Ok-try_learn_both.new.self sound both c.requires.first
     (c.lies_beside-beside.ensures ∙ ap (λ (l : List Batch). lies_beside l b) (sym c.self.view_is)) told tells c.pass.ensures c.pass-in-Ok-try_learn_both.ensures)
     c.in-Ok-try_learn_both.ensures.ok (c.greater-greatest.ensures.greater ∙ ap (λ n. max n b.key.task) c.greater-before.ensures.greater)
-    (λ t. let n = subst (λ (l : List Batch). CopiesNamed l × (are_named_copies l b ≡ true) × (are_named_copies l second ≡ true)) (sym c.self.view_is) (c.both_stay_named-named.ensures t) in
+    (λ t. let n = subst (λ (l : List Batch). CopiesNamed l × (are_named_copies l b ≡ true) × (are_named_copies l second ≡ true)) (sym c.self.view_is) (c.both_will_be_named-named.ensures t) in
     named-both all b second c.self.invariant.sound sound both next.fresh second_next.fresh next.faultless second_next.faultless n.0 n.1 n.2)
 
 pub returns-in-Ok-try_learn_both-clause-ok : goal.returns-in-Ok-try_learn_both-clause-ok
