@@ -2,7 +2,9 @@ ghost use Rattle.std.specs.Prelude.{◌≡◌, ◌<◌, ◌≤◌, length, map, 
 ghost use Rattle.std.specs.List.{list_all};
 ghost use Rattle.ndc_script_words.specs.Text.{text_lines, line_len, words_of, is_line_byte, is_short, is_comment, is_skipped, kept_line, kept_from, kept_of, line_behind, line_after};
 
+use memchr::memchr;
 use ndc_event::OutOfMemory;
+use smallvec::SmallVec;
 use std::alloc::Global;
 use std::marker::Model;
 
@@ -22,12 +24,15 @@ pub enum Reading {
     PastLimit,
 }
 
+/// How many words of a line need no memory of their own: most lines have no more.
+const WORDS: usize = 6;
+
 /// A line that is not skipped, with its words.
 #[derive(Drop)]
 pub struct KeptLine<'a> {
     number: u64,
     reading: Reading,
-    words: Vec<&'a [u8]>,
+    words: SmallVec<&'a [u8], WORDS>,
 }
 
 impl<'a> Model for KeptLine<'a> {
@@ -68,12 +73,10 @@ impl<'a> KeptLine<'a> {
 fn line_len(bytes: &[u8]) -> usize
     ensures { result ≡ line_len bytes.now }
 {
-    for (at, byte) in bytes.iter().enumerate() {
-        if *byte == b'\n' {
-            return at;
-        }
+    match memchr(b'\n', bytes) {
+        Some(at) => at,
+        None => bytes.len(),
     }
-    bytes.len()
 }
 
 /// The first line of a text and what stands behind it; nothing where the text is empty.
@@ -93,7 +96,7 @@ fn split_line(bytes: &[u8]) -> Option<(&[u8], &[u8])>
 }
 
 /// The words of a line.
-fn words_of<'a>(alloc: Global, line: &'a [u8]) -> Result<Vec<&'a [u8]>, OutOfMemory>
+fn words_of<'a>(alloc: Global, line: &'a [u8]) -> Result<SmallVec<&'a [u8], WORDS>, OutOfMemory>
     ensures { IfOk result (λ words. map (λ word. word.now) words.items ≡ words_of line.now) }
 {
     line.split(|byte| *byte == b' ')
@@ -187,7 +190,7 @@ pub fn kept_from<'a>(
             kept.push(KeptLine {
                 number,
                 reading: Reading::PastLimit,
-                words: Vec::new(alloc),
+                words: SmallVec::new(alloc),
             })?;
             return Ok(kept);
         }

@@ -1,12 +1,13 @@
 use Rattle.std.proofs.Common.{rules, tests, ◌==◌, length, not}
-use Rattle.std.proofs.lemmas.Iterator.Consumers.{map_from_collect, YieldsList-at, YieldsList-from_filter}
+use Rattle.std.proofs.lemmas.Iterator.Consumers.{YieldsList-at, YieldsList-from_filter}
 use Rattle.std.proofs.lemmas.Iterator.Splits.{YieldsList-from_slice_split}
+use Rattle.ndc_script_words.proofs.WordLists.{map_of_collected}
 use Rattle.ndc_script_words.proofs.text.words_of.Goals as goal
 
 -- the parts that are not empty, in order
 pub returns : goal.returns
 returns c =
-    map_from_collect _ c.collect.ensures.ran
+    map_of_collected (λ words. words.items) _ c.collect.ensures.ran
     (YieldsList-from_filter _ (λ word. not (length word == 0))
     (YieldsList-at c.filter.ensures.source
     (YieldsList-from_slice_split _ (λ byte. byte == 32) c.args.line.now c.split.ensures.rest c.split.ensures.done c.split.ensures.closure
