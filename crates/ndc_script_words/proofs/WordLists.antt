@@ -1,11 +1,13 @@
--- Lists that are collected.
-use Rattle.std.proofs.Common.{◌≡◌, List, map, ap, ◌∙◌}
-use Rattle.std.specs.Prelude.{Option, Result, Ok, Err, IfOk, ⊤}
-use Rattle.std.specs.Iterator.{DrainsIf}
-use Rattle.std.proofs.lemmas.Iterator.{YieldsList, items_from_drains}
+-- Lists that grow by what an iterator gives.
+use Rattle.std.proofs.Common.{◌≡◌, List, Option, Result, map}
+use Rattle.std.specs.Prelude.{OnOk, MatchResult}
+use Rattle.std.specs.Iterator.{Drains, Yields}
+use Rattle.std.proofs.lemmas.Iterator.{YieldsList}
+use Rattle.std.proofs.lemmas.Iterator.Adapters.{fact_from_extend}
+use Rattle.std.proofs.lemmas.Iterator.Consumers.{YieldsList-at}
 
--- what was collected of an iterator, whatever it is collected in
-pub map_of_collected : {S A B W E : Type 0} {steps : S → Option A → S → Type 0} {v : A → B} {s : S} {all : List B} (items : W → List A) (r : Result W E)
-    → IfOk r (λ w. (xs : List A) × DrainsIf steps ⊤ s xs × (items w ≡ xs)) → YieldsList steps v s all → IfOk r (λ w. map v (items w) ≡ all)
-map_of_collected {S} {A} {B} {W} {E} {steps} {v} items (Ok w) d e = ap (map v) d.2 ∙ items_from_drains d.0 d.1 e
-map_of_collected items (Err x) d e = tt
+-- what follows where a list was extended by an iterator whose items are seen as these
+pub seen_of_extend : {S A B E Q : Type 0} {steps : S → Option A → S → Type 0} {s : S} {all : List B} {P : List A → Type 0} (v : A → B) (r : Result (Unit {0}) E)
+    → ((it : S) × (xs : List A) × (it ≡ s) × P xs × MatchResult r (λ _. Drains steps it xs) (λ _. (t : S) × Yields steps it xs t))
+    → YieldsList steps v s all → ((xs : List A) → map v xs ≡ all → P xs → Q) → OnOk r Q
+seen_of_extend v r ran road says = fact_from_extend v r ran (λ it from. YieldsList-at from road) says

@@ -4,7 +4,6 @@ ghost use Rattle.ndc_script_words.specs.Text.{text_lines, line_len, words_of, is
 
 use memchr::memchr;
 use ndc_event::OutOfMemory;
-use smallvec::SmallVec;
 use std::alloc::Global;
 use std::marker::Model;
 
@@ -24,7 +23,7 @@ pub enum Reading {
     PastLimit,
 }
 
-/// How many words of a line need no memory of their own: most lines have no more.
+/// For how many words of a line memory is asked for at once: most lines have no more.
 const WORDS: usize = 6;
 
 /// A line that is not skipped, with its words.
@@ -32,7 +31,7 @@ const WORDS: usize = 6;
 pub struct KeptLine<'a> {
     number: u64,
     reading: Reading,
-    words: SmallVec<&'a [u8], WORDS>,
+    words: Vec<&'a [u8]>,
 }
 
 impl<'a> Model for KeptLine<'a> {
@@ -96,12 +95,15 @@ fn split_line(bytes: &[u8]) -> Option<(&[u8], &[u8])>
 }
 
 /// The words of a line.
-fn words_of<'a>(alloc: Global, line: &'a [u8]) -> Result<SmallVec<&'a [u8], WORDS>, OutOfMemory>
+fn words_of<'a>(alloc: Global, line: &'a [u8]) -> Result<Vec<&'a [u8]>, OutOfMemory>
     ensures { IfOk result (λ words. map (λ word. word.now) words.items ≡ words_of line.now) }
 {
-    line.split(|byte| *byte == b' ')
-        .filter(|word| !word.is_empty())
-        .collect(alloc)
+    let mut words = Vec::with_capacity(alloc, WORDS)?;
+    words.extend(
+        line.split(|byte| *byte == b' ')
+            .filter(|word| !word.is_empty()),
+    )?;
+    Ok(words)
 }
 
 /// Whether the line has allowed bytes alone.
@@ -190,7 +192,7 @@ pub fn kept_from<'a>(
             kept.push(KeptLine {
                 number,
                 reading: Reading::PastLimit,
-                words: SmallVec::new(alloc),
+                words: Vec::new(alloc),
             })?;
             return Ok(kept);
         }
