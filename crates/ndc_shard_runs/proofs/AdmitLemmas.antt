@@ -1,4 +1,4 @@
--- What is tested of a batch of which nobody vouches, and of the one that it carries, decides whether what is learned then is sound.
+-- What is tested of a batch of which nobody vouches, and of the one that goes right after it, decides whether what is learned then is sound.
 use Rattle.std.proofs.Common.{◌≡◌, ◌+◌, ◌<◌, ◌^◌, ◌==◌, ◌⊎◌, ℕ, Bool, true, false, not, ◌||◌, ◌&&◌, is_some, IfSome, List, [], ◌∷◌, inl, inr, Option, Some, None, Result, Ok, Err, IsOk, if◌then◌else◌, refl, sym, ◌∙◌, subst, ap, arith}
 use Rattle.std.specs.List.{AllByRecursion}
 use Rattle.std.proofs.lemmas.Bool.{and_from, and_parts, eqb-true}
@@ -34,7 +34,7 @@ use Rattle.ndc_tree.specs.Inserting.{inserted}
 use Rattle.ndc_tree.specs.declared.answer.Inserted.{Inserted}
 use Rattle.ndc_tree.specs.declared.answer.TreeError.{TreeError}
 use Rattle.ndc_shard_runs.specs.Copies.{are_fit_copies, are_fit_to, are_open_fit, copies_fit_both_ways, event_of, is_none_or_original, is_open_fit, open_copies_fit, second_copies_fit}
-use Rattle.ndc_shard_runs.specs.Fitting.{CarriesNew, ComesNext, Fits, IsCarrierFit, both_learned, continues, fit_alone, fit_both, fit_of, is_continued_by, of_run_error}
+use Rattle.ndc_shard_runs.specs.Fitting.{ComesNext, Fits, GoesWithNew, IsCarrierFit, both_learned, continues, fit_alone, fit_both, fit_of, is_carrying_fit, is_continued_by, of_run_error}
 use Rattle.ndc_shard_runs.specs.declared.misfit.Misfit.{Misfit}
 use Rattle.ndc_shard_runs.specs.declared.misfit.Misfit.TheVariants as misfit
 use Rattle.ndc_shard_runs.specs.RunMap.{part_of}
@@ -79,7 +79,7 @@ ends-for run b h = by (last_event b.events) refl h
     by None e h = absurd (cc)
     by (Some event) e h = let c = continued run event event.kind refl h in record { event = event; last = e; workflow_type = c.0; kind = c.1 }
 
--- ---- a batch that carries another one
+-- ---- a batch with one that goes right after it
 
 pub first-taken : (part : List Batch) (b second : Batch) → IsOk (both_learned part b second) → IsOk (learned b.run part b)
 first-taken part b second = by (inserted b.run part b) (learned second.run [] second) (learned b.run part b)
@@ -89,14 +89,14 @@ first-taken part b second = by (inserted b.run part b) (learned second.run [] se
     by (Ok place) (Err e) one ok = absurd (cc)
     by (Err e) two one ok = absurd (cc)
 
-module _ (batches : List Batch) (b second : Batch) (sound : IsSound batches) (next : ComesNext batches b) (new : CarriesNew batches b second) where
+module _ (batches : List Batch) (b second : Batch) (sound : IsSound batches) (next : ComesNext batches b) (new : GoesWithNew batches b second) where
   keys-apart : key_eq b.key second.key ≡ false
   keys-apart = by (key_eq b.key second.key) refl
     where
       by : (t : Bool) → key_eq b.key second.key ≡ t → key_eq b.key second.key ≡ false
       by false e = e
       by true e =
-          let task : b.key.task ≡ b.key.task + 1 = ap (λ (k : BatchKey). k.task) (same-keys b.key second.key e ∙ new.carried.key) in
+          let task : b.key.task ≡ b.key.task + 1 = ap (λ (k : BatchKey). k.task) (same-keys b.key second.key e ∙ new.goes.key) in
           absurd (omega (arith, task))
 
   pub second-fresh : batch_at second.key (arrived b batches) ≡ None
@@ -105,16 +105,21 @@ module _ (batches : List Batch) (b second : Batch) (sound : IsSound batches) (ne
   there : batch_at b.key (arrived b batches) ≡ Some b
   there = is_there b batches sound.set.ordered next.fresh
 
+  -- the carrier that the second batch names, where it names one, is the first
+  carrier-there : (o : Option BatchKey) → IfSome o (λ key. key ≡ b.key) → has_key o (arrived b batches) ≡ true
+  carrier-there None is = refl
+  carrier-there (Some key) is = ap (λ k. has_key (Some k) (arrived b batches)) is ∙ ap is_some there
+
   pub second-next : ComesNext (arrived b batches) second
   second-next = record {
     fresh = second-fresh;
     faultless = new.faultless;
-    reached = ap (λ o. has_key (earlier_of o second.carrier) (arrived b batches)) new.carried.parent ∙ ap (λ o. has_key o (arrived b batches)) new.carried.carrier ∙ ap is_some there;
+    reached = ap (λ o. has_key (earlier_of o second.carrier) (arrived b batches)) new.goes.parent ∙ carrier-there second.carrier new.goes.carrier;
   }
 
   module _ (apart : same_run second.run b.run ≡ false) (small : greatest_task batches < 2 ^ 64) (own : second.key.task < 2 ^ 64) where
     no-batch : part_of second.run batches ≡ []
-    no-batch = run-is-new batches second sound new.faultless new.carried.parent new.fresh (λ x has. let t = task-up-to batches x (has-among batches x has) in omega (arith, t, small)) own
+    no-batch = run-is-new batches second sound new.faultless new.goes.parent new.fresh (λ x has. let t = task-up-to batches x (has-among batches x has) in omega (arith, t, small)) own
 
     pub second-begins : part_of second.run (arrived b batches) ≡ []
     second-begins =
@@ -124,14 +129,14 @@ module _ (batches : List Batch) (b second : Batch) (sound : IsSound batches) (ne
         flip : (m n : ℕ) → (m == n) ≡ (n == m)
         flip m n = grind (arith, nat_tests)
 
-    module _ (goes : is_continued_by second.run (last_event b.events) ≡ true) where
+    module _ (goes : is_carrying_fit b second ≡ true) where
       pub second-carrier : IsCarrierFit (arrived b batches) second
       second-carrier carrier key e at =
-          let same_key : Some b.key ≡ Some key = sym new.carried.carrier ∙ e in
-          let one : b.key ≡ key = cc in
-          let found : Some b ≡ Some carrier = sym there ∙ ap (λ k. batch_at k (arrived b batches)) one ∙ at in
+          let one : key ≡ b.key = subst (λ (o : Option BatchKey). IfSome o (λ k. k ≡ b.key)) e new.goes.carrier in
+          let found : Some b ≡ Some carrier = sym there ∙ ap (λ k. batch_at k (arrived b batches)) (sym one) ∙ at in
           let same : b ≡ carrier = cc in
-          subst (λ (x : Batch). ContinuesAs second.run x.events) same (ends-for second.run b goes)
+          let ends : is_continued_by second.run (last_event b.events) ≡ true = sym (ap (λ o. not (is_some o) || is_continued_by second.run (last_event b.events)) e) ∙ goes in
+          subst (λ (x : Batch). ContinuesAs second.run x.events) same (ends-for second.run b ends)
 
     module _ (fit : second_copies_fit batches b second ≡ true) where
       parts : (copies_fit_both_ways batches second ≡ true) × (are_fit_to b second.events ≡ true) × (are_fit_to second b.events ≡ true)
@@ -200,7 +205,7 @@ sound-alone batches b sound next small own after =
     subst (λ (t : Bool). IsOk (if not t then Err misfit.OriginUnfit else or_error of_run_error (learned b.run (part_of b.run batches) b))) (sym (with-copies batches b sound next.faultless fits.copies))
     (ok-mapped of_run_error (learned b.run (part_of b.run batches) b) fits.taken)
 
-module _ (batches : List Batch) (b second : Batch) (sound : IsSound batches) (next : ComesNext batches b) (new : CarriesNew batches b second) (small : greatest_task batches < 2 ^ 64) (first : b.key.task < 2 ^ 64)
+module _ (batches : List Batch) (b second : Batch) (sound : IsSound batches) (next : ComesNext batches b) (new : GoesWithNew batches b second) (small : greatest_task batches < 2 ^ 64) (first : b.key.task < 2 ^ 64)
     (own : second.key.task < 2 ^ 64) (after : IsSound (arrived second (arrived b batches))) where
   fresh : batch_at second.key (arrived b batches) ≡ None
   fresh = second-fresh batches b second sound next new
@@ -230,7 +235,7 @@ module _ (batches : List Batch) (b second : Batch) (sound : IsSound batches) (ne
 
   begins : part_of second.run (arrived b batches) ≡ []
   begins =
-      run-is-new (arrived b batches) second middle new.faultless new.carried.parent fresh
+      run-is-new (arrived b batches) second middle new.faultless new.goes.parent fresh
       (λ x has. let t = task-up-to (arrived b batches) x (has-among (arrived b batches) x has) in let m = small-then in omega (arith, t, m)) own
 
   apart : same_run second.run b.run ≡ false
@@ -243,10 +248,14 @@ module _ (batches : List Batch) (b second : Batch) (sound : IsSound batches) (ne
           let no : Has [] b = subst (λ (l : List Batch). Has l b) begins has in
           absurd (cc)
 
-  goes : is_continued_by second.run (last_event b.events) ≡ true
-  goes =
-      let c = after.carriers second b b.key itself new.carried.carrier b-stays in
-      ap (is_continued_by second.run) c.last ∙ ap (continues second.run) c.kind ∙ same-run second.run second.run refl
+  goes : is_carrying_fit b second ≡ true
+  goes = by second.carrier refl new.goes.carrier
+    where
+      by : (o : Option BatchKey) → second.carrier ≡ o → IfSome o (λ key. key ≡ b.key) → (not (is_some o) || is_continued_by second.run (last_event b.events)) ≡ true
+      by None e is = refl
+      by (Some key) e is =
+          let c = after.carriers second b b.key itself (e ∙ ap Some is) b-stays in
+          ap (is_continued_by second.run) c.last ∙ ap (continues second.run) c.kind ∙ same-run second.run second.run refl
 
   with-second : CopiesFitWith batches second
   with-second = record {
@@ -275,14 +284,14 @@ module _ (batches : List Batch) (b second : Batch) (sound : IsSound batches) (ne
       rest : Result Learned Misfit
       rest =
           if not (copies_fit_both_ways batches b) then Err misfit.OriginUnfit
-          else if not (is_continued_by second.run (last_event b.events)) then Err misfit.CarrierUnfit
+          else if not (is_carrying_fit b second) then Err misfit.CarrierUnfit
           else if not (second_copies_fit batches b second) then Err misfit.OriginUnfit
           else or_error of_run_error (both_learned (part_of b.run batches) b second)
 
       passed : IsOk rest
       passed = rw (with-copies batches b sound next.faultless fits.copies, goes, second-fit) (ok-mapped of_run_error (both_learned (part_of b.run batches) b second) taken)
 
-pub would-be-sound : (batches : List Batch) (b : Batch) (second : Option Batch) → IsSound batches → ComesNext batches b → IfSome second (CarriesNew batches b) → greatest_task batches < 2 ^ 64 → b.key.task < 2 ^ 64
+pub would-be-sound : (batches : List Batch) (b : Batch) (second : Option Batch) → IsSound batches → ComesNext batches b → IfSome second (GoesWithNew batches b) → greatest_task batches < 2 ^ 64 → b.key.task < 2 ^ 64
     → IfSome second (λ s. s.key.task < 2 ^ 64) → IsSound (arrived_second second (arrived b batches)) → IsOk (fit_of batches b second)
 would-be-sound batches b None sound next new small own more after = sound-alone batches b sound next small own after
 would-be-sound batches b (Some second) sound next new small own more after = sound-both batches b second sound next new small own more after

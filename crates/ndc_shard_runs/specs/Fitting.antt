@@ -1,5 +1,5 @@
 -- Which batches are learned next.
-use Rattle.std.specs.Prelude.{◌≡◌, Bool, true, false, not, List, [], Option, Some, None, Result, Err, IsOk, if◌then◌else◌}
+use Rattle.std.specs.Prelude.{◌≡◌, Bool, true, false, not, ◌||◌, is_some, IfSome, List, [], Option, Some, None, Result, Err, IsOk, if◌then◌else◌}
 use Rattle.ndc_event.specs.Batch.{fault_of}
 use Rattle.ndc_event.specs.Outcome.{◌>>=◌}
 use Rattle.ndc_event.specs.declared.batch.Batch.{Batch}
@@ -8,7 +8,7 @@ use Rattle.ndc_event.specs.declared.key.BatchKey.{BatchKey}
 use Rattle.ndc_event.specs.declared.key.RunId.{RunId}
 use Rattle.ndc_event.specs.declared.kind.EventKind.{EventKind}
 use Rattle.ndc_event.specs.declared.kind.EventKind.TheVariants.{WorkflowExecutionContinuedAsNew}
-use Rattle.ndc_model_cells.specs.Messages.{IsCarriedBy}
+use Rattle.ndc_model_cells.specs.Writing.{key_behind}
 use Rattle.ndc_model_sets.specs.Branches.{same_run}
 use Rattle.ndc_model_sets.specs.Learned.{has_key}
 use Rattle.ndc_model_sets.specs.Paths.{last_event}
@@ -60,6 +60,10 @@ abbrev pub is_continued_by : RunId → Option Event → Bool
 is_continued_by run None = false
 is_continued_by run (Some event) = continues run event.kind
 
+-- whether a batch ends by continuing as the run of a second one, where that names a carrier
+abbrev pub is_carrying_fit : Batch → Batch → Bool
+is_carrying_fit b second = not (is_some second.carrier) || is_continued_by second.run (last_event b.events)
+
 -- why a run does not take a batch, as why the batch does not fit
 abbrev pub of_run_error : RunError → Misfit
 of_run_error (run_error.MissingParent key) = misfit.ParentUnfit
@@ -71,23 +75,29 @@ of_run_error run_error.Memory = misfit.Memory
 abbrev pub fit_alone : List Batch → Batch → Result Learned Misfit
 fit_alone batches b = if not (copies_fit_both_ways batches b) then Err misfit.OriginUnfit else or_error of_run_error (learned b.run (part_of b.run batches) b)
 
--- the same of a batch that carries another one: the first is of another run than it, its copied signals, whether it continues as the run of
--- the second, the copied signals of the second, and then what their runs say
+-- the same of a batch with a second one, which goes right after it: that is of another run, the copied signals of the batch, whether it continues
+-- as the run of the second, where it carries that, the copied signals of the second, and then what their runs say
 abbrev pub fit_both : List Batch → Batch → Batch → Result Learned Misfit
 fit_both batches b second =
     if same_run second.run b.run then Err misfit.ParentUnfit
     else if not (copies_fit_both_ways batches b) then Err misfit.OriginUnfit
-    else if not (is_continued_by second.run (last_event b.events)) then Err misfit.CarrierUnfit
+    else if not (is_carrying_fit b second) then Err misfit.CarrierUnfit
     else if not (second_copies_fit batches b second) then Err misfit.OriginUnfit
     else or_error of_run_error (both_learned (part_of b.run batches) b second)
 
--- the same of a batch, and of the one that it carries, where it carries one
+-- the same of a batch, and of the one that goes right after it, where there is one
 abbrev pub fit_of : List Batch → Batch → Option Batch → Result Learned Misfit
 fit_of batches b None = fit_alone batches b
 fit_of batches b (Some second) = fit_both batches b second
 
--- a batch carries one that is new: it has no fault, and its key is not there
-pub record CarriesNew (batches : List Batch) (b second : Batch) : Type 0 where
-  pub carried : IsCarriedBy b second
+-- a batch that goes right after another: it begins a run, has the next key, and names no carrier but the other
+pub record GoesBehind (b second : Batch) : Type 0 where
+  pub key : second.key ≡ key_behind b.key
+  pub parent : second.parent ≡ None
+  pub carrier : IfSome second.carrier (λ key. key ≡ b.key)
+
+-- right after a batch goes one that is new: it has no fault, and its key is not there
+pub record GoesWithNew (batches : List Batch) (b second : Batch) : Type 0 where
+  pub goes : GoesBehind b second
   pub faultless : fault_of second ≡ None
   pub fresh : batch_at second.key batches ≡ None

@@ -1,7 +1,7 @@
 //! What is learned of a batch of which nobody vouches.
 ghost use Rattle.std.specs.Prelude.{◌≡◌, IsTrue};
 ghost use Rattle.ndc_model_sets.specs.Paths.{last_event};
-ghost use Rattle.ndc_shard_runs.specs.Fitting.{continues, is_continued_by};
+ghost use Rattle.ndc_shard_runs.specs.Fitting.{continues, is_carrying_fit, is_continued_by};
 
 use crate::misfit::Misfit;
 use crate::runs::Runs;
@@ -17,10 +17,10 @@ impl Runs {
     ghost use Rattle.ndc_model_cells.specs.Laws.{arrived_second};
     ghost use Rattle.ndc_model_cells.specs.Messages.{HasSmallIds};
     ghost use Rattle.ndc_model_sets.specs.Sets.{arrived};
-    ghost use Rattle.ndc_shard_runs.specs.Fitting.{CarriesNew, ComesNext, fit_alone, fit_both, fit_of};
+    ghost use Rattle.ndc_shard_runs.specs.Fitting.{ComesNext, GoesWithNew, fit_alone, fit_both, fit_of};
     ghost use Rattle.ndc_shard_runs.specs.declared.misfit.Misfit.TheVariants.{Memory};
 
-    /// Learns a batch that comes next, and the one that it carries, where it carries one, if both fit; or neither. Refused
+    /// Learns a batch that comes next, and the one that goes right after it, where there is one, if both fit; or neither. Refused
     /// with the first cause of [`Misfit`] that holds; what is learned then would not be sound
     /// (`laws::what_is_refused_would_not_be_sound`). After an error all is as it was.
     ///
@@ -35,7 +35,7 @@ impl Runs {
     ) -> Result<Learned, Misfit>
         requires next { ComesNext self.old batch.now }
         requires lone { batch.now.carrier ≡ None }
-        requires second { IfSome (option_copied second) (CarriesNew self.old batch.now) }
+        requires second { IfSome (option_copied second) (GoesWithNew self.old batch.now) }
         requires ids { HasSmallIds batch.now }
         requires second_ids { IfSome (option_copied second) HasSmallIds }
         ensures answer { Gives Memory (λ done. done) result (fit_of self.old batch.now (option_copied second.entry)) }
@@ -72,7 +72,7 @@ impl Runs {
         }
     }
 
-    /// Learns a batch that comes next, and the one that it carries, if both fit; or neither.
+    /// Learns a batch that comes next, and the one that goes right after it, if both fit; or neither.
     fn admit_both<L>(
         &mut self,
         alloc: Global,
@@ -82,7 +82,7 @@ impl Runs {
     ) -> Result<Learned, Misfit>
         requires next { ComesNext self.old batch.now }
         requires lone { batch.now.carrier ≡ None }
-        requires second { CarriesNew self.old batch.now second.now }
+        requires second { GoesWithNew self.old batch.now second.now }
         requires ids { HasSmallIds batch.now }
         requires second_ids { HasSmallIds second.now }
         ensures answer { Gives Memory (λ done. done) result (fit_both self.old batch.now second.now) }
@@ -96,7 +96,7 @@ impl Runs {
         if !self.copies_fit_both_ways(alloc, batch)? {
             return Err(Misfit::OriginUnfit);
         }
-        if !is_continued_by(second.run, batch.events.as_slice()) {
+        if !is_carrying_fit(batch, second) {
             return Err(Misfit::CarrierUnfit);
         }
         if !self.second_copies_fit(alloc, batch, second)? {
@@ -107,6 +107,13 @@ impl Runs {
             Err(error) => Err(Misfit::from(error)),
         }
     }
+}
+
+/// Whether the batch ends by continuing as the run of the second, where that names a carrier.
+fn is_carrying_fit(batch: &Batch, second: &Batch) -> bool
+    ensures { result ≡ is_carrying_fit batch.now second.now }
+{
+    second.carrier.is_none() || is_continued_by(second.run, batch.events.as_slice())
 }
 
 /// Whether the last of these events continues its run as this one.

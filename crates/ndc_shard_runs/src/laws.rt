@@ -8,7 +8,7 @@ ghost use Rattle.ndc_model_cells.specs.Writing.{greatest_task};
 ghost use Rattle.ndc_event.specs.declared.key.Origin.{Origin};
 ghost use Rattle.ndc_run.specs.Learning.{learned};
 ghost use Rattle.ndc_shard_runs.specs.Copies.{CopiesFitInto, event_of};
-ghost use Rattle.ndc_shard_runs.specs.Fitting.{CarriesNew, ComesNext, Fits, fit_of};
+ghost use Rattle.ndc_shard_runs.specs.Fitting.{ComesNext, Fits, GoesWithNew, fit_of};
 ghost use Rattle.ndc_shard_runs.specs.Kept.{Follows, is_unlisted};
 ghost use Rattle.ndc_shard_runs.specs.RunMap.{part_of};
 ghost use Rattle.ndc_model_sets.specs.Branches.{tips};
@@ -58,10 +58,10 @@ pub fn copies_that_name_originals_fit_what_comes_next()
         → CopiesFitInto batches b → CopiesFitWith batches b }
 {}
 
-/// What `Runs::admit` refuses would not be sound: where what is learned with a batch that comes next, and with the one that it
-/// carries, is sound, both fit, for tasks below 2^64, as those of batches are.
+/// What `Runs::admit` refuses would not be sound: where what is learned with a batch that comes next, and with the one that goes
+/// right after it, is sound, both fit, for tasks below 2^64, as those of batches are.
 pub fn what_is_refused_would_not_be_sound()
-    ensures { (batches : List Batch) (b : Batch) (second : Option Batch) → IsSound batches → ComesNext batches b → IfSome second (CarriesNew batches b)
+    ensures { (batches : List Batch) (b : Batch) (second : Option Batch) → IsSound batches → ComesNext batches b → IfSome second (GoesWithNew batches b)
         → greatest_task batches < 2 ^ 64 → b.key.task < 2 ^ 64 → IfSome second (λ s. s.key.task < 2 ^ 64)
         → IsSound (arrived_second second (arrived b batches)) → IsOk (fit_of batches b second) }
 {}

@@ -3,7 +3,7 @@ use ndc_state::Rule;
 use std::alloc::{AllocError, AllocFailed};
 use thiserror::Error;
 
-/// Why a batch that comes next, or the one that it carries, does not fit what is learned of its workflow.
+/// Why a batch that comes next, or the one that goes right after it, does not fit what is learned of its workflow.
 #[derive(Clone, Copy, Debug, PartialEq, Eq, Error)]
 pub enum Misfit {
     /// The parent is no batch of the run.

@@ -19,3 +19,4 @@ pub mod NoteLemmas
 pub mod OrderedLemmas
 pub mod PlacedLemmas
 mod WithLemmas
+pub mod WaiterLemmas

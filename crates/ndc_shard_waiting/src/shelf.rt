@@ -78,13 +78,14 @@ fn put_in(messages: &mut Messages, links: &mut Links, message: Message) -> Resul
 }
 
 impl Shelf {
-    ghost use Rattle.std.specs.Prelude.{◌≡◌, ◌||◌, [], Some, IsSome, length, map, OnOk, OnErr, IfOk};
+    ghost use Rattle.std.specs.Prelude.{◌≡◌, ◌||◌, [], ◌∷◌, true, false, option_to_list, Some, IsSome, length, map, OnOk, OnErr, IfOk, IfSome, IfNone};
+    ghost use Rattle.std.specs.List.{AllByRecursion};
     ghost use Rattle.std.specs.Option.{option_copied};
     ghost use Rattle.ndc_model_cells.specs.Cells.{both};
     ghost use Rattle.ndc_event.specs.declared.key.BatchKey.{BatchKey as Key};
     ghost use Rattle.ndc_model_sets.specs.Sets.{batch_at};
     ghost use Rattle.ndc_model_sets.specs.Keys.{is_key_among};
-    ghost use Rattle.ndc_model_cells.specs.Messages.{batches_of, IsNewTo};
+    ghost use Rattle.ndc_model_cells.specs.Messages.{batches_of, waits_for, IsNewTo};
     ghost use Rattle.ndc_shard_waiting.specs.Waiting.{put_off, freed, still_put_off, AreWaiting, CanWait};
     ghost use Rattle.ndc_shard_waiting.specs.Finding.{message_at, message_with, without_message, carried_at, carrier_at, key_before};
     ghost use Rattle.ndc_shard_waiting.specs.Linking.{is_woken};
@@ -185,16 +186,37 @@ impl Shelf {
         sent
     }
 
-    /// Puts the keys of all messages that wait for this one to the others.
-    fn wake(&self, sent: &Message, todo: &mut KeySet) -> Result<(), OutOfMemory>
-        ensures woken { OnOk result ((one : Key) → is_key_among one todo.new ≡ (is_key_among one todo.old || is_woken (both sent.now) one self.now)) }
+    /// Puts the keys of all messages that wait for the batch, or for the second one, where there is one, to the others.
+    fn wake(
+        &self,
+        batch: &Batch,
+        second: Option<&Batch>,
+        todo: &mut KeySet,
+    ) -> Result<(), OutOfMemory>
+        ensures woken { OnOk result ((one : Key) → is_key_among one todo.new ≡ (is_key_among one todo.old || is_woken (batch.now ∷ option_to_list (option_copied second.entry)) one self.now)) }
         ensures waiting { AreWaiting self.now }
     {
-        self.links.wake(sent.batch.key, todo)?;
-        if let Some(second) = sent.second.as_ref() {
+        self.links.wake(batch.key, todo)?;
+        if let Some(second) = second {
             self.links.wake(second.key, todo)?;
         }
         Ok(())
+    }
+
+    /// The least key of a message that waits for the batch, or for the second one, where there is one. In the logarithm of
+    /// the messages for each that waits for them.
+    pub(crate) fn first_waiter(
+        &self,
+        alloc: Global,
+        batch: &Batch,
+        second: Option<&Batch>,
+    ) -> Result<Option<BatchKey>, OutOfMemory>
+        ensures some { IfOk result (λ found. IfSome found (λ key. is_woken (batch.now ∷ option_to_list (option_copied second.entry)) key self.now ≡ true)) }
+        ensures none { IfOk result (λ found. IfNone found (AllByRecursion (λ sent. waits_for (batch.now ∷ option_to_list (option_copied second.entry)) sent ≡ false) self.now)) }
+    {
+        let mut woken = KeySet::new(alloc);
+        self.wake(batch, second, &mut woken)?;
+        Ok(woken.take_least())
     }
 
     /// Takes out what waits for the message, directly or not: the message, and behind it what it frees, in key order.
@@ -209,12 +231,12 @@ impl Shelf {
         ensures waiting { AreWaiting self.new }
     {
         let mut todo = KeySet::new(alloc);
-        self.wake(&message, &mut todo)?;
+        self.wake(&message.batch, message.second.as_ref(), &mut todo)?;
         let mut freed = Vec::new(alloc);
         freed.push(message)?;
         while let Some(key) = todo.take_least() {
             let sent = self.take(key);
-            self.wake(&sent, &mut todo)?;
+            self.wake(&sent.batch, sent.second.as_ref(), &mut todo)?;
             freed.push(sent)?;
         }
         Ok(freed)

@@ -98,13 +98,15 @@ fn note(ends: &mut Shortcuts, found: &mut Vec<PutOff>, batch: &Batch) -> Result<
 }
 
 impl Waiting {
-    ghost use Rattle.std.specs.Prelude.{◌≡◌, ◌==◌, [], length, map, is_some, Some, IfOk, OnOk, OnErr};
+    ghost use Rattle.std.specs.Prelude.{◌≡◌, ◌==◌, [], ◌∷◌, true, false, length, map, is_some, option_to_list, Some, IfOk, IfSome, IfNone, OnOk, OnErr};
+    ghost use Rattle.std.specs.List.{AllByRecursion};
     ghost use Rattle.std.specs.Option.{option_copied};
     ghost use Rattle.ndc_model_sets.specs.Learned.{has_key};
     ghost use Rattle.ndc_model_sets.specs.Sets.{batch_at};
     ghost use Rattle.ndc_shard_waiting.specs.Finding.{message_with};
     ghost use Rattle.ndc_shard_waiting.specs.Shortcuts.{GoesUp, LeadsUp};
-    ghost use Rattle.ndc_model_cells.specs.Messages.{batches_of, IsNewTo};
+    ghost use Rattle.ndc_model_cells.specs.Messages.{batches_of, waits_for, IsNewTo};
+    ghost use Rattle.ndc_shard_waiting.specs.Linking.{is_woken};
     ghost use Rattle.ndc_shard_waiting.specs.Waiting.{put_off, freed, still_put_off, missing_from, all_missing, AreWaiting, CanWait};
 
     /// No message waits.
@@ -192,6 +194,20 @@ impl Waiting {
                 Err(error)
             }
         }
+    }
+
+    /// The least key of a message that waits for the batch, or for the one that goes right after it, where there is one. In the
+    /// logarithm of the messages for each that waits for them; where none waits, no memory is wanted.
+    pub fn first_waiter(
+        &self,
+        alloc: Global,
+        batch: &Batch,
+        second: Option<&Batch>,
+    ) -> Result<Option<BatchKey>, OutOfMemory>
+        ensures some { IfOk result (λ found. IfSome found (λ key. is_woken (batch.now ∷ option_to_list (option_copied second.entry)) key self.now ≡ true)) }
+        ensures none { IfOk result (λ found. IfNone found (AllByRecursion (λ sent. waits_for (batch.now ∷ option_to_list (option_copied second.entry)) sent ≡ false) self.now)) }
+    {
+        self.shelf.first_waiter(alloc, batch, second)
     }
 
     /// The nearest key upwards from this one that is not there: for a batch that is put off what it misses. Each key

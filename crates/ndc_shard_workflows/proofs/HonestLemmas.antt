@@ -6,6 +6,7 @@ use Rattle.std.proofs.lemmas.Bool.{and_from}
 use Rattle.std.proofs.lemmas.List.{append-nil}
 use Rattle.ndc_event.specs.Batch.{fault_of}
 use Rattle.ndc_event.specs.declared.batch.Batch.{Batch}
+use Rattle.ndc_event.specs.declared.key.BatchKey.{BatchKey}
 use Rattle.ndc_model_cells.specs.Cells.{both}
 use Rattle.ndc_model_cells.specs.Laws.{arrived_second}
 use Rattle.ndc_model_cells.specs.Messages.{batches_of, HasSmallIds, IsCarriedBy, IsMessage, IsNewTo}
@@ -16,7 +17,7 @@ use Rattle.ndc_model_sets.specs.Sets.{Has, IsSet, arrived, batch_at, earlier}
 use Rattle.ndc_model_sets.specs.Sound.{IsSound}
 use Rattle.ndc_model_sets.proofs.ArrivalLemmas.{arrival_keeps_sets, is_there, stays}
 use Rattle.ndc_run.specs.declared.answer.Learned.{Learned}
-use Rattle.ndc_shard_runs.specs.Fitting.{CarriesNew, fit_of}
+use Rattle.ndc_shard_runs.specs.Fitting.{GoesWithNew, fit_of}
 use Rattle.ndc_shard_runs.specs.declared.misfit.Misfit.{Misfit}
 use Rattle.ndc_shard_runs.specs.declared.misfit.Misfit.TheVariants.{IllFormed}
 use Rattle.ndc_shard_runs.proofs.AdmitLemmas.{would-be-sound}
@@ -60,7 +61,7 @@ module _ (known : List Batch) (sent : Message) (messages : List Message) (can : 
       stay None = first-there
       stay (Some second) = stays second (arrived sent.batch known) first-set.ordered sent.batch first-there
 
-  second-fits : (o : Option Batch) → sent.second ≡ o → (is_second_faultless o ≡ true) × IfSome o (CarriesNew known sent.batch) × IfSome o (λ s. s.key.task < 2 ^ 64)
+  second-fits : (o : Option Batch) → sent.second ≡ o → (is_second_faultless o ≡ true) × IfSome o (GoesWithNew known sent.batch) × IfSome o (λ s. s.key.task < 2 ^ 64)
   second-fits None e = (refl, tt, tt)
   second-fits (Some second) e = (faultless-true second none, carries, small-task)
     where
@@ -79,8 +80,12 @@ module _ (known : List Batch) (sent : Message) (messages : List Message) (can : 
       none : fault_of second ≡ None
       none = (next-sound known sent messages can).faultless second (subst (λ (o : Option Batch). Has (arrived_second o (arrived sent.batch known)) second) (sym e) (is_there second (arrived sent.batch known) first-set.ordered apart))
 
-      carries : CarriesNew known sent.batch second
-      carries = record { carried = carried; faultless = none; fresh = new.1.0 }
+      carries : GoesWithNew known sent.batch second
+      carries = record { goes = record { key = carried.key; parent = carried.parent; carrier = goes-so second.carrier carried.carrier }; faultless = none; fresh = new.1.0 }
+        where
+          goes-so : (c : Option BatchKey) → c ≡ Some sent.batch.key → IfSome c (λ key. key ≡ sent.batch.key)
+          goes-so None is = absurd (cc)
+          goes-so (Some key) is = cc
 
   whole : is_whole sent ≡ true
   whole =

@@ -4,7 +4,7 @@ use Rattle.std.specs.List.{AllByRecursion}
 use Rattle.ndc_model_cells.specs.declared.message.Message.{Message}
 use Rattle.ndc_model_cells.specs.Cells.{both}
 use Rattle.ndc_model_cells.specs.Places.{is_of}
-use Rattle.ndc_model_cells.specs.Writing.{key_behind}
+pub use Rattle.ndc_shard_runs.specs.Fitting.{GoesBehind}
 use Rattle.ndc_event.specs.declared.batch.Batch.{Batch}
 use Rattle.ndc_model_sets.specs.Learned.{has_key, learned}
 use Rattle.ndc_model_sets.specs.Sets.{earlier, PointsBack}
@@ -12,12 +12,6 @@ use Rattle.ndc_model_sets.specs.Sound.{IsSound}
 use Rattle.ndc_shard_waiting.specs.Learning.{with_message}
 use Rattle.ndc_model_cells.specs.Messages.{waits_for, IsMessage, IsNewTo, HasSmallIds}
 use Rattle.ndc_model_cells.specs.Workflow.{WorkflowValue}
-
--- a batch that is written right behind another: it begins a run, has the next key, and names no carrier but the other
-pub record GoesBehind (b second : Batch) : Type 0 where
-  pub key : second.key ≡ key_behind b.key
-  pub parent : second.parent ≡ None
-  pub carrier : IfSome second.carrier (λ key. key ≡ b.key)
 
 -- batches that are written together: the first points back, and the other one, where there is one, goes right behind it
 pub record GoTogether (new : Message) : Type 0 where

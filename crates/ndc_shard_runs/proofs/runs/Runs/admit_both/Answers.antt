@@ -1,6 +1,4 @@
-use Rattle.std.proofs.Common.{◌∙◌, ap, sym}
-use Rattle.ndc_model_sets.specs.Paths.{last_event}
-use Rattle.ndc_shard_runs.specs.Fitting.{is_continued_by}
+use Rattle.std.proofs.Common.{◌∙◌, sym}
 use Rattle.ndc_shard_runs.proofs.AdmitLemmas.{alone-copies, first-taken, lone-carrier, runs-apart, second-begins, second-carrier, second-copies, second-next}
 use Rattle.ndc_shard_runs.specs.RunMap.{part_of}
 use Rattle.ndc_shard_runs.proofs.runs.Runs.admit_both.Goals as goal
@@ -28,7 +26,7 @@ pub try_learn_both-requires-clause-second_carrier : goal.try_learn_both-requires
 try_learn_both-requires-clause-second_carrier g c =
     second-carrier c.args.self.now c.args.batch.now c.args.second.now c.has_small_tasks.ensures.sound c.requires.next c.requires.second
     (runs-apart c.args.second.now.run c.args.batch.now.run c.if-second-batch.false) c.has_small_tasks.ensures.learned c.has_small_tasks.ensures.own
-    (sym (c.is_continued_by.ensures ∙ ap (λ events. is_continued_by c.args.second.now.run (last_event events)) c.as_slice.ensures) ∙ c.if-not-is_continued_by.false)
+    (sym c.is_carrying_fit.ensures ∙ c.if-not-is_carrying_fit.false)
 
 pub try_learn_both-requires-clause-begins : goal.try_learn_both-requires-clause-begins
 try_learn_both-requires-clause-begins g c =
