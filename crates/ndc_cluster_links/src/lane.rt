@@ -177,6 +177,7 @@ impl Lane {
     /// Raises `done` over the entries that the reader's cell has learned or that are not addressed to the reader, up to
     /// the first other one, and `read` where it would be below. What is kept of the queue reaches from `done` or before
     /// it to its end. Answers how far `done` is then. Takes no memory.
+    #[inline(always)]
     pub fn renew<C: Cell>(
         &mut self,
         table: &DomainTable,
