@@ -24,7 +24,7 @@ same-from f from (x ∷ xs) d same =
     ∙ ap (λ ys. x ∷ ys) (same-from f (suc from) xs d (λ k place below is. same (suc k) place (omega (arith, below)) (omega (arith, is))))
 
 -- a lane that is done up to the end of the queue
-idle-lane : (reader : ClusterNo) (table : List DomainRecord) (cell : Cell) (whole : List Message) (lane : Lane) → lane.levels.done ≤ lane.levels.read → lane.levels.done ≡ length whole
+pub idle-lane : (reader : ClusterNo) (table : List DomainRecord) (cell : Cell) (whole : List Message) (lane : Lane) → lane.levels.done ≤ lane.levels.read → lane.levels.done ≡ length whole
     → after_renewal reader table cell whole lane ≡ lane
 idle-lane reader table cell whole lane read all =
     let none = prefix_len-drop_all (needs_nothing reader table cell) whole lane.levels.done (omega (arith, all)) in

@@ -146,6 +146,13 @@ impl Lane {
         self.levels.read == queue.len()
     }
 
+    /// Whether all entries of a queue are done.
+    pub(crate) fn is_done(&self, queue: &Queue) -> bool
+        ensures { IsTrue result → self.now.levels.done ≡ queue_len queue.now }
+    {
+        self.levels.done == queue.len()
+    }
+
     /// The same, wherever `read` lies.
     fn pull_entries(
         &mut self,
@@ -177,7 +184,6 @@ impl Lane {
     /// Raises `done` over the entries that the reader's cell has learned or that are not addressed to the reader, up to
     /// the first other one, and `read` where it would be below. What is kept of the queue reaches from `done` or before
     /// it to its end. Answers how far `done` is then. Takes no memory.
-    #[inline(always)]
     pub fn renew<C: Cell>(
         &mut self,
         table: &DomainTable,

@@ -92,8 +92,13 @@ fn renew_lanes<C: Cell>(
 {
     let mut done = 0;
     for shard in 0..lanes.len() {
+        let queue = &queues[shard];
         let lane = &mut lanes[shard];
-        done += lane.renew(table, reader, &cells[shard], &queues[shard]);
+        if lane.is_done(queue) {
+            done += queue.len();
+            continue;
+        }
+        done += lane.renew(table, reader, &cells[shard], queue);
     }
     done
 }
