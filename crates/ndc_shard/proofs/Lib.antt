@@ -19,3 +19,4 @@ mod BranchLemmas
 mod EndLemmas
 mod GapLemmas
 mod GroupLemmas
+pub mod AdmittedLemmas

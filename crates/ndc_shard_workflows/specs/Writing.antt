@@ -18,6 +18,12 @@ pub record GoTogether (new : Message) : Type 0 where
   pub back : PointsBack new.batch
   pub second : IfSome new.second (GoesBehind new.batch)
 
+-- batches that are written together are well made: they go together, the other one is of the workflow of the first, and event ids are small
+pub record IsMadeTogether (new : Message) : Type 0 where
+  pub together : GoTogether new
+  pub own : IfSome new.second (λ second. is_of new.batch.domain new.batch.workflow second ≡ true)
+  pub small : AllByRecursion HasSmallIds (both new)
+
 -- a batch, and the one of its workflow that goes right behind it, may be written together: the first points back to a learned one or has no
 -- earlier key, neither of the two has arrived, no message waits for either, what is learned with them is sound, and event ids are small
 pub record MayBeWrittenTogether (new : Message) (w : WorkflowValue) : Type 0 where
