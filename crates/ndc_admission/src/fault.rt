@@ -135,7 +135,8 @@ fn is_second_foreign(batch: &Batch, second: Option<&Batch>) -> bool
 
 /// Whether there is a second, and it is not the one that the batch carries.
 fn is_second_another(batch: &Batch, second: Option<&Batch>) -> bool
-    ensures { result ≡ second_is (λ b. not (is_carried_by batch.now b)) (option_copied second.entry) }
+    ensures { result
+        ≡ second_is (λ b. not (is_carried_by batch.now b)) (option_copied second.entry) }
 {
     match second {
         None => false,

@@ -35,7 +35,8 @@ pub fn a_faultless_message_is_well_made()
 /// the same writer as its own.
 #[tactic(auto, using(crate::proofs::MadeLemmas::made_message, crate::proofs::MadeLemmas::made_small, crate::proofs::MadeLemmas::made_writer))]
 pub fn a_well_made_message_is_as_cells_write_it()
-    ensures message { (sent : Sent) (clusters : ClusterList) → IsWellMade clusters sent → IsMessage sent }
+    ensures message { (sent : Sent) (clusters : ClusterList) → IsWellMade clusters sent
+        → IsMessage sent }
     ensures ids { (sent : Sent) (clusters : ClusterList) → IsWellMade clusters sent
         → AllByRecursion HasSmallIds (both sent) }
     ensures writer { (sent : Sent) (clusters : ClusterList) → IsWellMade clusters sent

@@ -62,7 +62,8 @@ pub fn done_passes_only_what_is_learned()
 #[tactic(auto, using(crate::proofs::LevelLemmas::level_rises))]
 pub fn levels_never_fall()
     ensures { (reader level other : ℕ) (answer : Answer) (levels : LevelsValue)
-        → slice_index levels.told other ≤ slice_index (after_telling reader level answer levels).told other }
+        → slice_index levels.told other
+        ≤ slice_index (after_telling reader level answer levels).told other }
 {}
 
 /// Levels stay within the queue: where each is at most its length, so it is after a reader has told one.

@@ -140,7 +140,8 @@ impl ReadLane {
     /// the lane stays as it was.
     #[tactic(auto, unfolding(crate::specs::Lane::heard))]
     pub fn hear(&mut self, from: u64, next: u64, entries: Vec<Told>) -> Result<(), HearError>
-        ensures heard { Gives Memory (λ _. self.new) result (heard from next entries.items self.old) }
+        ensures heard { Gives Memory (λ _. self.new) result
+            (heard from next entries.items self.old) }
         ensures unchanged { OnErr result (self.new ≡ self.old) }
     {
         if self.read < from {

@@ -35,7 +35,8 @@ impl ToldLevels {
 
     /// So many readers, none of which has told anything under this epoch.
     pub fn new(alloc: Global, epoch: u64, readers: usize) -> Result<ToldLevels, OutOfMemory>
-        ensures { IfOk result (λ levels. levels ≡ record { epoch = epoch; told = replicate readers 0 }) }
+        ensures { IfOk result (λ levels.
+            levels ≡ record { epoch = epoch; told = replicate readers 0 }) }
     {
         Ok(ToldLevels {
             epoch,
