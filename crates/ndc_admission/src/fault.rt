@@ -1,10 +1,10 @@
 // The first cause why a message is none that cells send.
 ghost use Rattle.std.specs.Prelude.{◌≡◌, not};
 ghost use Rattle.std.specs.Option.{option_copied};
+ghost use Rattle.ndc_event.specs.Key.{key_eq};
 ghost use Rattle.ndc_admission.specs.Faults.{continues, first_fault, fits, is_carried_by, second_fault, second_is};
 ghost use Rattle.ndc_model_cells.specs.Places.{is_of};
 ghost use Rattle.ndc_model_cells.specs.Writing.{goes_on, key_behind};
-ghost use Rattle.ndc_event.specs.Key.{key_eq};
 
 use crate::ranges::is_in_range;
 use ndc_domain::Clusters;
@@ -55,7 +55,8 @@ pub enum MessageFault {
 
 /// Why the message is none that cells of these clusters send: the first cause that holds, in the order of
 /// [`MessageFault`]. None exactly where it is well-made (`IsWellMade`): the law
-/// [`crate::a_faultless_message_is_well_made`]. It takes no memory, and goes over the events of each batch twice.
+/// [`crate::a_faultless_message_is_well_made`]. It takes no memory. It goes over
+/// the events of each batch three times, two of which are [`Batch::check`].
 #[tactic(auto, unfolding(crate::specs::Faults::first_fault))]
 pub fn first_fault(message: &Message, clusters: &Clusters) -> Option<MessageFault>
     ensures { result ≡ first_fault message.now clusters.now }
