@@ -25,6 +25,7 @@ use Rattle.ndc_model_sets.specs.Sound.{IsSound}
 use Rattle.ndc_shard.proofs.SentLemmas.{at-place}
 use Rattle.ndc_shard.proofs.StayLemmas.{key-stays}
 use Rattle.ndc_shard.specs.Sent.{AreSent, HasCarrier, IsSent, is_lone, messages_at}
+use Rattle.ndc_shard.specs.Shards.{having_written}
 use Rattle.ndc_shard_waiting.proofs.FreeLemmas.{all-there}
 use Rattle.ndc_shard_waiting.proofs.KeptLemmas.{both-back, precede-none}
 use Rattle.ndc_shard_waiting.proofs.LearnLemmas.{all-found, with-found, with-set}
@@ -38,8 +39,10 @@ use Rattle.ndc_shard_workflows.specs.Arriving.{AreArriving, ComesFrom}
 use Rattle.ndc_shard_workflows.specs.Messages.{own_message_of}
 use Rattle.ndc_shard_workflows.specs.Terms.{TermsValue}
 use Rattle.ndc_shard_workflows.specs.Workflow.{IsWorkflow, beside}
-use Rattle.ndc_shard_workflows.specs.Workflows.{IsAdmittedTo}
+use Rattle.ndc_shard_workflows.specs.Workflows.{IsAdmittedTo, IsHandedTo}
 use Rattle.ndc_shard_workflows.specs.declared.admission.Admission.{Admission}
+use Rattle.ndc_shard_workflows.specs.declared.admission.Admission.TheVariants as admission
+use Rattle.ndc_shard_workflows.specs.declared.admission.NotAdmitted.TheVariants as refused
 
 -- ---- carried batches of a workflow
 
@@ -201,7 +204,7 @@ module _ (before after : WorkflowValue) (is : IsWorkflow before) (then_is : IsWo
 
 -- ---- a cell, before and after
 
-module _ (terms : TermsValue) (sent : Message) (told : Admission) (old new : Cell) (admitted : IsAdmittedTo terms sent told old new) (is : IsCell old) (then_is : IsCell new)
+module _ (terms : TermsValue) (sent : Message) (told : Admission) (old new : Cell) (admitted : IsHandedTo terms sent told old new) (is : IsCell old) (then_is : IsCell new)
     (workflows : (d w : Name) → IsWorkflow (workflow_of d w old)) (workflows_then : (d w : Name) → IsWorkflow (workflow_of d w new)) (sound : IsSound (learned_of sent.batch.domain sent.batch.workflow old)) (places : List Place) (are : AreSent places old) where
   abbrev Here : Name → Name → Type 0
   Here d w = is_of d w sent.batch ≡ true
@@ -272,3 +275,46 @@ module _ (terms : TermsValue) (sent : Message) (told : Admission) (old new : Cel
       lone-there : (m : Message) → Among m (workflow_of m.batch.domain m.batch.workflow new).waiting → IsLone m
       lone-there m among = all-among IsLone (workflow_of m.batch.domain m.batch.workflow new).waiting m
           (by-workflow (λ x y. AllByRecursion IsLone x.waiting → AllByRecursion IsLone y.waiting) m.batch.domain m.batch.workflow (λ _. own-lone) (λ v e all. all) (lone-in m.batch.domain m.batch.workflow)) among
+
+-- nothing changed, or the message was handed to its workflow
+told-cases : (terms : TermsValue) (sent : Message) (told : Admission) (old new : Cell) → IsAdmittedTo terms sent told old new → (new ≡ old) ⊎ IsHandedTo terms sent told old new
+told-cases terms sent (admission.Refused (refused.Fault fault)) old new it = inl it.1
+told-cases terms sent (admission.Refused refused.OwnVersion) old new it = inr it.1
+told-cases terms sent (admission.Refused refused.OwnOrigin) old new it = inr it.1
+told-cases terms sent (admission.Refused (refused.Rival key waits)) old new it = inr it.1
+told-cases terms sent (admission.Refused refused.History) old new it = inr it.1
+told-cases terms sent (admission.Refused (refused.Misfit why)) old new it = inr it.1
+told-cases terms sent (admission.Refused refused.Full) old new it = inr it.1
+told-cases terms sent admission.Known old new it = inr it.1
+told-cases terms sent (admission.PutOff missing) old new it = inr it.1
+told-cases terms sent (admission.Learned batches aside) old new it = inr it.1
+
+module _ (terms : TermsValue) (sent : Message) (told : Admission) (old new : Cell) (admitted : IsAdmittedTo terms sent told old new) (is : IsCell old) (then_is : IsCell new)
+    (workflows : (d w : Name) → IsWorkflow (workflow_of d w old)) (workflows_then : (d w : Name) → IsWorkflow (workflow_of d w new)) (sound : (d w : Name) → IsSound (learned_of d w old)) (places : List Place) (are : AreSent places old) where
+  pub told-sent : AreSent places new
+  told-sent = by (told-cases terms sent told old new admitted)
+    where
+      by : (new ≡ old) ⊎ IsHandedTo terms sent told old new → AreSent places new
+      by (inl same) = subst (AreSent places) (sym same) are
+      by (inr handed) = admitted-sent terms sent told old new handed is then_is workflows workflows_then (sound sent.batch.domain sent.batch.workflow) places are
+
+  pub told-messages : messages_at places new ≡ messages_at places old
+  told-messages = by (told-cases terms sent told old new admitted)
+    where
+      by : (new ≡ old) ⊎ IsHandedTo terms sent told old new → messages_at places new ≡ messages_at places old
+      by (inl same) = ap (messages_at places) same
+      by (inr handed) = admitted-messages terms sent told old new handed is then_is workflows workflows_then (sound sent.batch.domain sent.batch.workflow) places are places are.sent
+
+-- what comes of a message at a shard, which is seen as its workflows with what it has written
+pub told-having : (terms : TermsValue) (sent : Message) (told : Admission) (old new : Cell) (before after : List Message) → after ≡ before → IsAdmittedTo terms sent told old new
+    → IsAdmittedTo terms sent told (having_written before old) (having_written after new)
+told-having terms sent (admission.Refused (refused.Fault fault)) old new before after same it = (it.0, λ i. having_written (same i) (it.1 i))
+told-having terms sent (admission.Refused refused.OwnVersion) old new before after same it = (it.0, record { own = it.1.own; grows = it.1.grows; others = it.1.others })
+told-having terms sent (admission.Refused refused.OwnOrigin) old new before after same it = (it.0, record { own = it.1.own; grows = it.1.grows; others = it.1.others })
+told-having terms sent (admission.Refused (refused.Rival key waits)) old new before after same it = (it.0, record { own = it.1.own; grows = it.1.grows; others = it.1.others })
+told-having terms sent (admission.Refused refused.History) old new before after same it = (it.0, record { own = it.1.own; grows = it.1.grows; others = it.1.others })
+told-having terms sent (admission.Refused (refused.Misfit why)) old new before after same it = (it.0, record { own = it.1.own; grows = it.1.grows; others = it.1.others })
+told-having terms sent (admission.Refused refused.Full) old new before after same it = (it.0, record { own = it.1.own; grows = it.1.grows; others = it.1.others })
+told-having terms sent admission.Known old new before after same it = (it.0, record { own = it.1.own; grows = it.1.grows; others = it.1.others })
+told-having terms sent (admission.PutOff missing) old new before after same it = (it.0, record { own = it.1.own; grows = it.1.grows; others = it.1.others })
+told-having terms sent (admission.Learned batches aside) old new before after same it = (it.0, record { own = it.1.own; grows = it.1.grows; others = it.1.others })

@@ -20,3 +20,4 @@ mod EndLemmas
 mod GapLemmas
 mod GroupLemmas
 pub mod AdmittedLemmas
+pub mod TryLemmas

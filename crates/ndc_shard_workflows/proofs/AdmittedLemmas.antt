@@ -12,8 +12,8 @@ use Rattle.ndc_model_cells.specs.Messages.{batches_of, HasSmallIds, IsMessage, I
 use Rattle.ndc_model_cells.specs.Places.{is_of}
 use Rattle.ndc_model_cells.specs.Workflow.{WorkflowValue}
 use Rattle.ndc_model_cells.specs.declared.message.Message.{Message}
-use Rattle.ndc_model_sets.specs.Learned.{has_key, learned}
-use Rattle.ndc_model_sets.specs.Sets.{Has, batch_at, earlier}
+use Rattle.ndc_model_sets.specs.Learned.{has_key, learned, IsPart}
+use Rattle.ndc_model_sets.specs.Sets.{Has, IsSet, batch_at, earlier}
 use Rattle.ndc_model_sets.specs.Sound.{IsSound}
 use Rattle.ndc_model_sets.proofs.BranchLemmas.{has-among}
 use Rattle.ndc_model_sets.proofs.Lists.{Among, all-among, all-from, all-join}
@@ -23,7 +23,8 @@ use Rattle.ndc_shard_waiting.specs.Learning.{with_message, with_messages, ArePut
 use Rattle.ndc_shard_waiting.specs.Waiting.{freed, freed_by, kept_by, put_off, still_put_off}
 use Rattle.ndc_shard_waiting.proofs.FreeLemmas.{all-there}
 use Rattle.ndc_shard_waiting.proofs.FreedLemmas.{all-freed, batches-freed}
-use Rattle.ndc_shard_waiting.proofs.LearnLemmas.{all-found, learned_is}
+use Rattle.ndc_shard_waiting.proofs.LearnLemmas.{all-found, learned_is, with-found, with-set}
+use Rattle.ndc_shard_waiting.proofs.KeptLemmas.{both-back}
 use Rattle.ndc_shard_waiting.proofs.OrderLemmas.{all-back, all-front, all-more}
 use Rattle.ndc_shard_waiting.proofs.PutLemmas.{all-put, batches-put}
 use Rattle.ndc_shard_workflows.specs.Admitting.{IsAdmitted, IsEarly, IsLearned, IsLone, IsNew, IsPutOff, IsRefusedFor, Settling, fit_in, is_faultless, is_second_faultless, is_whole, settled, settled_one, settled_with, tried}
@@ -186,7 +187,7 @@ module _ (sent : Message) (known : List Batch) (waiting : List Message) where
 -- no other carries the batch of a message that waits then
 pub admitted-lone : (terms : TermsValue) (sent : Message) (told : Admission) (before after : WorkflowValue) → IsAdmitted terms sent told before after → AllByRecursion IsLone before.waiting → AllByRecursion IsLone after.waiting
 admitted-lone terms sent (admission.Refused cause) before after is all = subst (λ (w : WorkflowValue). AllByRecursion IsLone w.waiting) (sym is.1) all
-admitted-lone terms sent admission.Known before after is all = subst (λ (w : WorkflowValue). AllByRecursion IsLone w.waiting) (sym is.2) all
+admitted-lone terms sent admission.Known before after is all = subst (λ (w : WorkflowValue). AllByRecursion IsLone w.waiting) (sym is.3) all
 admitted-lone terms sent (admission.PutOff missing) before after is all =
     subst (λ (w : WorkflowValue). AllByRecursion IsLone w.waiting) (sym is.1.waits)
     (all-filtered IsLone _ (put_off sent before.waiting) (all-put IsLone sent before.waiting (whole-lone sent is.1.early.whole) all))
@@ -215,7 +216,7 @@ module _ (domain workflow : Name) (terms : TermsValue) (sent : Message) (before 
 
   pub admitted-own : (told : Admission) → IsAdmitted terms sent told before after → IsOwn domain workflow after
   admitted-own (admission.Refused cause) it = same-own it.1
-  admitted-own admission.Known it = same-own it.2
+  admitted-own admission.Known it = same-own it.3
   admitted-own (admission.PutOff missing) it = record {
     is = is;
     sound = sound;
@@ -234,3 +235,16 @@ module _ (domain workflow : Name) (terms : TermsValue) (sent : Message) (before 
         waiting = subst (λ (w : WorkflowValue). AllByRecursion (λ m. Of m.batch) w.waiting) (sym it.1.workflow_is)
             (learned-waits sent (learned before.arrived) before.waiting (λ m. Of m.batch) first own.waiting);
       }
+
+-- what is learned only grows
+pub comes-part : (known after : List Batch) → IsSet known → ComesFrom known after → IsPart known after
+comes-part known after set comes = subst (IsPart known) (sym comes.is) (all-part comes.messages known set comes.are)
+  where
+    with-part : (sent : Message) (list : List Batch) → IsSet list → IsMessage sent → IsPart list (with_message sent list)
+    with-part sent list set message = λ b has. with-found sent list b.key set message.back ∙ ap (λ o. option_or o (batch_at b.key (both sent))) has
+
+    all-part : (messages : List Message) (list : List Batch) → IsSet list → AreArriving list messages → IsPart list (with_messages messages list)
+    all-part [] list set are = λ b has. has
+    all-part (sent ∷ messages) list set are =
+        let rest = all-part messages (with_message sent list) (with-set sent list set (both-back sent are.0.0)) are.1 in
+        λ b has. rest b (with-part sent list set are.0.0 b has)

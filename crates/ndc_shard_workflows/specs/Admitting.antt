@@ -1,5 +1,6 @@
 -- Messages of which nobody vouches: what becomes of one, and of those that waited for it.
 use Rattle.std.specs.Prelude.{◌≡◌, ◌<◌, ◌^◌, true, false, Bool, ◌&&◌, not, is_some, List, [], ◌∷◌, ◌++◌, Option, None, Result, Ok, Err, Some, IsOk, if◌then◌else◌}
+use Rattle.ndc_admission.specs.History.{history_ends}
 use Rattle.ndc_event.specs.Batch.{fault_of}
 use Rattle.ndc_model_cells.specs.Cells.{missing_of}
 use Rattle.ndc_model_cells.specs.Messages.{batches_of, IsNewTo}
@@ -22,7 +23,7 @@ use Rattle.ndc_shard_workflows.specs.declared.admission.AdmitError.TheVariants a
 use Rattle.ndc_shard_workflows.specs.declared.admission.NotAdmitted.{NotAdmitted}
 use Rattle.ndc_shard_workflows.specs.declared.admission.NotAdmitted.TheVariants as refused
 use Rattle.ndc_shard_workflows.specs.declared.admission.SetAside.{SetAside}
-use Rattle.ndc_shard_workflows.specs.Terms.{HasRival, IsForeign, IsKnown, TermsValue, has_unknown_own, is_unknown_own}
+use Rattle.ndc_shard_workflows.specs.Terms.{HasNoRival, HasRival, IsForeign, IsKnown, TermsValue, has_unknown_own, is_unknown_own}
 use Rattle.ndc_shard_workflows.specs.Workflow.{beside, empty_workflow, workflow_with}
 
 -- whether a batch has no fault of its own
@@ -109,21 +110,26 @@ IsTried may_wait sent (admission.Learned batches aside) before after = IsLearned
 pub record IsNew (terms : TermsValue) (sent : Message) (before : WorkflowValue) : Type 0 where
   pub foreign : IsForeign terms (learned before.arrived) sent
   pub new : IsNewTo before.arrived sent
+  pub history : history_ends sent ≡ true
 
 -- why a message is not admitted
 abbrev pub IsRefusedFor : TermsValue → Message → NotAdmitted → WorkflowValue → Type 0
+IsRefusedFor terms sent (refused.Fault fault) before = ⊥
 IsRefusedFor terms sent refused.OwnVersion before = is_unknown_own terms (learned before.arrived) sent.batch ≡ true
 IsRefusedFor terms sent refused.OwnOrigin before =
     (is_unknown_own terms (learned before.arrived) sent.batch ≡ false) × (has_unknown_own terms (learned before.arrived) sent ≡ true)
 IsRefusedFor terms sent (refused.Rival key waits) before =
     IsForeign terms (learned before.arrived) sent × HasRival before.arrived sent key × (waits ≡ not (has_key (Some key) (learned before.arrived)))
+IsRefusedFor terms sent refused.History before =
+    IsForeign terms (learned before.arrived) sent × HasNoRival before.arrived sent × (history_ends sent ≡ false)
 IsRefusedFor terms sent (refused.Misfit why) before = IsNew terms sent before × IsRefused sent why before
 IsRefusedFor terms sent refused.Full before = IsNew terms sent before × IsEarly sent before × (terms.may_wait ≡ false)
 
 -- what comes of a message that is handed to a workflow on these terms
 abbrev pub IsAdmitted : TermsValue → Message → Admission → WorkflowValue → WorkflowValue → Type 0
 IsAdmitted terms sent (admission.Refused cause) before after = IsRefusedFor terms sent cause before × (after ≡ before)
-IsAdmitted terms sent admission.Known before after = IsForeign terms (learned before.arrived) sent × IsKnown before.arrived sent × (after ≡ before)
+IsAdmitted terms sent admission.Known before after =
+    IsForeign terms (learned before.arrived) sent × IsKnown before.arrived sent × (history_ends sent ≡ true) × (after ≡ before)
 IsAdmitted terms sent (admission.PutOff missing) before after = IsNew terms sent before × IsPutOff sent missing before after × (terms.may_wait ≡ true)
 IsAdmitted terms sent (admission.Learned batches aside) before after = IsNew terms sent before × IsLearned sent batches aside.items before after
 

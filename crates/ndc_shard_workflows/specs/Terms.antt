@@ -9,6 +9,7 @@ use Rattle.ndc_event.specs.declared.key.BatchKey.{BatchKey}
 use Rattle.ndc_event.specs.declared.kind.EventKind.{EventKind}
 use Rattle.ndc_event.specs.declared.kind.EventKind.TheVariants.{WorkflowExecutionSignaled}
 use Rattle.ndc_model_cells.specs.Cells.{both}
+use Rattle.ndc_model_cells.specs.Messages.{IsNewTo}
 use Rattle.ndc_model_cells.specs.Writing.{is_writer}
 use Rattle.ndc_model_cells.specs.declared.message.Message.{Message}
 use Rattle.ndc_model_sets.specs.Learned.{has_key, learned}
@@ -77,6 +78,11 @@ pub record HasRival (arrived : List Batch) (sent : Message) (key : BatchKey) : T
   pub there : has_key (Some key) arrived ≡ true
   pub own : has_key (Some key) (both sent) ≡ true
   pub unknown : IsKnown arrived sent → ⊥
+
+-- a message has no rival: where its batch has arrived it has arrived itself, and else neither of its batches has
+pub record HasNoRival (arrived : List Batch) (sent : Message) : Type 0 where
+  pub known : has_key (Some sent.batch.key) arrived ≡ true → IsKnown arrived sent
+  pub new : has_key (Some sent.batch.key) arrived ≡ false → IsNewTo arrived sent
 
 -- a message may be looked at on these terms, as far as the cell's own versions go
 pub record IsForeign (terms : TermsValue) (known : List Batch) (sent : Message) : Type 0 where

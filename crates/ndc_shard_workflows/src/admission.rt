@@ -1,3 +1,4 @@
+use ndc_admission::MessageFault;
 use ndc_domain::{ClusterNo, Clusters};
 use ndc_event::BatchKey;
 use ndc_model_cells::Message;
@@ -31,6 +32,9 @@ impl<'a> Model for Terms<'a> {
 /// Why a message is not admitted: the first of these that holds.
 #[derive(Clone, Copy, Debug, PartialEq, Eq, Error)]
 pub enum NotAdmitted {
+    /// It is none that cells of these clusters send, whatever is learned here.
+    #[error("{0}")]
+    Fault(MessageFault),
     /// The cell's own cluster writes with the version of its batch, which is not learned here.
     #[error("the batch has a version of this cluster, which has not written it")]
     OwnVersion,
@@ -44,7 +48,10 @@ pub enum NotAdmitted {
         /// Whether that one is put off.
         waits: bool,
     },
-    /// It has a fault of its own, or its earlier key is learned and it does not fit.
+    /// Its version history does not end with its batch.
+    #[error("the version history does not end with the batch")]
+    History,
+    /// Its earlier key is learned, and it does not fit what is learned.
     #[error("{0}")]
     Misfit(Misfit),
     /// Its earlier key is not learned, and there is no room for one more message that waits.

@@ -5,6 +5,7 @@ ghost use Rattle.ndc_shard_workflows.specs.Terms.{has_unknown_own, is_own, is_un
 
 use crate::admission::{NotAdmitted, Terms};
 use crate::workflow::Workflow;
+use ndc_admission::history_ends;
 use ndc_event::{Batch, BatchKey, Event, EventKind};
 use ndc_model_cells::Message;
 use ndc_shard_runs::Runs;
@@ -66,20 +67,19 @@ fn has_unknown_own(terms: &Terms, runs: &Runs, message: &Message) -> bool
 
 impl Workflow {
     ghost use Rattle.std.specs.Prelude.{◌≡◌, true, false, not, Some, IfSome, IfNone};
-    ghost use Rattle.ndc_model_cells.specs.Messages.{IsNewTo};
     ghost use Rattle.ndc_model_sets.specs.Learned.{has_key, learned};
     ghost use Rattle.ndc_shard_workflows.specs.Admitting.{IsRefusedFor};
-    ghost use Rattle.ndc_shard_workflows.specs.Terms.{IsForeign, IsFreeFor, IsKnown, IsRivalOf, IsTaken, StandsAlone};
-    ghost use Rattle.ndc_shard_workflows.specs.Workflow.{has_arrived};
+    ghost use Rattle.ndc_shard_workflows.specs.Terms.{HasNoRival, IsForeign, IsFreeFor, IsRivalOf, IsTaken, StandsAlone};
+    ghost use Rattle.ndc_admission.specs.History.{history_ends};
     ghost use Rattle.ndc_shard_workflows.specs.declared.admission.NotAdmitted.TheVariants.{Rival};
 
-    /// Why a message is refused on these terms before it is tried: the cell's own versions, and another batch under one of its
-    /// keys. Where it is not, it has arrived or is new.
+    /// Why a message is refused on these terms before it is tried: the cell's own versions, another batch under one of its
+    /// keys, and its version history. Where it is not, it has arrived or is new.
     pub(crate) fn refusal(&self, terms: &Terms, message: &Message) -> Option<NotAdmitted>
         ensures refused { IfSome result (λ cause. IsRefusedFor terms.now message.now cause self.now) }
         ensures foreign { IfNone result (IsForeign terms.now (learned self.now.arrived) message.now) }
-        ensures known { IfNone result (has_arrived message.now.batch.key self.now ≡ true → IsKnown self.now.arrived message.now) }
-        ensures new { IfNone result (has_arrived message.now.batch.key self.now ≡ false → IsNewTo self.now.arrived message.now) }
+        ensures no_rival { IfNone result (HasNoRival self.now.arrived message.now) }
+        ensures history { IfNone result (history_ends message.now ≡ true) }
     {
         let runs = self.runs();
         if is_unknown_own(terms, runs, &message.batch) {
@@ -91,10 +91,15 @@ impl Workflow {
         if self.has_other(&message.batch) {
             return Some(self.rival(message.batch.key));
         }
-        match message.second.as_ref() {
-            Some(second) if self.is_taken(&message.batch, second) => Some(self.rival(second.key)),
-            _ => None,
+        if let Some(second) = message.second.as_ref() {
+            if self.is_taken(&message.batch, second) {
+                return Some(self.rival(second.key));
+            }
         }
+        if !history_ends(message) {
+            return Some(NotAdmitted::History);
+        }
+        None
     }
 
     /// Whether another batch stands under the key of this one.

@@ -11,19 +11,20 @@ ghost use Rattle.ndc_model_cells.specs.Workflow.{workflow_of};
 ghost use Rattle.ndc_shard_workflows.specs.Behind.{HoldBehind, first_behind, first_batch};
 ghost use Rattle.ndc_shard_workflows.specs.Due.{HoldDue};
 ghost use Rattle.ndc_shard_workflows.specs.Listed.{IsListedWhereBehind, IsListedWhereDue};
-ghost use Rattle.ndc_shard_workflows.specs.Workflows.{IsAdmittedTo};
+ghost use Rattle.ndc_shard_workflows.specs.Workflows.{IsHandedTo};
 ghost use Rattle.ndc_shard_workflows.specs.declared.admission.AdmitError.TheVariants.{Memory};
 ghost use Rattle.std.specs.List.{AllByRecursion};
 ghost use Rattle.ndc_model_cells.specs.Cells.{both};
 ghost use Rattle.ndc_model_cells.specs.Messages.{HasSmallIds, IsMessage};
 ghost use Rattle.ndc_model_cells.specs.Places.{is_of};
 
-use crate::admission::{Admission, AdmitError, NotWritten, Terms};
+use crate::admission::{Admission, AdmitError, NotAdmitted, NotWritten, Terms};
 use crate::arrival::{Admitted, Arrival, Received};
 use crate::domains::Domains;
 use crate::due::DueListing;
 use crate::listing::Listing;
 use crate::workflow::Workflow;
+use ndc_admission::first_fault;
 use ndc_event::{Batch, Name, OutOfMemory};
 use ndc_model_cells::{Message, Place};
 use ndc_state::Steps;
@@ -151,10 +152,9 @@ impl Workflows {
     }
 
     /// A message of which nobody vouches is handed to its workflow on these terms ([`Workflow::admit`]); all other workflows
-    /// stay as they are. For want of memory nothing changes ([`AdmitError::Memory`]), or, where it is learned, nothing has
-    /// arrived any more ([`AdmitError::Spent`]).
-    ///
-    /// It is a message as cells write them: what it carries is of its workflow, and event ids are at most 10^12.
+    /// stay as they are. Refused first where it is none that cells of these clusters send, whatever is learned
+    /// ([`NotAdmitted::Fault`]). For want of memory nothing changes ([`AdmitError::Memory`]), or, where it is learned, nothing
+    /// has arrived any more ([`AdmitError::Spent`]). Of the message nothing is asked.
     pub fn admit<L>(
         &mut self,
         alloc: Global,
@@ -162,13 +162,15 @@ impl Workflows {
         message: Message,
         steps: &mut Steps<L>,
     ) -> Result<Admission, AdmitError>
-        requires message { IsMessage message }
-        requires second { IfSome message.second (λ b. is_of message.batch.domain message.batch.workflow b ≡ true) }
-        requires ids { AllByRecursion HasSmallIds (both message) }
         ensures admitted { IfOk result (λ admission. IsAdmittedTo terms.now message admission self.old self.new) }
         ensures memory { result ≡ Err Memory → self.new ≡ self.old }
         ensures spent { result ≡ Err Spent → self.new ≡ empty_cell }
     {
+        if let Some(fault) = first_fault(&message, terms.clusters) {
+            return Ok(Admission::Refused {
+                cause: NotAdmitted::Fault(fault),
+            });
+        }
         match admit_in(
             &mut self.domains,
             &mut self.due,
@@ -358,7 +360,7 @@ fn admit_in<L>(
     requires message { IsMessage message }
     requires second { IfSome message.second (λ b. is_of message.batch.domain message.batch.workflow b ≡ true) }
     requires ids { AllByRecursion HasSmallIds (both message) }
-    ensures admitted { IfOk result (λ admission. IsAdmittedTo terms.now message admission domains.old domains.new) }
+    ensures handed { IfOk result (λ admission. IsHandedTo terms.now message admission domains.old domains.new) }
     ensures hold { OnOk result (HoldDue due.new domains.new) }
     ensures waiting { OnOk result (HoldBehind behind.new domains.new) }
     ensures domains_kept { result ≡ Err Memory → domains.new ≡ domains.old }

@@ -4,8 +4,8 @@ use Rattle.ndc_shard_workflows.specs.Listed.{IsListedWhereBehind, IsListedWhereD
 use Rattle.ndc_shard_workflows.proofs.HandedLemmas.{behind-handed, due-handed}
 use Rattle.ndc_shard_workflows.proofs.workflows.admit_in.Goals as goal
 
-pub returns-in-Ok-list_in-clause-admitted : goal.returns-in-Ok-list_in-clause-admitted
-returns-in-Ok-list_in-clause-admitted g c = record { own = c.in-Ok.ensures.admitted; grows = c.in-Ok.ensures.comes; others = c.in-Ok.ensures.others }
+pub returns-in-Ok-list_in-clause-handed : goal.returns-in-Ok-list_in-clause-handed
+returns-in-Ok-list_in-clause-handed g c = record { own = c.in-Ok.ensures.admitted; grows = c.in-Ok.ensures.comes; others = c.in-Ok.ensures.others }
 
 pub returns-in-Ok-list_in-clause-hold : goal.returns-in-Ok-list_in-clause-hold
 returns-in-Ok-list_in-clause-hold g c =
