@@ -1,5 +1,5 @@
 -- What a message of which nobody vouches makes of a workflow.
-use Rattle.std.proofs.Common.{◌≡◌, Bool, true, false, not, ◌&&◌, is_some, List, [], ◌∷◌, ◌++◌, Option, Some, None, IfSome, Result, Ok, Err, IsOk, refl, sym, ◌∙◌, subst, ap, true≢false}
+use Rattle.std.proofs.Common.{◌≡◌, Bool, true, false, not, ◌&&◌, is_some, List, [], ◌∷◌, ◌++◌, Option, Some, None, IfSome, Result, Ok, Err, IsOk, refl, sym, ◌∙◌, subst, ap}
 use Rattle.std.specs.Prelude.{option_to_list, if◌then◌else◌}
 use Rattle.std.specs.Option.{option_or}
 use Rattle.std.specs.List.{AllByRecursion}
@@ -16,29 +16,28 @@ use Rattle.ndc_model_sets.specs.Learned.{has_key, learned, IsPart}
 use Rattle.ndc_model_sets.specs.Sets.{Has, IsSet, batch_at, earlier}
 use Rattle.ndc_model_sets.specs.Sound.{IsSound}
 use Rattle.ndc_model_sets.proofs.BranchLemmas.{has-among}
-use Rattle.ndc_model_sets.proofs.Lists.{Among, all-among, all-from, all-join}
+use Rattle.ndc_model_sets.proofs.Lists.{all-among, all-from, all-join}
 use Rattle.ndc_run.specs.declared.answer.Learned.{Learned}
 use Rattle.ndc_shard_runs.specs.declared.misfit.Misfit.{Misfit}
 use Rattle.ndc_shard_waiting.specs.Learning.{with_message, with_messages, ArePutOff}
 use Rattle.ndc_shard_waiting.specs.Waiting.{freed, freed_by, kept_by, put_off, still_put_off}
 use Rattle.ndc_shard_waiting.proofs.FreeLemmas.{all-there}
 use Rattle.ndc_shard_waiting.proofs.FreedLemmas.{all-freed, batches-freed}
-use Rattle.ndc_shard_waiting.proofs.LearnLemmas.{all-found, learned_is, with-found, with-set}
+use Rattle.ndc_shard_waiting.proofs.LearnLemmas.{all-found, with-found, with-set}
 use Rattle.ndc_shard_waiting.proofs.KeptLemmas.{both-back}
 use Rattle.ndc_shard_waiting.proofs.OrderLemmas.{all-back, all-front, all-more}
 use Rattle.ndc_shard_waiting.proofs.PutLemmas.{all-put, batches-put}
-use Rattle.ndc_shard_workflows.specs.Admitting.{IsAdmitted, IsEarly, IsLearned, IsLone, IsNew, IsPutOff, IsRefusedFor, Settling, fit_in, is_faultless, is_second_faultless, is_whole, settled, settled_one, settled_with, tried}
+use Rattle.ndc_shard_workflows.specs.Admitting.{IsAdmitted, IsLone, Settling, fit_in, is_faultless, is_second_faultless, is_whole, settled, settled_one, settled_with, tried}
 use Rattle.ndc_shard_workflows.specs.Arriving.{AreArriving, ComesFrom}
-use Rattle.ndc_shard_workflows.specs.Settling.{CanSettle, IsLeft, IsSettled}
+use Rattle.ndc_shard_workflows.specs.Settling.{CanSettle, IsSettled}
 use Rattle.ndc_shard_workflows.specs.Terms.{TermsValue}
 use Rattle.ndc_shard_workflows.specs.declared.admission.Admission.{Admission}
 use Rattle.ndc_shard_workflows.specs.declared.admission.Admission.TheVariants as admission
-use Rattle.ndc_shard_workflows.specs.declared.admission.NotAdmitted.{NotAdmitted}
 use Rattle.ndc_shard_workflows.specs.declared.admission.SetAside.{SetAside}
-use Rattle.ndc_shard_workflows.specs.Workflow.{IsWorkflow, beside, workflow_with}
+use Rattle.ndc_shard_workflows.specs.Workflow.{IsWorkflow}
 use Rattle.ndc_shard_workflows.specs.Workflows.{IsOwn}
 use Rattle.ndc_shard_workflows.proofs.OwnLemmas.{all-arrived, all-filtered, all-second}
-use Rattle.ndc_shard_workflows.proofs.PutOffLemmas.{new-to-known, new-to-waiting, put-off-with}
+use Rattle.ndc_shard_workflows.proofs.PutOffLemmas.{new-to-known, new-to-waiting}
 use Rattle.ndc_shard_workflows.proofs.SettleLemmas.{can-begin, settled-next}
 
 -- ---- what holds of all batches
@@ -226,7 +225,7 @@ module _ (domain workflow : Name) (terms : TermsValue) (sent : Message) (before 
   }
   admitted-own (admission.Learned batches aside) it =
       let hold = learned-holds sent (learned before.arrived) before.waiting Of each (all-known Of (learned before.arrived) before.waiting own.is.apart beside-all)
-          (all-waiting Of (learned before.arrived) before.waiting own.is.apart beside-all) in
+      (all-waiting Of (learned before.arrived) before.waiting own.is.apart beside-all) in
       record {
         is = is;
         sound = sound;

@@ -8,7 +8,7 @@ use Rattle.ndc_event.specs.declared.key.BatchKey.{BatchKey}
 use Rattle.ndc_model_cells.specs.Cells.{both, missing_of}
 use Rattle.ndc_model_cells.specs.Messages.{batches_of, HasSmallIds, IsMessage, IsNewTo}
 use Rattle.ndc_model_cells.specs.declared.message.Message.{Message}
-use Rattle.ndc_model_sets.specs.Learned.{has_key, learned, IsClosed}
+use Rattle.ndc_model_sets.specs.Learned.{has_key, learned}
 use Rattle.ndc_model_sets.specs.Sets.{Has, IsSet, PointsBack, batch_at, earlier}
 use Rattle.ndc_model_sets.proofs.Lists.{all-join}
 use Rattle.ndc_model_sets.proofs.SetLemmas.{after-trans, at-first, none-there}
@@ -24,7 +24,7 @@ use Rattle.ndc_shard_waiting.proofs.OrderLemmas.{Precede, all-back, all-front, a
 use Rattle.ndc_shard_waiting.proofs.PutLemmas.{apart-flip, batches-put, put-found}
 use Rattle.ndc_run.specs.declared.answer.Learned.{Learned}
 use Rattle.ndc_shard_runs.specs.declared.misfit.Misfit.{Misfit}
-use Rattle.ndc_shard_workflows.specs.Admitting.{IsEarly, IsLearned, IsPutOff, IsRefused, IsTried, Settling, fit_in, is_whole, settled, settled_one, settled_with, tried}
+use Rattle.ndc_shard_workflows.specs.Admitting.{IsEarly, IsPutOff, IsRefused, IsTried, Settling, fit_in, is_whole, settled, settled_one, settled_with, tried}
 use Rattle.ndc_shard_workflows.specs.Settling.{CanSettle, IsLeft, IsSettled}
 use Rattle.ndc_shard_workflows.specs.declared.admission.Admission.{Admission}
 use Rattle.ndc_shard_workflows.specs.declared.admission.SetAside.{SetAside}

@@ -12,7 +12,7 @@ use Rattle.ndc_model_cells.specs.Cells.{both}
 use Rattle.ndc_model_cells.specs.Messages.{IsNewTo}
 use Rattle.ndc_model_cells.specs.Writing.{is_writer}
 use Rattle.ndc_model_cells.specs.declared.message.Message.{Message}
-use Rattle.ndc_model_sets.specs.Learned.{has_key, learned}
+use Rattle.ndc_model_sets.specs.Learned.{has_key}
 use Rattle.ndc_model_sets.specs.Sets.{Has, batch_at}
 use Rattle.ndc_shard_runs.specs.Copies.{event_of}
 

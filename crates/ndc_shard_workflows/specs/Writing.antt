@@ -1,11 +1,10 @@
 -- What may be written to a workflow of a cell.
-use Rattle.std.specs.Prelude.{◌≡◌, true, false, None, IfSome}
+use Rattle.std.specs.Prelude.{◌≡◌, true, false, IfSome}
 use Rattle.std.specs.List.{AllByRecursion}
 use Rattle.ndc_model_cells.specs.declared.message.Message.{Message}
 use Rattle.ndc_model_cells.specs.Cells.{both}
 use Rattle.ndc_model_cells.specs.Places.{is_of}
 pub use Rattle.ndc_shard_runs.specs.Fitting.{GoesBehind}
-use Rattle.ndc_event.specs.declared.batch.Batch.{Batch}
 use Rattle.ndc_model_sets.specs.Learned.{has_key, learned}
 use Rattle.ndc_model_sets.specs.Sets.{earlier, PointsBack}
 use Rattle.ndc_model_sets.specs.Sound.{IsSound}

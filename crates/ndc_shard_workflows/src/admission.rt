@@ -71,7 +71,9 @@ pub enum NotWritten {
     },
     /// A message that is put off waits for the batch, or for the one that goes right after it. Its key is the least such one.
     #[error("the batch {key:?} waits for what would be written")]
-    Awaited { key: BatchKey },
+    Awaited {
+        key: BatchKey,
+    },
     /// It does not fit what is learned.
     #[error("{0}")]
     Misfit(Misfit),

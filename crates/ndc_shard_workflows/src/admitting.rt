@@ -205,13 +205,7 @@ pub(crate) fn admit<L>(
         let missing = waiting.missing(key);
         return Ok(Admission::PutOff { missing });
     }
-    match fit(
-        runs,
-        alloc,
-        &message.batch,
-        message.second.as_ref(),
-        steps,
-    ) {
+    match fit(runs, alloc, &message.batch, message.second.as_ref(), steps) {
         Ok(_) => match go_on(runs, waiting, alloc, message, steps) {
             Ok(admission) => Ok(admission),
             Err(_) => Err(AdmitError::Spent),

@@ -9,8 +9,7 @@ use Rattle.ndc_shard_runs.specs.Kept.{is_due}
 use Rattle.ndc_shard_workflows.specs.Admitting.{IsAdmitted}
 use Rattle.ndc_shard_workflows.specs.Arriving.{ComesFrom}
 use Rattle.ndc_shard_workflows.specs.Named.{IsPut, StayUnder, under}
-use Rattle.ndc_shard_workflows.specs.Workflows.{AreDomains, AreOwn, DomainValue, OthersStay, cell_of, workflow_or_empty}
-use Rattle.ndc_shard_workflows.proofs.DomainLemmas.{none-own}
+use Rattle.ndc_shard_workflows.specs.Workflows.{AreOwn, DomainValue, OthersStay, cell_of, workflow_or_empty}
 use Rattle.ndc_shard_workflows.proofs.HandedLemmas.{others-stay, put-at}
 use Rattle.ndc_shard_workflows.proofs.NameLemmas.{put-holds}
 use Rattle.ndc_shard_workflows.proofs.PutLemmas.{map-put, same-put}

@@ -1,4 +1,4 @@
-use Rattle.std.proofs.Common.{List, sym, ◌∙◌, subst, ap}
+use Rattle.std.proofs.Common.{List, sym, subst}
 use Rattle.ndc_event.specs.declared.batch.Batch.{Batch}
 use Rattle.ndc_model_sets.specs.Learned.{learned}
 use Rattle.ndc_model_sets.specs.Sound.{IsSound}

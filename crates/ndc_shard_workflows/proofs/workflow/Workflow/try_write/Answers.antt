@@ -1,14 +1,10 @@
-use Rattle.std.proofs.Common.{rules, ◌≡◌, List, Some, Err, not, sym, ◌∙◌, subst, ap, if◌then◌else◌}
+use Rattle.std.proofs.Common.{rules, List, Some, Err, not, sym, ◌∙◌, subst, ap, if◌then◌else◌}
 use Rattle.std.specs.Option.{option_copied}
 use Rattle.ndc_event.specs.declared.batch.Batch.{Batch}
 use Rattle.ndc_model_cells.specs.Messages.{carrying, IsNewTo}
 use Rattle.ndc_model_cells.specs.Workflow.{WorkflowValue}
-use Rattle.ndc_model_sets.specs.Learned.{has_key, learned}
-use Rattle.ndc_model_sets.specs.Sets.{earlier}
-use Rattle.ndc_run.specs.declared.answer.Learned.{Learned}
-use Rattle.ndc_shard_runs.specs.declared.misfit.Misfit.{Misfit}
+use Rattle.ndc_model_sets.specs.Learned.{has_key}
 use Rattle.ndc_shard_runs.specs.declared.misfit.Misfit.TheVariants.{ParentUnfit}
-use Rattle.ndc_shard_waiting.proofs.LearnLemmas.{learned_is}
 use Rattle.ndc_shard_workflows.specs.Admitting.{fit_in}
 use Rattle.ndc_shard_workflows.specs.Refused.{IsUnawaited}
 use Rattle.ndc_shard_workflows.specs.Workflow.{beside, with_written}
