@@ -19,3 +19,5 @@ mod BranchLemmas
 mod EndLemmas
 mod GapLemmas
 mod GroupLemmas
+pub mod AdmittedLemmas
+pub mod TryLemmas

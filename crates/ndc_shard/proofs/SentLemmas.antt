@@ -8,12 +8,12 @@ use Rattle.ndc_event.specs.declared.key.BatchKey.{BatchKey}
 use Rattle.ndc_event.specs.declared.name.Name.{Name}
 use Rattle.ndc_model_cells.proofs.CellLemmas.{others_arrived}
 use Rattle.ndc_model_cells.proofs.PlaceLemmas.{all-placed, set_of_workflow, written_arrives}
-use Rattle.ndc_model_cells.specs.Arrival.{arrived_at, cell_with, has_arrived, placed_second}
+use Rattle.ndc_model_cells.specs.Arrival.{arrived_at, cell_with, has_arrived, message_placed, placed_second}
 use Rattle.ndc_model_cells.specs.Cells.{Cell, IsCell, arrived_of, carries, learned_of, message_at}
 use Rattle.ndc_model_cells.specs.Allowed.{MayArrive}
 use Rattle.ndc_model_cells.specs.Laws.{arrived_second}
 use Rattle.ndc_model_cells.specs.Messages.{IsCarriedBy, IsMessage, IsNewTo, carrying}
-use Rattle.ndc_model_cells.specs.Places.{is_of, place_of, placed}
+use Rattle.ndc_model_cells.specs.Places.{is_at, is_of, place_lt, place_of, placed}
 use Rattle.ndc_model_cells.specs.Workflow.{workflow_of}
 use Rattle.ndc_model_cells.specs.Writing.{Entry, entry_message, with_batches, with_written}
 use Rattle.ndc_model_cells.specs.declared.message.Message.{Message}
@@ -35,6 +35,8 @@ use Rattle.ndc_shard_waiting.proofs.OrderLemmas.{all-more}
 use Rattle.ndc_shard_waiting.specs.Learning.{with_message}
 use Rattle.ndc_shard_workflows.proofs.BehindLemmas.{second-other}
 use Rattle.ndc_shard_workflows.proofs.CellLemmas.{own-names}
+use Rattle.ndc_shard_workflows.proofs.OwnLemmas.{all-filtered}
+use Rattle.ndc_shard_workflows.specs.Admitting.{IsLone}
 use Rattle.ndc_shard_workflows.proofs.PlaceLemmas.{place-is}
 use Rattle.ndc_shard_workflows.proofs.SameLemmas.{names-of}
 use Rattle.ndc_shard_workflows.specs.Messages.{own_message_of}
@@ -42,7 +44,7 @@ use Rattle.ndc_shard_workflows.specs.Writing.{MayBeWritten}
 use Rattle.ndc_state.specs.Replay.{history_of}
 
 -- the message at a place, by what has arrived of its workflow
-at-place : (cell : Cell) (place : Place) → own_message_of (arrived_of place.domain place.workflow cell) (batch_at place.key (learned_of place.domain place.workflow cell)) ≡ message_at cell place
+pub at-place : (cell : Cell) (place : Place) → own_message_of (arrived_of place.domain place.workflow cell) (batch_at place.key (learned_of place.domain place.workflow cell)) ≡ message_at cell place
 at-place cell place = place-is cell place (workflow_of place.domain place.workflow cell) refl
 
 -- a batch that no other one carries is one
@@ -153,8 +155,8 @@ module _ (old new : Cell) (sent : Message) (list : new.arrived ≡ placed_second
       both None carried of = first
       both (Some s) carried of = all-placed (HasCarrier new) s (placed sent.batch old.arrived) (second-carrier s carried of) first
 
-  pub are-sent : (places : List Place) → AreSent places old → AreSent places new
-  are-sent places are = record { sent = sent-stay places are.sent; carried = carriers-stay are.carried }
+  pub are-sent : (places : List Place) → AreSent places old → AllByRecursion IsLone new.waiting → AreSent places new
+  are-sent places are waits = record { sent = sent-stay places are.sent; carried = carriers-stay are.carried; lone = waits }
 
   -- nothing that has arrived is carried by the batch that was not there
   none-carried-in : (bs : List Batch) → AllByRecursion (HasCarrier old) bs → AllByRecursion (λ (o : Batch). carries sent.batch o ≡ false) (filter (is_of sent.batch.domain sent.batch.workflow) bs)
@@ -254,8 +256,18 @@ sent-there cell (first ∷ places) all zero place below at none =
 sent-there cell (first ∷ places) all (suc i) place below at none = sent-there cell places all.1 i place (omega (arith, below)) at none
 
 -- nothing was written
-pub none-sent : (cell : Cell) → cell.arrived ≡ [] → AreSent [] cell
-none-sent cell none = record { sent = tt; carried = subst (AllByRecursion (HasCarrier cell)) (sym none) tt }
+pub none-sent : (cell : Cell) → cell.arrived ≡ [] → cell.waiting ≡ [] → AreSent [] cell
+none-sent cell none waits = record { sent = tt; carried = subst (AllByRecursion (HasCarrier cell)) (sym none) tt; lone = subst (AllByRecursion IsLone) (sym waits) tt }
+
+-- a message goes to the place of its batch
+placed-lone : (new : Message) (messages : List Message) → IsLone new → AllByRecursion IsLone messages → AllByRecursion IsLone (message_placed new messages)
+placed-lone new [] lone all = (lone, tt)
+placed-lone new (sent ∷ messages) lone all = by (placed-lone new messages lone all.1) (place_lt (place_of new.batch) (place_of sent.batch)) (is_at (place_of new.batch) sent.batch)
+  where
+    by : AllByRecursion IsLone (message_placed new messages) → (t u : Bool) → AllByRecursion IsLone (if t then new ∷ sent ∷ messages else if u then sent ∷ messages else sent ∷ message_placed new messages)
+    by rest true u = (lone, all)
+    by rest false true = all
+    by rest false false = (all.0, rest)
 
 -- a message arrives, and may be known
 module _ (sent : Message) (old : Cell) (places : List Place) (is : IsCell old) (may : MayArrive sent old) where
@@ -266,6 +278,7 @@ module _ (sent : Message) (old : Cell) (places : List Place) (is : IsCell old) (
       by : (t : Bool) → has_arrived sent.batch old ≡ t → AreSent places (if t then old else cell_with sent old)
       by true known = are
       by false new = are-sent old (cell_with sent old) sent refl is may.message may.lone may.own (may.new new) places are
+          (all-filtered IsLone _ (message_placed sent old.waiting) (placed-lone sent old.waiting may.lone are.lone))
 
   pub arrived-messages : AreSent places old → messages_at places (arrived_at sent old) ≡ messages_at places old
   unfolding arrived_at
@@ -301,8 +314,8 @@ module _ (entry : Entry) (old : Cell) (places : List Place) (is : IsCell old) (l
 
   pub written-sent : AreSent (places ++ place_of entry.batch ∷ []) (with_batches entry old)
   written-sent =
-      let stay = are-sent old (with_batches entry old) sent refl is may.message lone may.may.own may.may.fresh places are in
-      record { sent = more places stay.sent; carried = stay.carried }
+      let stay = are-sent old (with_batches entry old) sent refl is may.message lone may.may.own may.may.fresh places are are.lone in
+      record { sent = more places stay.sent; carried = stay.carried; lone = stay.lone }
     where
       more : (ps : List Place) → AllByRecursion (IsSent (with_batches entry old)) ps → AllByRecursion (IsSent (with_batches entry old)) (ps ++ place_of entry.batch ∷ [])
       more [] all = (ap is_some there-now, tt)

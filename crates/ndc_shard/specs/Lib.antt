@@ -7,3 +7,4 @@ pub mod Loading
 pub mod Ends
 pub mod Gaps
 pub mod Histories
+pub mod Trying

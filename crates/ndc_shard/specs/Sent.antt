@@ -6,6 +6,7 @@ use Rattle.ndc_model_cells.specs.declared.message.Message.{Message}
 use Rattle.ndc_model_cells.specs.declared.place.Place.{Place}
 use Rattle.ndc_model_cells.specs.Cells.{Cell, arrived_of, message_at}
 use Rattle.ndc_model_sets.specs.Sets.{batch_at}
+use Rattle.ndc_shard_workflows.specs.Admitting.{IsLone}
 
 -- the messages of the batches at places, as the cell has them
 abbrev pub messages_at : List Place → Cell → List Message
@@ -24,7 +25,9 @@ is_lone (Some b) = not (is_some b.carrier)
 abbrev pub HasCarrier : Cell → Batch → Type 0
 HasCarrier cell b = IfSome b.carrier (λ key. is_lone (batch_at key (arrived_of b.domain b.workflow cell)) ≡ true)
 
--- the cell has the message of each place, and no batch has arrived without its carrier, which none carries
+-- the cell has the message of each place, no batch has arrived without its carrier, which none carries, and none carries the batch of a message
+-- that waits
 pub record AreSent (places : List Place) (cell : Cell) : Type 0 where
   pub sent : AllByRecursion (IsSent cell) places
   pub carried : AllByRecursion (HasCarrier cell) cell.arrived
+  pub lone : AllByRecursion IsLone cell.waiting

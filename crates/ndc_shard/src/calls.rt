@@ -1,15 +1,19 @@
-ghost use Rattle.std.specs.Prelude.{◌≡◌, map, IfOk};
+ghost use Rattle.std.specs.Prelude.{◌≡◌, ◌^◌, map, true, false, nat_le, Ok, IfOk};
+ghost use Rattle.std.specs.List.{list_all};
+ghost use Rattle.ndc_model_cells.specs.Writing.{batches_in};
+ghost use Rattle.ndc_shard.specs.Trying.{HasSmallIdsIn};
 ghost use Rattle.ndc_event.specs.Outcome.{Gives};
 ghost use Rattle.ndc_shard.specs.Answers.{keys_of, names_of};
 ghost use Rattle.ndc_shard.specs.declared.error.ShardError.TheVariants.{Memory};
 
-use crate::error::ShardError;
+use crate::error::{ShardError, TryError};
 use crate::shard::Shard;
 use ndc_cluster::{Desk, Home};
 use ndc_command::{Command, Refusal};
 use ndc_domain::DomainTable;
 use ndc_event::{Batch, BatchKey, Name, OutOfMemory};
 use ndc_model_cells::{Arrived, Message, Written};
+use ndc_shard_entries::Entry;
 use ndc_state::Steps;
 use std::alloc::Global;
 
@@ -43,8 +47,49 @@ fn places_of(alloc: Global, batches: &[Batch]) -> Result<Vec<(Name, Name, BatchK
     Ok(places)
 }
 
+/// The greatest id of an event that is written.
+const MOST_ID: u64 = 1_000_000_000_000;
+
+/// The keys of an entry: of its batch, and of the one that it carries.
+fn written_by(entry: &Entry) -> Written
+    ensures { keys_of (batches_in entry.now) ≡ Ok result }
+{
+    Written {
+        key: entry.batch().key,
+        second: match entry.second() {
+            None => None,
+            Some(second) => Some(second.key),
+        },
+    }
+}
+
+/// Whether the ids of all events of an entry are at most 10^12.
+fn has_small_ids(entry: &Entry) -> bool
+    ensures small { result ≡ true → HasSmallIdsIn entry.now }
+    ensures none { result ≡ false → HasSmallIdsIn entry.now → ⊥ }
+{
+    if !are_small(entry.batch()) {
+        return false;
+    }
+    match entry.second() {
+        None => true,
+        Some(second) => are_small(second),
+    }
+}
+
+/// Whether the event ids of a batch are at most 10^12.
+fn are_small(batch: &Batch) -> bool
+    ensures { result ≡ list_all (λ event. nat_le event.id (10 ^ 12)) batch.now.events }
+{
+    batch
+        .events
+        .as_slice()
+        .iter()
+        .all(|event| event.id <= MOST_ID)
+}
+
 impl Shard {
-    ghost use Rattle.std.specs.Prelude.{◌≡◌, ◌≢◌, map, IfOk, IfErr, OnOk, OnErr};
+    ghost use Rattle.std.specs.Prelude.{◌≡◌, ◌≢◌, map, Ok, IfOk, IfErr, OnOk, OnErr};
     ghost use Rattle.ndc_cluster.specs.Homes.{desk_of};
     ghost use Rattle.ndc_event.specs.Outcome.{Gives};
     ghost use Rattle.ndc_model_cells.specs.Keeping.{CanArrive, CanWrite, CanWriteEach};
@@ -52,6 +97,7 @@ impl Shard {
     ghost use Rattle.ndc_model_cells.specs.Jobs.{reapplied_in, reapplied_now, workflows_of, written_at};
     ghost use Rattle.ndc_model_cells.specs.Writing.{command_of, may_go_on, reset_at};
     ghost use Rattle.ndc_shard.specs.Answers.{answer_of, names_of};
+    ghost use Rattle.ndc_shard.specs.Trying.{IsNotTaken};
     ghost use Rattle.ndc_shard.specs.declared.error.ShardError.TheVariants.{Memory};
     ghost use Rattle.ndc_shard_workflows.specs.Reapplied.{IsReappliedInFirst};
 
@@ -97,6 +143,44 @@ impl Shard {
         let desk = Desk::new(home.clusters, home.me, home.limit, table);
         let batches = self.write_command(&desk, domain, workflow, command, steps)?;
         keys_of(batches.as_slice())
+    }
+
+    /// A command to a workflow of a shard of which nobody vouches: of what has arrived nothing is asked. The keys of what it
+    /// writes, or why it writes nothing: the tasks of what is learned leave no room ([`TryError::Full`]); its refusal, the first
+    /// that holds; an id of what would be written is above 10^12 ([`TryError::Full`]); something stands under the key that
+    /// would be written, waits for it, or what would be written does not fit ([`TryError::NotWritten`]). After an error the
+    /// shard stays as it was.
+    pub fn try_command<L>(
+        &mut self,
+        home: &Home,
+        table: &DomainTable,
+        domain: &Name,
+        workflow: &Name,
+        command: &Command,
+        steps: &mut Steps<L>,
+    ) -> Result<Written, TryError>
+        ensures written { IfOk result (λ written. answer_of (command_of (desk_of home.now table.now) domain.now workflow.now command.now self.old) ≡ Ok written) }
+        ensures cell { OnOk result (self.new ≡ written_at (command_of (desk_of home.now table.now) domain.now workflow.now command.now self.old) self.old) }
+        ensures refused { IfErr result (λ why. IsNotTaken why domain.now workflow.now (command_of (desk_of home.now table.now) domain.now workflow.now command.now self.old) self.old) }
+        ensures unchanged { OnErr result (self.new ≡ self.old) }
+    {
+        self.is_in_order();
+        let desk = Desk::new(home.clusters, home.me, home.limit, table);
+        if !self.has_tasks_left(domain, workflow) {
+            return Err(TryError::Full);
+        }
+        let entry = match self.command_entry(&desk, domain, workflow, command) {
+            Ok(entry) => entry,
+            Err(error) => return Err(TryError::from(error)),
+        };
+        if !has_small_ids(&entry) {
+            return Err(TryError::Full);
+        }
+        match self.try_write(&entry, steps) {
+            Ok(()) => {}
+            Err(cause) => return Err(TryError::NotWritten(cause)),
+        }
+        Ok(written_by(&entry))
     }
 
     /// A new run repeats the current one of a workflow up to an event, counted from 1: the key of the first batch that is

@@ -11,10 +11,13 @@ use ndc_model_cells::{Message, Place};
 use ndc_model_sets::Batches;
 use ndc_shard_entries::{Entry, command_entry, reapplication_entry, reset_entries, unless_behind};
 use ndc_shard_runs::Runs;
-use ndc_shard_workflows::{Arrival, Workflows};
+use ndc_shard_workflows::{Admission, AdmitError, Arrival, NotWritten, Terms, Workflows};
 use ndc_state::Steps;
 use std::alloc::Global;
 use std::marker::Model;
+
+/// The greatest task of what is learned of a workflow after which more may be written.
+const MOST_TASK: u64 = 1_000_000_000_000;
 
 /// One shard of one cluster: its workflows, and where the batches stand that it has written and that none carries, in the
 /// order of writing. Seen as the cell, which has written their messages.
@@ -47,11 +50,11 @@ impl Drop for Shard {
 }
 
 impl Shard {
-    ghost use Rattle.std.specs.Prelude.{◌≡◌, ◌≢◌, ◌<◌, ◌++◌, [], ◌∷◌, length, option_to_list, slice_get, None, Some, Ok, Err, MatchResult, IfSome, IfNone, IfOk, IfErr, IsTrue, OnOk, OnErr};
+    ghost use Rattle.std.specs.Prelude.{◌≡◌, ◌≢◌, ◌<◌, ◌≤◌, ◌^◌, ◌++◌, [], ◌∷◌, length, option_to_list, slice_get, None, Some, Ok, Err, MatchResult, IfSome, IfNone, IfOk, IfErr, IsTrue, OnOk, OnErr, true, false};
     ghost use Rattle.ndc_model_cells.specs.Arrival.{arrival_of, arrived_at, learned_by};
     ghost use Rattle.ndc_model_cells.specs.Cells.{empty_cell, learned_of};
     ghost use Rattle.ndc_model_cells.specs.Jobs.{all_batches, reapplied_in, reapplied_now, workflows_of, written_at};
-    ghost use Rattle.ndc_model_cells.specs.Writing.{Desk as DeskValue, command_of, may_write, reapplication_below, reapplication_of, reset_at, with_all_written, with_written};
+    ghost use Rattle.ndc_model_cells.specs.Writing.{Desk as DeskValue, command_of, greatest_task, may_write, reapplication_below, reapplication_of, reset_at, with_all_written, with_written};
     ghost use Rattle.ndc_command.specs.declared.refusal.CommandError.TheVariants.{Memory};
     ghost use Rattle.ndc_event.specs.Outcome.{Gives};
     ghost use Rattle.ndc_shard_runs.specs.Kept.{is_due};
@@ -63,12 +66,17 @@ impl Shard {
     ghost use Rattle.ndc_model_cells.specs.Messages.{carrying};
     ghost use Rattle.ndc_model_cells.specs.Workflow.{workflow_of};
     ghost use Rattle.ndc_shard_workflows.specs.Reapplied.{AreReapplied, IsReappliedAmongFirst, IsReappliedInFirst, MayReapplyAmong, reapplied_among, reapplied_at, written_among};
-    ghost use Rattle.ndc_shard_workflows.specs.Writing.{MayBeWritten};
+    ghost use Rattle.ndc_shard_workflows.specs.Writing.{IsMadeTogether, MayBeWritten};
+    ghost use Rattle.ndc_shard_workflows.specs.Refused.{IsNotWritten};
+    ghost use Rattle.ndc_model_cells.specs.Messages.{IsMessage};
     ghost use Rattle.std.specs.List.{AllByRecursion};
     ghost use Rattle.ndc_event.specs.declared.name.Name.{Name as Text};
     ghost use Rattle.ndc_model_cells.specs.Cells.{IsCell};
     ghost use Rattle.ndc_shard.specs.Sent.{HasCarrier};
     ghost use Rattle.ndc_shard_workflows.specs.Workflow.{IsWorkflow};
+    ghost use Rattle.ndc_shard_workflows.specs.Workflows.{IsAdmittedTo};
+    ghost use Rattle.ndc_shard_workflows.specs.declared.admission.AdmitError.TheVariants.{Memory as OutOfMemory, Spent};
+    ghost use Rattle.ndc_model_sets.specs.Sound.{IsSound};
 
     /// Nothing has happened.
     pub fn new(alloc: Global, _home: &Home) -> Result<Shard, OutOfMemory>
@@ -133,6 +141,17 @@ impl Shard {
         Some(self.workflows.find(domain, workflow)?.runs())
     }
 
+    /// Whether the tasks of what is learned of a workflow leave room for more.
+    pub(crate) fn has_tasks_left(&self, domain: &Name, workflow: &Name) -> bool
+        ensures left { result ≡ true → greatest_task (learned_of domain.now workflow.now self.now) ≤ 10 ^ 12 }
+        ensures none { result ≡ false → greatest_task (learned_of domain.now workflow.now self.now) ≤ 10 ^ 12 → ⊥ }
+    {
+        match self.runs(domain, workflow) {
+            Some(runs) => runs.greatest_task() <= MOST_TASK,
+            None => true,
+        }
+    }
+
     /// The version with which the cell may write to a workflow, that of its record of the domain, and what is learned of the
     /// workflow; none only where nothing is. Takes no memory. Refused with the first of these that holds:
     /// [`Refusal::UnknownDomain`] where there is no record, [`Refusal::NotActive`] with the version where another cluster
@@ -185,6 +204,37 @@ impl Shard {
         }
     }
 
+    /// A message of which nobody vouches is handed to the shard on these terms: of the message nothing is asked. It is refused
+    /// with the first cause of [`NotAdmitted`] that holds; it is known; it is put off; or it is learned, and of what waited for
+    /// it, in key order, each that fits ([`Admission`]). What is learned of each workflow stays sound, whatever came, and only
+    /// grows. For want of memory nothing changes ([`AdmitError::Memory`]), or, where the message is learned, nothing has arrived
+    /// or is written any more ([`AdmitError::Spent`]).
+    pub fn admit<L>(
+        &mut self,
+        terms: &Terms,
+        message: Message,
+        steps: &mut Steps<L>,
+    ) -> Result<Admission, AdmitError>
+        ensures admitted { IfOk result (λ admission. IsAdmittedTo terms.now message admission self.old self.new) }
+        ensures written { OnOk result (self.new.written ≡ self.old.written) }
+        ensures sound { OnOk result ((domain workflow : Text) → IsSound (learned_of domain workflow self.new)) }
+        ensures memory { result ≡ Err OutOfMemory → self.new ≡ self.old }
+        ensures spent { result ≡ Err Spent → self.new ≡ empty_cell }
+    {
+        self.workflows.is_in_order();
+        match self.workflows.admit(self.alloc, terms, message, steps) {
+            Ok(admission) => {
+                self.workflows.is_in_order();
+                Ok(admission)
+            }
+            Err(AdmitError::Memory) => Err(AdmitError::Memory),
+            Err(AdmitError::Spent) => {
+                self.places.clear();
+                Err(AdmitError::Spent)
+            }
+        }
+    }
+
     /// Writes an entry: its batches are learned in their workflow, and its message goes last among those written. For want of
     /// memory nothing changes.
     fn write<L>(&mut self, entry: &Entry, steps: &mut Steps<L>) -> Result<(), OutOfMemory>
@@ -198,6 +248,35 @@ impl Shard {
         self.places.reserve(1)?;
         self.workflows
             .write(self.alloc, entry.batch(), entry.second(), steps)?;
+        self.places.push_reserved(place);
+        Ok(())
+    }
+
+    /// Writes an entry for which nobody vouches: its batches are learned in their workflow, and its message goes last among
+    /// those written. It is not where something stands under their keys, something waits for them, or they do not fit; after
+    /// an error nothing changes.
+    pub(crate) fn try_write<L>(
+        &mut self,
+        entry: &Entry,
+        steps: &mut Steps<L>,
+    ) -> Result<(), NotWritten>
+        requires message { IsMessage (carrying entry.now.batch entry.now.second) }
+        requires made { IsMadeTogether (carrying entry.now.batch entry.now.second) }
+        requires lone { entry.now.batch.carrier ≡ None }
+        ensures ok { OnOk result (self.new ≡ with_written entry.now self.old) }
+        ensures refused { IfErr result (λ cause. IsNotWritten cause (carrying entry.now.batch entry.now.second) (workflow_of entry.now.batch.domain entry.now.batch.workflow self.old)) }
+        ensures err { OnErr result (self.new ≡ self.old) }
+    {
+        self.workflows.is_in_order();
+        let place = place_of(entry.batch())?;
+        self.places.reserve(1)?;
+        match self
+            .workflows
+            .try_write(self.alloc, entry.batch(), entry.second(), steps)
+        {
+            Ok(()) => {}
+            Err(cause) => return Err(cause),
+        }
         self.places.push_reserved(place);
         Ok(())
     }
@@ -244,14 +323,14 @@ impl Shard {
 
     /// What a command writes.
     #[tactic(auto, unfolding(ndc_model_cells::specs::Writing::command_of))]
-    fn command_entry(
+    pub(crate) fn command_entry(
         &self,
         desk: &Desk,
         domain: &Name,
         workflow: &Name,
         command: &Command,
     ) -> Result<Entry, CommandError>
-        requires { HasRoom (learned_of domain.now workflow.now self.now) }
+        requires { greatest_task (learned_of domain.now workflow.now self.now) ≤ 10 ^ 12 }
         ensures entries { Gives Memory (λ entry. entry ∷ []) result (command_of desk.now domain.now workflow.now command.now self.now) }
         ensures fit { IfOk result (λ _. IsFit domain.now workflow.now self.now) }
     {
@@ -269,14 +348,14 @@ impl Shard {
 
     /// What a reset writes.
     #[tactic(auto, unfolding(ndc_model_cells::specs::Writing::reset_at))]
-    fn reset_entries(
+    pub(crate) fn reset_entries(
         &self,
         desk: &Desk,
         domain: &Name,
         workflow: &Name,
         event: u64,
     ) -> Result<Vec<Entry>, CommandError>
-        requires { HasRoom (learned_of domain.now workflow.now self.now) }
+        requires { greatest_task (learned_of domain.now workflow.now self.now) ≤ 10 ^ 12 }
         ensures entries { Gives Memory (λ entries. entries.items) result (reset_at desk.now domain.now workflow.now event self.now) }
         ensures fit { IfOk result (λ _. IsFit domain.now workflow.now self.now) }
     {

@@ -113,7 +113,9 @@ module _ (entry : Entry) (cell : Cell) (is : IsCell cell) (workflow : IsWorkflow
           (subst (λ (k : Name). is_due (learned_of entry.batch.domain k (with_batches entry cell)) ≡ false) names.1 (settled-then (listed.alone out) (listed.settled out)))
       by false f = ap is_due (others_learned d w entry cell f (second-other d w entry.batch entry.second f may.own)) ∙ hold d w (listed.kept d w e)
 
-  pub hold-either : {A E : Type 0} (r : Result A E) (before after : Names) (new : Cell) → OnOk r (new ≡ with_batches entry cell) → OnErr r (new ≡ cell) → HoldDue before cell
-      → OnOk r (IsListedBefore entry.batch entry.second (learned own.arrived) before after) → ((d w : Name) → is_listed d w after ≡ false → is_listed d w before ≡ false) → HoldDue after new
-  hold-either (Ok x) before after new e f hold listed kept = subst (HoldDue after) (sym e) (hold-written before after hold listed)
-  hold-either (Err x) before after new e f hold listed kept = subst (HoldDue after) (sym f) (hold-more before after cell kept hold)
+-- the same, whether it is written or not
+pub hold-either : (entry : Entry) (cell : Cell) → IsCell cell → IsWorkflow (workflow_of entry.batch.domain entry.batch.workflow cell) → {A E : Type 0} (r : Result A E) (before after : Names) (new : Cell)
+    → OnOk r (MayBeWrittenTogether (carrying entry.batch entry.second) (workflow_of entry.batch.domain entry.batch.workflow cell)) → OnOk r (new ≡ with_batches entry cell) → OnErr r (new ≡ cell) → HoldDue before cell
+    → OnOk r (IsListedBefore entry.batch entry.second (learned_of entry.batch.domain entry.batch.workflow cell) before after) → ((d w : Name) → is_listed d w after ≡ false → is_listed d w before ≡ false) → HoldDue after new
+hold-either entry cell is workflow (Ok x) before after new may e f hold listed kept = subst (HoldDue after) (sym e) (hold-written entry cell is workflow may before after hold listed)
+hold-either entry cell is workflow (Err x) before after new may e f hold listed kept = subst (HoldDue after) (sym f) (hold-more before after cell kept hold)

@@ -1,5 +1,5 @@
 -- Messages that leave what is learned sound all fit.
-use Rattle.std.proofs.Common.{◌≡◌, ◌<◌, ◌^◌, ℕ, Bool, true, false, not, ◌&&◌, is_some, max, List, [], ◌∷◌, ◌++◌, Option, Some, None, IfSome, Result, Ok, Err, IsOk, refl, sym, ◌∙◌, subst, ap, arith, append_assoc}
+use Rattle.std.proofs.Common.{◌≡◌, ◌<◌, ◌^◌, Bool, true, not, ◌&&◌, is_some, List, [], ◌∷◌, ◌++◌, Option, Some, None, IfSome, Result, Ok, Err, IsOk, refl, sym, ◌∙◌, subst, ap, arith, append_assoc}
 use Rattle.std.specs.Prelude.{if◌then◌else◌}
 use Rattle.std.specs.List.{AllByRecursion}
 use Rattle.std.proofs.lemmas.Bool.{and_from}
@@ -27,11 +27,10 @@ use Rattle.ndc_shard_waiting.specs.Waiting.{freed, freed_by, still_put_off}
 use Rattle.ndc_shard_waiting.proofs.FreedLemmas.{all-freed, batches-freed}
 use Rattle.ndc_shard_waiting.proofs.KeptLemmas.{carried-after}
 use Rattle.ndc_shard_waiting.proofs.OrderLemmas.{all-back, all-front, not-at}
-use Rattle.ndc_shard_workflows.specs.Admitting.{HasSmallTask, IsLone, Settling, fit_in, is_faultless, is_second_faultless, is_whole, settled, settled_one, settled_with, tried}
+use Rattle.ndc_shard_workflows.specs.Admitting.{HasSmallTask, IsLone, Settling, fit_in, is_faultless, is_second_faultless, is_whole, settled, settled_one, settled_with}
 use Rattle.ndc_shard_workflows.specs.Learnable.{CanBeLearned}
 use Rattle.ndc_shard_workflows.proofs.FreedLemmas.{freed-can}
 use Rattle.ndc_shard_workflows.proofs.LearnableLemmas.{next-sound, others-can}
-use Rattle.ndc_shard_workflows.proofs.PutOffLemmas.{new-to-known}
 use Rattle.ndc_shard_workflows.proofs.SettleLemmas.{learned-there}
 
 -- messages that are gone over, with none set aside

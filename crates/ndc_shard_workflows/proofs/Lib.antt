@@ -34,3 +34,6 @@ pub mod WaitLemmas
 pub mod WriteLemmas
 pub mod SettleLemmas
 pub mod HonestLemmas
+pub mod AdmittedLemmas
+pub mod TriedLemmas
+pub mod HandedLemmas

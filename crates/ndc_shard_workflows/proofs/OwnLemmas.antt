@@ -30,21 +30,21 @@ all-cases P true t one two three a b c = a
 all-cases P false true one two three a b c = b
 all-cases P false false one two three a b c = c
 
-all-arrived : (P : Batch → Type 0) (new : Batch) (batches : List Batch) → P new → AllByRecursion P batches → AllByRecursion P (arrived new batches)
+pub all-arrived : (P : Batch → Type 0) (new : Batch) (batches : List Batch) → P new → AllByRecursion P batches → AllByRecursion P (arrived new batches)
 all-arrived P new [] p all = (p, tt)
 all-arrived P new (b ∷ batches) p all =
     all-cases P (key_lt new.key b.key) (key_eq new.key b.key) (new ∷ b ∷ batches) (b ∷ batches) (b ∷ arrived new batches) (p, all) all (all.0, all-arrived P new batches p all.1)
 
-all-second : (P : Batch → Type 0) (second : Option Batch) (batches : List Batch) → IfSome second P → AllByRecursion P batches → AllByRecursion P (arrived_second second batches)
+pub all-second : (P : Batch → Type 0) (second : Option Batch) (batches : List Batch) → IfSome second P → AllByRecursion P batches → AllByRecursion P (arrived_second second batches)
 all-second P None batches p all = all
 all-second P (Some b) batches p all = all-arrived P b batches p all
 
-all-put : (P : Message → Type 0) (new : Message) (waiting : List Message) → P new → AllByRecursion P waiting → AllByRecursion P (put_off new waiting)
+pub all-put : (P : Message → Type 0) (new : Message) (waiting : List Message) → P new → AllByRecursion P waiting → AllByRecursion P (put_off new waiting)
 all-put P new [] p all = (p, tt)
 all-put P new (sent ∷ waiting) p all =
     all-cases P (key_lt new.batch.key sent.batch.key) (key_eq new.batch.key sent.batch.key) (new ∷ sent ∷ waiting) (sent ∷ waiting) (sent ∷ put_off new waiting) (p, all) all (all.0, all-put P new waiting p all.1)
 
-all-filtered : {X : Type 0} (P : X → Type 0) (p : X → Bool) (xs : List X) → AllByRecursion P xs → AllByRecursion P (filter p xs)
+pub all-filtered : {X : Type 0} (P : X → Type 0) (p : X → Bool) (xs : List X) → AllByRecursion P xs → AllByRecursion P (filter p xs)
 all-filtered P p [] all = tt
 all-filtered P p (x ∷ xs) all = filter-cases (AllByRecursion P) p x xs (λ _. (all.0, all-filtered P p xs all.1)) (λ _. all-filtered P p xs all.1)
 

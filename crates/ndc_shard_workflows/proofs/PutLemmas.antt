@@ -42,9 +42,9 @@ own-either domain workflow sent w new (Err x) e f own first second message fresh
 pub can-be : (sent : Message) (w : WorkflowValue) → MayBeWrittenTogether sent w → CanBeWritten sent w
 can-be sent w may = record { together = may.together; fresh = may.fresh; reached = may.reached; awaited = may.awaited; sound = may.sound; small = may.small }
 
--- the workflow that is written to, or is not for want of memory
+-- the workflow that is written to, or is not
 pub own-written-either : {A E : Type 0} (domain workflow : Name) (sent : Message) (w new : WorkflowValue) (r : Result A E) → OnOk r (new ≡ with_written sent w) → OnErr r (new ≡ w)
-    → IsOwn domain workflow w → is_of domain workflow sent.batch ≡ true → domain ≡ sent.batch.domain → workflow ≡ sent.batch.workflow → MayBeWrittenTogether sent w → IsOwn domain workflow new
+    → IsOwn domain workflow w → is_of domain workflow sent.batch ≡ true → domain ≡ sent.batch.domain → workflow ≡ sent.batch.workflow → OnOk r (MayBeWrittenTogether sent w) → IsOwn domain workflow new
 own-written-either domain workflow sent w new (Ok x) e f own first d n may =
     subst (IsOwn domain workflow) (sym e) (own-written domain workflow sent w own first second (can-be sent w may))
   where

@@ -8,7 +8,7 @@ use Rattle.ndc_event.specs.declared.key.BatchKey.{BatchKey}
 use Rattle.ndc_model_cells.specs.Cells.{both, missing_of}
 use Rattle.ndc_model_cells.specs.Messages.{batches_of, HasSmallIds, IsMessage, IsNewTo}
 use Rattle.ndc_model_cells.specs.declared.message.Message.{Message}
-use Rattle.ndc_model_sets.specs.Learned.{has_key, learned, IsClosed}
+use Rattle.ndc_model_sets.specs.Learned.{has_key, learned}
 use Rattle.ndc_model_sets.specs.Sets.{Has, IsSet, PointsBack, batch_at, earlier}
 use Rattle.ndc_model_sets.proofs.Lists.{all-join}
 use Rattle.ndc_model_sets.proofs.SetLemmas.{after-trans, at-first, none-there}
@@ -24,8 +24,9 @@ use Rattle.ndc_shard_waiting.proofs.OrderLemmas.{Precede, all-back, all-front, a
 use Rattle.ndc_shard_waiting.proofs.PutLemmas.{apart-flip, batches-put, put-found}
 use Rattle.ndc_run.specs.declared.answer.Learned.{Learned}
 use Rattle.ndc_shard_runs.specs.declared.misfit.Misfit.{Misfit}
-use Rattle.ndc_shard_workflows.specs.Admitting.{IsLearned, IsPutOff, IsRefused, Settling, fit_in, is_whole, settled, settled_one, settled_with, tried}
-use Rattle.ndc_shard_workflows.specs.Settling.{CanSettle, IsLeft}
+use Rattle.ndc_shard_workflows.specs.Admitting.{IsEarly, IsPutOff, IsRefused, IsTried, Settling, fit_in, is_whole, settled, settled_one, settled_with, tried}
+use Rattle.ndc_shard_workflows.specs.Settling.{CanSettle, IsLeft, IsSettled}
+use Rattle.ndc_shard_workflows.specs.declared.admission.Admission.{Admission}
 use Rattle.ndc_shard_workflows.specs.declared.admission.SetAside.{SetAside}
 use Rattle.ndc_shard_workflows.specs.Workflow.{beside}
 use Rattle.ndc_shard_workflows.proofs.LearnableLemmas.{message-closed}
@@ -281,42 +282,43 @@ settled-step s t left rest sent all e can same is = (
 
 -- what comes of a message that has not arrived
 module _ (known : List Batch) (waiting : List Message) (are : ArePutOff known waiting) (sent : Message) where
-  pub is-refused : has_key (earlier sent.batch) known ≡ true → (why : Misfit) → fit_in known sent ≡ Err why → (after : List Batch) → after ≡ known → IsRefused sent why (beside known waiting) (beside after waiting)
-  is-refused reached why e after same = record {
-    same = ap (λ (l : List Batch). beside l waiting) same;
-    reached = λ _. ap (has_key (earlier sent.batch)) (learned_is known waiting are) ∙ reached;
-    why_is = ap (λ (l : List Batch). fit_in l sent) (learned_is known waiting are) ∙ e;
+  as-learned : learned (with_messages waiting known) ≡ known
+  as-learned = learned_is known waiting are
+
+  pub is-refused : (is_whole sent ≡ true → has_key (earlier sent.batch) known ≡ true) → (why : Misfit) → fit_in known sent ≡ Err why → IsRefused sent why (beside known waiting)
+  is-refused reached why e = record {
+    reached = λ whole. ap (has_key (earlier sent.batch)) as-learned ∙ reached whole;
+    why_is = ap (λ (l : List Batch). fit_in l sent) as-learned ∙ e;
   }
 
-  pub is-learned : has_key (earlier sent.batch) known ≡ true → (x : Learned) → fit_in known sent ≡ Ok x → (after : List Batch) (rest done : List Message) (aside : List SetAside) (batches first : List Batch) → first ≡ with_message sent known
-      → record { known = after; waiting = rest; learned = done; aside = aside } ≡ settled (freed sent waiting) (record { known = first; waiting = still_put_off sent waiting; learned = []; aside = [] })
-      → batches ≡ batches_of done → IsLearned sent batches aside (beside known waiting) (beside after rest)
-  is-learned reached x e after rest done aside batches first first_is settled_is batches_are = record {
-    reached = ap (has_key (earlier sent.batch)) l ∙ reached;
-    fits = subst (λ (k : List Batch). IsOk (fit_in k sent)) (sym l) (subst IsOk (sym e) refl);
-    learned_are = batches_are ∙ ap (λ (s : Settling). batches_of s.learned) with_it ∙ ap (λ (k : List Batch). batches_of (settled_with sent k waiting).learned) (sym l);
-    aside_are = ap (λ (s : Settling). s.aside) with_it ∙ ap (λ (k : List Batch). (settled_with sent k waiting).aside) (sym l);
-    workflow_is = ap (λ (s : Settling). beside s.known s.waiting) with_it ∙ ap (λ (k : List Batch). beside (settled_with sent k waiting).known (settled_with sent k waiting).waiting) (sym l);
-  }
+  pub is-early : is_whole sent ≡ true → has_key (earlier sent.batch) known ≡ false → IsEarly sent (beside known waiting)
+  is-early whole off = record { whole = whole; off = ap (has_key (earlier sent.batch)) as-learned ∙ off }
+
+  pub is-learned : has_key (earlier sent.batch) known ≡ true → (x : Learned) → fit_in known sent ≡ Ok x → (told : Admission) (after first : List Batch) (rest : List Message) (may_wait : Bool) → first ≡ with_message sent known
+      → IsSettled told (settled (freed sent waiting) (record { known = first; waiting = still_put_off sent waiting; learned = []; aside = [] })) after rest
+      → IsTried may_wait sent told (beside known waiting) (beside after rest)
+  is-learned reached x e told after first rest may_wait first_is end = subst (λ (t : Admission). IsTried may_wait sent t (beside known waiting) (beside after rest)) (sym end.told_is) (record {
+    reached = ap (has_key (earlier sent.batch)) as-learned ∙ reached;
+    fits = subst (λ (k : List Batch). IsOk (fit_in k sent)) (sym as-learned) (subst IsOk (sym e) refl);
+    learned_are = end.batches_are ∙ ap (λ (s : Settling). batches_of s.learned) with_it;
+    aside_are = end.aside_are ∙ ap (λ (s : Settling). s.aside) with_it;
+    workflow_is = (λ i. beside (end.known_is i) (end.waiting_is i)) ∙ ap (λ (s : Settling). beside s.known s.waiting) with_it;
+  })
     where
-      l : learned (with_messages waiting known) ≡ known
-      l = learned_is known waiting are
-
-      with_it : record { known = after; waiting = rest; learned = done; aside = aside } ≡ settled_with sent known waiting
-      with_it = settled_is ∙ ap (λ (k : List Batch). settled (freed sent waiting) (record { known = k; waiting = still_put_off sent waiting; learned = []; aside = [] })) first_is
+      with_it : settled (freed sent waiting) (record { known = first; waiting = still_put_off sent waiting; learned = []; aside = [] }) ≡ settled_with sent (learned (with_messages waiting known)) waiting
+      with_it =
+          ap (λ (k : List Batch). settled (freed sent waiting) (record { known = k; waiting = still_put_off sent waiting; learned = []; aside = [] })) first_is
+          ∙ ap (λ (k : List Batch). settled_with sent k waiting) (sym as-learned)
 
   module _ (message : IsMessage sent) (fresh : IsNewTo (with_messages waiting known) sent) where
     pub is-put-off : is_whole sent ≡ true → has_key (earlier sent.batch) known ≡ false → (rest : List Message) (missing : BatchKey) → rest ≡ put_off sent waiting
-        → Some missing ≡ missing_from (Some sent.batch.key) (batches_of (put_off sent waiting)) → IsPutOff sent (beside known waiting) (beside known rest) × (missing_of sent.batch (with_messages rest known) ≡ Some missing)
-    is-put-off whole off rest missing same told = (
-      record {
-        whole = whole;
-        off = ap (has_key (earlier sent.batch)) (learned_is known waiting are) ∙ off;
-        waits = ap (beside known) same ∙ put-off-with known waiting are sent message fresh off;
-      },
-      ap (λ (l : List Message). missing_of sent.batch (with_messages l known)) same
-          ∙ missing_is known (put_off sent waiting) (put-off-beside known waiting are sent message fresh off) sent.batch there ∙ sym told,
-    )
+        → Some missing ≡ missing_from (Some sent.batch.key) (batches_of (put_off sent waiting)) → IsPutOff sent missing (beside known waiting) (beside known rest)
+    is-put-off whole off rest missing same told = record {
+      early = is-early whole off;
+      waits = ap (beside known) same ∙ put-off-with known waiting are sent message fresh off;
+      missing_is = ap (λ (l : List Message). missing_of sent.batch (with_messages l known)) same
+          ∙ missing_is known (put_off sent waiting) (put-off-beside known waiting are sent message fresh off) sent.batch there ∙ sym told;
+    }
       where
         there : Has (batches_of (put_off sent waiting)) sent.batch
         there =

@@ -16,6 +16,12 @@ pub found-in : (domain workflow : Name) (domains : List (Name × DomainValue)) �
     → workflow_of domain workflow (cell_of domains) ≡ workflow_or_empty (under workflow (workflows_in o))
 found-in domain workflow domains are o at = workflow-there domains are domain workflow ∙ ap (λ x. workflow_or_empty (under workflow (workflows_in x))) at
 
+-- what may be written to a workflow in what stands under its domain may be written to it
+pub may-back : (entry : Entry) (domains : List (Name × DomainValue)) → AreDomains domains → (o : Option DomainValue) → under entry.batch.domain domains ≡ o
+    → MayBeWrittenTogether (carrying entry.batch entry.second) (workflow_or_empty (under entry.batch.workflow (workflows_in o)))
+    → MayBeWrittenTogether (carrying entry.batch entry.second) (workflow_of entry.batch.domain entry.batch.workflow (cell_of domains))
+may-back entry domains are o at may = subst (MayBeWrittenTogether (carrying entry.batch entry.second)) (sym (found-in entry.batch.domain entry.batch.workflow domains are o at)) may
+
 module _ (entry : Entry) (domains : List (Name × DomainValue)) (are : AreDomains domains)
     (may : MayBeWrittenTogether (carrying entry.batch entry.second) (workflow_of entry.batch.domain entry.batch.workflow (cell_of domains))) (o : Option DomainValue)
     (at : under entry.batch.domain domains ≡ o) where

@@ -1,4 +1,5 @@
 pub mod Admitting
+pub mod Arriving
 pub mod Behind
 pub mod ByDomain
 pub mod Due
@@ -8,7 +9,9 @@ pub mod Messages
 pub mod Named
 pub mod Reading
 pub mod Reapplied
+pub mod Refused
 pub mod Settling
+pub mod Terms
 pub mod Workflow
 pub mod WorkflowFields
 pub mod Workflows

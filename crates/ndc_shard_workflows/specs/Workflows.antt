@@ -1,14 +1,21 @@
 -- The workflows of a cell, by domain and then by workflow.
-use Rattle.std.specs.Prelude.{◌≡◌, true, List, [], Option, Some, None}
+use Rattle.std.specs.Prelude.{◌≡◌, true, false, List, [], Option, Some, None}
 use Rattle.std.specs.List.{AllByRecursion}
+use Rattle.ndc_admission.specs.Faults.{first_fault}
 use Rattle.ndc_model_cells.specs.declared.message.Message.{Message}
-use Rattle.ndc_model_cells.specs.Cells.{Cell}
+use Rattle.ndc_model_cells.specs.Cells.{Cell, learned_of}
 use Rattle.ndc_model_cells.specs.Places.{is_of}
 use Rattle.ndc_event.specs.declared.batch.Batch.{Batch}
 use Rattle.ndc_event.specs.declared.name.Name.{Name}
 use Rattle.ndc_model_sets.specs.Learned.{learned}
 use Rattle.ndc_model_sets.specs.Sound.{IsSound}
-use Rattle.ndc_model_cells.specs.Workflow.{WorkflowValue}
+use Rattle.ndc_model_cells.specs.Workflow.{WorkflowValue, workflow_of}
+use Rattle.ndc_shard_workflows.specs.Admitting.{IsAdmitted}
+use Rattle.ndc_shard_workflows.specs.Arriving.{ComesFrom}
+use Rattle.ndc_shard_workflows.specs.Terms.{TermsValue}
+use Rattle.ndc_shard_workflows.specs.declared.admission.Admission.{Admission}
+use Rattle.ndc_shard_workflows.specs.declared.admission.Admission.TheVariants as admission
+use Rattle.ndc_shard_workflows.specs.declared.admission.NotAdmitted.TheVariants as refused
 use Rattle.ndc_shard_workflows.specs.Workflow.{IsWorkflow, empty_workflow}
 use Rattle.ndc_shard_workflows.specs.Named.{HoldUnder, all_under, under}
 
@@ -55,3 +62,19 @@ AreOwn domain workflows = HoldUnder (IsOwn domain) workflows
 -- the domains of a cell, each under its name
 abbrev pub AreDomains : List (Name × DomainValue) → Type 0
 AreDomains domains = HoldUnder AreOwn domains
+
+-- each workflow but that of a batch is as it was
+abbrev pub OthersStay : Batch → Cell → Cell → Type 0
+OthersStay b before after = (domain workflow : Name) → is_of domain workflow b ≡ false → workflow_of domain workflow after ≡ workflow_of domain workflow before
+
+-- a message of which nobody vouches was handed to its workflow in a cell on these terms: this came of it there, what is learned of the workflow came
+-- from what was learned by messages that arrived, and each other workflow is as it was
+pub record IsHandedTo (terms : TermsValue) (sent : Message) (told : Admission) (before after : Cell) : Type 0 where
+  pub own : IsAdmitted terms sent told (workflow_of sent.batch.domain sent.batch.workflow before) (workflow_of sent.batch.domain sent.batch.workflow after)
+  pub grows : ComesFrom (learned_of sent.batch.domain sent.batch.workflow before) (learned_of sent.batch.domain sent.batch.workflow after)
+  pub others : OthersStay sent.batch before after
+
+-- what comes of a message that is handed to a cell: it is none that cells send, and nothing changes, or it is handed to its workflow
+abbrev pub IsAdmittedTo : TermsValue → Message → Admission → Cell → Cell → Type 0
+IsAdmittedTo terms sent (admission.Refused (refused.Fault fault)) before after = (first_fault sent terms.clusters ≡ Some fault) × (after ≡ before)
+IsAdmittedTo terms sent told before after = (first_fault sent terms.clusters ≡ None) × IsHandedTo terms sent told before after

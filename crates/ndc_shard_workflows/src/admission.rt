@@ -1,7 +1,86 @@
+use ndc_admission::MessageFault;
+use ndc_domain::{ClusterNo, Clusters};
 use ndc_event::BatchKey;
 use ndc_model_cells::Message;
 use ndc_model_sets::Batches;
 use ndc_shard_runs::Misfit;
+use std::alloc::{AllocError, AllocFailed};
+use std::marker::Model;
+use thiserror::Error;
+
+/// On what terms a cell takes messages of which nobody vouches.
+#[derive(Drop)]
+pub struct Terms<'a> {
+    /// All clusters.
+    pub clusters: &'a Clusters,
+    /// Which of them the cell is of.
+    pub me: ClusterNo,
+    /// Whether the cell asks for what it lost: then batches of its own versions may come that it has not learned.
+    pub recall: bool,
+    /// Whether there is room for one more message that waits.
+    pub may_wait: bool,
+}
+
+impl<'a> Model for Terms<'a> {
+    ghost use Rattle.ndc_shard_workflows.specs.Terms.{TermsValue};
+
+    ghost Value = { TermsValue };
+
+    ghost view = { λ terms. record { clusters = terms.clusters.now; me = terms.me; recall = terms.recall; may_wait = terms.may_wait } };
+}
+
+/// Why a message is not admitted: the first of these that holds.
+#[derive(Clone, Copy, Debug, PartialEq, Eq, Error)]
+pub enum NotAdmitted {
+    /// It is none that cells of these clusters send, whatever is learned here.
+    #[error("{0}")]
+    Fault(MessageFault),
+    /// The cell's own cluster writes with the version of its batch, which is not learned here.
+    #[error("the batch has a version of this cluster, which has not written it")]
+    OwnVersion,
+    /// A copied signal in it names an event with a version of the cell's own cluster that is not learned here.
+    #[error("a copied signal names an event of this cluster, which has not written it")]
+    OwnOrigin,
+    /// Another batch stands under the key of its batch, or of the one that it carries.
+    #[error("another batch stands under the key {key:?}")]
+    Rival {
+        key: BatchKey,
+        /// Whether that one is put off.
+        waits: bool,
+    },
+    /// Its version history does not end with its batch.
+    #[error("the version history does not end with the batch")]
+    History,
+    /// Its earlier key is learned, and it does not fit what is learned.
+    #[error("{0}")]
+    Misfit(Misfit),
+    /// Its earlier key is not learned, and there is no room for one more message that waits.
+    #[error("too much waits")]
+    Full,
+}
+
+/// Why a batch is not written that a cell would write: the first of these that holds.
+#[derive(Clone, Copy, Debug, PartialEq, Eq, Error)]
+pub enum NotWritten {
+    /// Something stands under the key of the batch, or of the one that goes right after it.
+    #[error("a batch stands under the key {key:?}")]
+    Rival {
+        key: BatchKey,
+        /// Whether that one is put off.
+        waits: bool,
+    },
+    /// A message that is put off waits for the batch, or for the one that goes right after it. Its key is the least such one.
+    #[error("the batch {key:?} waits for what would be written")]
+    Awaited {
+        key: BatchKey,
+    },
+    /// It does not fit what is learned.
+    #[error("{0}")]
+    Misfit(Misfit),
+    /// Memory is wanting.
+    #[error("out of memory")]
+    Memory,
+}
 
 /// A message that was put off and did not fit once what it waited for was learned. It is taken out of what is put off.
 #[derive(Drop)]
@@ -11,13 +90,15 @@ pub struct SetAside {
     pub misfit: Misfit,
 }
 
-/// What comes of a message of which nobody vouches, and which has not arrived.
+/// What comes of a message of which nobody vouches.
 #[derive(Drop)]
 pub enum Admission {
-    /// It does not fit what is learned, or has a fault of its own. Nothing changed.
+    /// It is not admitted. Nothing changed.
     Refused {
-        misfit: Misfit,
+        cause: NotAdmitted,
     },
+    /// The same batch has arrived before. Nothing changed.
+    Known,
     /// It waits for a batch with this key, its nearest ancestor that has not arrived.
     PutOff {
         missing: BatchKey,
@@ -29,4 +110,59 @@ pub enum Admission {
         /// What waited for it and does not fit, in key order.
         aside: Vec<SetAside>,
     },
+}
+
+/// What want of memory leaves of a cell that was to admit a message.
+#[derive(Clone, Copy, Debug, PartialEq, Eq, Error)]
+pub enum AdmitError {
+    /// All is as it was.
+    #[error("out of memory")]
+    Memory,
+    /// What the message freed is lost, and with it all else: nothing has arrived any more.
+    #[error("out of memory, and what had arrived is lost")]
+    Spent,
+}
+
+impl From<AllocError> for AdmitError {
+    ghost use Rattle.std.specs.Prelude.{◌≡◌};
+    ghost use Rattle.ndc_shard_workflows.specs.declared.admission.AdmitError.TheVariants.{Memory};
+
+    ghost from_gives = { λ _ e. e ≡ Memory };
+
+    fn from(_error: AllocError) -> AdmitError {
+        AdmitError::Memory
+    }
+}
+
+impl<T: Drop> From<AllocFailed<T>> for AdmitError {
+    ghost use Rattle.std.specs.Prelude.{◌≡◌};
+    ghost use Rattle.ndc_shard_workflows.specs.declared.admission.AdmitError.TheVariants.{Memory};
+
+    ghost from_gives = { λ _ e. e ≡ Memory };
+
+    fn from(_failed: AllocFailed<T>) -> AdmitError {
+        AdmitError::Memory
+    }
+}
+
+impl From<AllocError> for NotWritten {
+    ghost use Rattle.std.specs.Prelude.{◌≡◌};
+    ghost use Rattle.ndc_shard_workflows.specs.declared.admission.NotWritten.TheVariants.{Memory};
+
+    ghost from_gives = { λ _ e. e ≡ Memory };
+
+    fn from(_error: AllocError) -> NotWritten {
+        NotWritten::Memory
+    }
+}
+
+impl<T: Drop> From<AllocFailed<T>> for NotWritten {
+    ghost use Rattle.std.specs.Prelude.{◌≡◌};
+    ghost use Rattle.ndc_shard_workflows.specs.declared.admission.NotWritten.TheVariants.{Memory};
+
+    ghost from_gives = { λ _ e. e ≡ Memory };
+
+    fn from(_failed: AllocFailed<T>) -> NotWritten {
+        NotWritten::Memory
+    }
 }

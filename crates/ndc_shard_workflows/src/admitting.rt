@@ -1,21 +1,24 @@
 // Messages of which nobody vouches, in one workflow.
-ghost use Rattle.std.specs.Prelude.{◌≡◌, ◌∷◌, [], false, true, Some, Option, None, not, is_some, map, IfOk, OnOk, OnErr};
+ghost use Rattle.std.specs.Prelude.{◌≡◌, ◌∷◌, [], false, true, Some, Err, Option, None, not, is_some, map, IfOk, OnOk, OnErr};
 ghost use Rattle.std.specs.List.{AllByRecursion};
 ghost use Rattle.std.specs.Option.{option_copied};
 ghost use Rattle.ndc_event.specs.Batch.{fault_of};
 ghost use Rattle.ndc_event.specs.Outcome.{Gives};
 ghost use Rattle.ndc_model_cells.specs.Cells.{both};
-ghost use Rattle.ndc_model_cells.specs.Messages.{batches_of, HasSmallIds, IsMessage, IsNewTo};
+ghost use Rattle.ndc_model_cells.specs.Messages.{batches_of, carrying, HasSmallIds, IsMessage, IsNewTo};
 ghost use Rattle.ndc_model_sets.specs.Learned.{has_key};
 ghost use Rattle.ndc_model_sets.specs.Sets.{earlier};
 ghost use Rattle.ndc_shard_runs.specs.declared.misfit.Misfit.TheVariants.{Memory};
 ghost use Rattle.ndc_shard_waiting.specs.Learning.{with_message, with_messages, ArePutOff};
 ghost use Rattle.ndc_shard_waiting.specs.Waiting.{CanWait, freed, still_put_off};
-ghost use Rattle.ndc_shard_workflows.specs.Admitting.{fit_in, is_faultless, is_second_faultless, is_whole, settled, settled_one, settled_with, IsAdmitted, Settling};
-ghost use Rattle.ndc_shard_workflows.specs.Settling.{CanSettle, IsLeft};
+ghost use Rattle.ndc_shard_workflows.specs.Admitting.{fit_in, is_faultless, is_second_faultless, is_whole, settled, settled_one, settled_with, IsTried, Settling};
+ghost use Rattle.ndc_shard_workflows.specs.declared.admission.AdmitError.TheVariants.{Memory as OutOfIt};
+ghost use Rattle.ndc_shard_workflows.specs.Arriving.{ComesFrom};
+ghost use Rattle.ndc_shard_workflows.specs.Settling.{CanSettle, IsLeft, IsSettled};
 ghost use Rattle.ndc_shard_workflows.specs.Workflow.{beside};
+ghost use Rattle.ndc_shard_workflows.specs.Writing.{GoTogether};
 
-use crate::admission::{Admission, SetAside};
+use crate::admission::{Admission, AdmitError, NotAdmitted, SetAside};
 use crate::arrival::batches_in;
 use crate::learning::is_reached;
 use ndc_event::{Batch, OutOfMemory};
@@ -54,34 +57,33 @@ fn is_second_faultless(second: Option<&Batch>) -> bool
     }
 }
 
-/// Whether no other carries the batch of a message, and neither that batch nor the one that it carries has a fault.
-fn is_whole(sent: &Message) -> bool
-    ensures { result ≡ is_whole sent.now }
+/// Whether no other carries the batch, and neither it nor the second one, where there is one, has a fault.
+fn is_whole(batch: &Batch, second: Option<&Batch>) -> bool
+    ensures { result ≡ is_whole (carrying batch.now (option_copied second.entry)) }
 {
-    sent.batch.carrier.is_none()
-        && is_faultless(&sent.batch)
-        && is_second_faultless(sent.second.as_ref())
+    batch.carrier.is_none() && is_faultless(batch) && is_second_faultless(second)
 }
 
-/// Learns a message, if it is whole and fits; or nothing changes.
-fn fit<L>(
+/// Learns a batch, and the second one, which goes right after it, if they are whole and fit; or nothing changes.
+pub(crate) fn fit<L>(
     runs: &mut Runs,
     alloc: Global,
-    sent: &Message,
+    batch: &Batch,
+    second: Option<&Batch>,
     steps: &mut Steps<L>,
 ) -> Result<Learned, Misfit>
-    requires message { IsMessage sent.now }
-    requires fresh { IsNewTo runs.old sent.now }
-    requires reached { has_key (earlier sent.now.batch) runs.old ≡ true }
-    requires ids { AllByRecursion HasSmallIds (both sent.now) }
-    ensures answer { Gives Memory (λ done. done) result (fit_in runs.old sent.now) }
-    ensures ok { OnOk result (runs.new ≡ with_message sent.now runs.old) }
+    requires together { GoTogether (carrying batch.now (option_copied second)) }
+    requires fresh { IsNewTo runs.old (carrying batch.now (option_copied second)) }
+    requires reached { has_key (earlier batch.now) runs.old ≡ true }
+    requires ids { AllByRecursion HasSmallIds (both (carrying batch.now (option_copied second))) }
+    ensures answer { Gives Memory (λ done. done) result (fit_in runs.old (carrying batch.now (option_copied second.entry))) }
+    ensures ok { OnOk result (runs.new ≡ with_message (carrying batch.now (option_copied second.entry)) runs.old) }
     ensures err { OnErr result (runs.new ≡ runs.old) }
 {
-    if !is_whole(sent) {
+    if !is_whole(batch, second) {
         return Err(Misfit::IllFormed);
     }
-    runs.admit(alloc, &sent.batch, sent.second.as_ref(), steps)
+    runs.admit(alloc, batch, second, steps)
 }
 
 /// One of the messages that are gone over: it counts as learned, is tried, or waits on. For want of memory nothing is said
@@ -108,7 +110,7 @@ fn settle_one<L>(
         waiting.put(sent)?;
         return Ok(());
     }
-    match fit(runs, alloc, &sent, steps) {
+    match fit(runs, alloc, &sent.batch, sent.second.as_ref(), steps) {
         Ok(_) => done.learned.push(sent)?,
         Err(Misfit::Memory) => return Err(AllocError),
         Err(misfit) => done.aside.push(SetAside {
@@ -144,44 +146,73 @@ fn settle<L>(
     Ok(done)
 }
 
-/// What comes of a message of which nobody vouches. For want of memory nothing is said of what has arrived.
-pub(crate) fn admit<L>(
+/// The message is learned; what waited for it is gone over. For want of memory nothing is said of what has arrived.
+fn go_on<L>(
     runs: &mut Runs,
     waiting: &mut Waiting,
     alloc: Global,
     message: Message,
     steps: &mut Steps<L>,
 ) -> Result<Admission, OutOfMemory>
+    requires new { IsNewTo (batches_of waiting.old) message }
+    requires can { CanSettle runs.old (still_put_off message waiting.old) (freed message waiting.old) }
+    ensures settled { IfOk result (λ admission. IsSettled admission (settled (freed message waiting.old) (record { known = runs.old; waiting = still_put_off message waiting.old; learned = []; aside = [] })) runs.new waiting.new) }
+    ensures can { OnOk result (CanSettle runs.new waiting.new []) }
+{
+    let done = settle(runs, waiting, alloc, message, steps)?;
+    let batches = Batches::new(batches_in(alloc, done.learned)?);
+    Ok(Admission::Learned {
+        batches,
+        aside: done.aside,
+    })
+}
+
+/// What comes of a message of which nobody vouches, and which has not arrived. For want of memory nothing changes, or, where
+/// it is learned, nothing is said of what has arrived.
+pub(crate) fn admit<L>(
+    runs: &mut Runs,
+    waiting: &mut Waiting,
+    alloc: Global,
+    may_wait: bool,
+    message: Message,
+    steps: &mut Steps<L>,
+) -> Result<Admission, AdmitError>
     requires apart { ArePutOff runs.old waiting.old }
     requires small { AllByRecursion HasSmallIds (batches_of waiting.old) }
     requires message { IsMessage message }
     requires new { IsNewTo (with_messages waiting.old runs.old) message }
     requires ids { AllByRecursion HasSmallIds (both message) }
-    ensures admitted { IfOk result (λ admission. IsAdmitted message admission (beside runs.old waiting.old) (beside runs.new waiting.new)) }
+    ensures admitted { IfOk result (λ admission. IsTried may_wait message admission (beside runs.old waiting.old) (beside runs.new waiting.new)) }
     ensures apart { OnOk result (ArePutOff runs.new waiting.new) }
     ensures small { OnOk result (AllByRecursion HasSmallIds (batches_of waiting.new)) }
+    ensures comes { OnOk result (ComesFrom runs.old runs.new) }
+    ensures runs_kept { result ≡ Err OutOfIt → runs.new ≡ runs.old }
+    ensures waiting_kept { result ≡ Err OutOfIt → waiting.new ≡ waiting.old }
 {
-    if !is_whole(&message) {
+    if !is_whole(&message.batch, message.second.as_ref()) {
         return Ok(Admission::Refused {
-            misfit: Misfit::IllFormed,
+            cause: NotAdmitted::Misfit(Misfit::IllFormed),
         });
     }
     if !is_reached(runs, &message.batch) {
+        if !may_wait {
+            return Ok(Admission::Refused {
+                cause: NotAdmitted::Full,
+            });
+        }
         let key = message.batch.key;
         waiting.put(message)?;
         let missing = waiting.missing(key);
         return Ok(Admission::PutOff { missing });
     }
-    match fit(runs, alloc, &message, steps) {
-        Ok(_) => {
-            let done = settle(runs, waiting, alloc, message, steps)?;
-            let batches = Batches::new(batches_in(alloc, done.learned)?);
-            Ok(Admission::Learned {
-                batches,
-                aside: done.aside,
-            })
-        }
-        Err(Misfit::Memory) => Err(AllocError),
-        Err(misfit) => Ok(Admission::Refused { misfit }),
+    match fit(runs, alloc, &message.batch, message.second.as_ref(), steps) {
+        Ok(_) => match go_on(runs, waiting, alloc, message, steps) {
+            Ok(admission) => Ok(admission),
+            Err(_) => Err(AdmitError::Spent),
+        },
+        Err(Misfit::Memory) => Err(AdmitError::Memory),
+        Err(misfit) => Ok(Admission::Refused {
+            cause: NotAdmitted::Misfit(misfit),
+        }),
     }
 }

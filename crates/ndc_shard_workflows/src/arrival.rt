@@ -2,6 +2,7 @@ ghost use Rattle.std.specs.Prelude.{◌≡◌, [], map, IfOk};
 ghost use Rattle.ndc_model_cells.specs.declared.job.Arrived.TheVariants.{Known, Learned, PutOff};
 ghost use Rattle.ndc_model_cells.specs.Messages.{batches_of};
 
+use crate::admission::Admission;
 use ndc_event::{Batch, BatchKey, OutOfMemory};
 use ndc_model_cells::{Arrived, Keys, Message};
 use ndc_model_sets::Batches;
@@ -20,6 +21,16 @@ pub struct Arrival {
 #[derive(Drop)]
 pub(crate) struct Received {
     pub(crate) arrival: Arrival,
+    /// Whether reapplication may be due, by what is known of the workflow.
+    pub(crate) may_be_due: bool,
+    /// Whether something is put off of the workflow.
+    pub(crate) is_behind: bool,
+}
+
+/// What comes of a message of which nobody vouches, and how its workflow stands then.
+#[derive(Drop)]
+pub(crate) struct Admitted {
+    pub(crate) admission: Admission,
     /// Whether reapplication may be due, by what is known of the workflow.
     pub(crate) may_be_due: bool,
     /// Whether something is put off of the workflow.

@@ -1,4 +1,4 @@
-ghost use Rattle.std.specs.Prelude.{◌≡◌, ◌++◌, [], true, false, None, IfOk, OnOk, OnErr};
+ghost use Rattle.std.specs.Prelude.{◌≡◌, ◌++◌, [], true, false, None, IfOk, IfErr, OnOk, OnErr};
 ghost use Rattle.std.specs.List.{AllByRecursion};
 ghost use Rattle.std.specs.Option.{option_copied};
 ghost use Rattle.ndc_event.specs.declared.name.Name.{Name as Text};
@@ -7,13 +7,17 @@ ghost use Rattle.ndc_model_cells.specs.Messages.{carrying, HasSmallIds, IsMessag
 ghost use Rattle.ndc_model_sets.specs.Learned.{learned};
 ghost use Rattle.ndc_model_sets.specs.Sound.{IsSound};
 ghost use Rattle.ndc_shard_runs.specs.Kept.{is_due, StaysSettled};
+ghost use Rattle.ndc_shard_workflows.specs.Admitting.{IsAdmitted, IsLeftBy};
+ghost use Rattle.ndc_shard_workflows.specs.Arriving.{ComesFrom};
 ghost use Rattle.ndc_shard_workflows.specs.Due.{is_listed};
 ghost use Rattle.ndc_shard_workflows.specs.Listed.{IsListedBefore};
 ghost use Rattle.ndc_shard_workflows.specs.Reading.{learned_in_domain, named_where_learned};
-ghost use Rattle.ndc_shard_workflows.specs.Workflow.{after_arrival, answer_to, empty_workflow, has_arrived, made_learned, with_written};
-ghost use Rattle.ndc_shard_workflows.specs.Writing.{MayBeWrittenTogether};
+ghost use Rattle.ndc_shard_workflows.specs.Refused.{IsNotWritten};
+ghost use Rattle.ndc_shard_workflows.specs.Workflow.{after_arrival, answer_to, empty_workflow, has_arrived, made_learned, with_written, IsWorkflow};
+ghost use Rattle.ndc_shard_workflows.specs.Writing.{IsMadeTogether, MayBeWrittenTogether};
 
-use crate::arrival::Received;
+use crate::admission::{AdmitError, NotWritten, Terms};
+use crate::arrival::{Admitted, Received};
 use crate::due::DueListing;
 use crate::workflow::Workflow;
 use ndc_event::{Batch, Name, OutOfMemory};
@@ -100,24 +104,59 @@ fn receive<L>(
     })
 }
 
+/// A message of which nobody vouches is handed to its workflow. After want of memory the workflow is as it was, or empty.
+fn take<L>(
+    workflow: &mut Workflow,
+    alloc: Global,
+    terms: &Terms,
+    message: Message,
+    steps: &mut Steps<L>,
+) -> Result<Admitted, AdmitError>
+    requires message { IsMessage message }
+    requires ids { AllByRecursion HasSmallIds (both message) }
+    ensures admitted { IfOk result (λ it. IsAdmitted terms.now message it.admission workflow.old workflow.new) }
+    ensures due { IfOk result (λ it. it.may_be_due ≡ false → is_due (learned workflow.new.arrived) ≡ false) }
+    ensures behind { IfOk result (λ it. it.is_behind ≡ false → workflow.new.waiting ≡ []) }
+    ensures sound { OnOk result (IsSound (learned workflow.new.arrived)) }
+    ensures workflow { OnOk result (IsWorkflow workflow.new) }
+    ensures comes { OnOk result (ComesFrom (learned workflow.old.arrived) (learned workflow.new.arrived)) }
+    ensures err { IfErr result (λ error. IsLeftBy error workflow.old workflow.new) }
+{
+    let admission = workflow.admit(alloc, terms, message, steps)?;
+    Ok(Admitted {
+        admission,
+        may_be_due: workflow.runs().may_be_due(),
+        is_behind: !workflow.put_off().is_empty(),
+    })
+}
+
 /// Learns a batch that is written in this cell, and the one that goes right behind it, in their workflow, which is listed before,
-/// unless the batch leaves no stray. For want of memory nothing changes but for what is listed.
+/// unless the batch leaves no stray. Where the caller does not vouch for them they are tried. After an error nothing changes
+/// but for what is listed.
 fn write_to<L>(
     workflow: &mut Workflow,
     alloc: Global,
+    vouched: bool,
     batch: &Batch,
     second: Option<&Batch>,
     due: &mut DueListing,
     steps: &mut Steps<L>,
-) -> Result<(), OutOfMemory>
-    requires { MayBeWrittenTogether (carrying batch.now (option_copied second)) workflow.old }
+) -> Result<(), NotWritten>
+    requires may { vouched ≡ true → MayBeWrittenTogether (carrying batch.now (option_copied second)) workflow.old }
+    requires made { IsMadeTogether (carrying batch.now (option_copied second)) }
     ensures ok { OnOk result (workflow.new ≡ with_written (carrying batch.now (option_copied second.entry)) workflow.old) }
+    ensures may { OnOk result (MayBeWrittenTogether (carrying batch.now (option_copied second.entry)) workflow.old) }
+    ensures refused { IfErr result (λ cause. IsNotWritten cause (carrying batch.now (option_copied second.entry)) workflow.old) }
     ensures err { OnErr result (workflow.new ≡ workflow.old) }
     ensures listed { OnOk result (IsListedBefore batch.now (option_copied second.entry) (learned workflow.old.arrived) due.old due.new) }
     ensures kept { (d w : Text) → is_listed d w due.new ≡ false → is_listed d w due.old ≡ false }
 {
     list_before(workflow, due, batch, second)?;
-    workflow.write(alloc, batch, second, steps)
+    if vouched {
+        workflow.write(alloc, batch, second, steps)?;
+        return Ok(());
+    }
+    workflow.try_write(alloc, batch, second, steps)
 }
 
 /// Lists the workflow of a batch that is to be written, unless the batch leaves no stray, by what is known of it.
@@ -148,7 +187,7 @@ fn stays_settled(workflow: &Workflow, batch: &Batch, second: Option<&Batch>) -> 
 }
 
 impl Domain {
-    ghost use Rattle.std.specs.Prelude.{◌≡◌, ◌++◌, [], map, true, false, IfOk, IfSome, OnOk, OnErr};
+    ghost use Rattle.std.specs.Prelude.{◌≡◌, ◌++◌, [], map, true, false, Err, IfOk, IfErr, IfSome, OnOk, OnErr};
     ghost use Rattle.std.specs.List.{AllByRecursion};
     ghost use Rattle.std.specs.Map.{values_of};
     ghost use Rattle.std.specs.Option.{option_copied};
@@ -161,12 +200,16 @@ impl Domain {
     ghost use Rattle.ndc_model_cells.specs.Messages.{carrying, HasSmallIds};
     ghost use Rattle.ndc_shard_workflows.specs.Workflow.{has_arrived, answer_to, made_learned, after_arrival, with_written};
     ghost use Rattle.ndc_event.specs.declared.name.Name.{Name as Text};
+    ghost use Rattle.ndc_shard_workflows.specs.Admitting.{IsAdmitted};
+    ghost use Rattle.ndc_shard_workflows.specs.Arriving.{ComesFrom};
     ghost use Rattle.ndc_shard_workflows.specs.Due.{is_listed};
     ghost use Rattle.ndc_shard_workflows.specs.Listed.{IsListedBefore};
-    ghost use Rattle.ndc_shard_workflows.specs.Named.{under, IsPut};
+    ghost use Rattle.ndc_shard_workflows.specs.Named.{under, IsPut, StayUnder};
+    ghost use Rattle.ndc_shard_workflows.specs.declared.admission.AdmitError.TheVariants.{Memory};
     ghost use Rattle.ndc_shard_workflows.specs.Reading.{learned_in_domain};
+    ghost use Rattle.ndc_shard_workflows.specs.Refused.{IsNotWritten};
     ghost use Rattle.ndc_shard_workflows.specs.Workflows.{workflow_or_empty, AreOwn};
-    ghost use Rattle.ndc_shard_workflows.specs.Writing.{MayBeWrittenTogether};
+    ghost use Rattle.ndc_shard_workflows.specs.Writing.{IsMadeTogether, MayBeWrittenTogether};
 
     /// There is no workflow.
     pub(crate) fn new(alloc: Global) -> Domain
@@ -182,6 +225,13 @@ impl Domain {
         ensures { option_copied result ≡ under workflow.now self.now }
     {
         self.workflows.get(workflow)
+    }
+
+    /// Whether there is none.
+    pub(crate) fn is_empty(&self) -> bool
+        ensures { result ≡ true → self.now ≡ [] }
+    {
+        self.workflows.is_empty()
     }
 
     /// The workflows, in order of name.
@@ -244,30 +294,71 @@ impl Domain {
         Ok(received)
     }
 
+    /// A message of the domain of which nobody vouches is handed to its workflow. A workflow of which nothing has arrived then
+    /// leaves no trace. For want of memory nothing changes, or nothing is said of the workflow ([`AdmitError::Spent`]).
+    pub(crate) fn admit<L>(
+        &mut self,
+        alloc: Global,
+        terms: &Terms,
+        message: Message,
+        steps: &mut Steps<L>,
+    ) -> Result<Admitted, AdmitError>
+        requires own { AreOwn message.batch.domain self.old }
+        requires message { IsMessage message }
+        requires second { IfSome message.second (λ b. is_of message.batch.domain message.batch.workflow b ≡ true) }
+        requires ids { AllByRecursion HasSmallIds (both message) }
+        ensures admitted { IfOk result (λ it. IsAdmitted terms.now message it.admission
+            (workflow_or_empty (under message.batch.workflow self.old)) (workflow_or_empty (under message.batch.workflow self.new))) }
+        ensures due { IfOk result (λ it. it.may_be_due ≡ false → is_due (learned (workflow_or_empty (under message.batch.workflow self.new)).arrived) ≡ false) }
+        ensures behind { IfOk result (λ it. it.is_behind ≡ false → (workflow_or_empty (under message.batch.workflow self.new)).waiting ≡ []) }
+        ensures comes { OnOk result (ComesFrom (learned (workflow_or_empty (under message.batch.workflow self.old)).arrived)
+            (learned (workflow_or_empty (under message.batch.workflow self.new)).arrived)) }
+        ensures others { StayUnder message.batch.workflow self.old self.new }
+        ensures own { AreOwn message.batch.domain self.new }
+        ensures memory { result ≡ Err Memory → self.new ≡ self.old }
+    {
+        if let Some(workflow) = self.workflows.get_mut(&message.batch.workflow) {
+            return take(workflow, alloc, terms, message, steps);
+        }
+        let name = message.batch.workflow.try_copy()?;
+        let mut workflow = Workflow::new(alloc);
+        let admitted = take(&mut workflow, alloc, terms, message, steps)?;
+        if workflow.is_empty() {
+            return Ok(admitted);
+        }
+        self.workflows.insert(name, workflow)?;
+        Ok(admitted)
+    }
+
     /// Learns a batch of the domain that is written in this cell, and the one that goes right behind it, in a workflow that is
-    /// listed before, unless the batch leaves no stray. For want of memory nothing changes but for what is listed.
+    /// listed before, unless the batch leaves no stray. Where the caller does not vouch for them they are tried. After an
+    /// error nothing changes but for what is listed.
     pub(crate) fn write<L>(
         &mut self,
         alloc: Global,
+        vouched: bool,
         batch: &Batch,
         second: Option<&Batch>,
         due: &mut DueListing,
         steps: &mut Steps<L>,
-    ) -> Result<(), OutOfMemory>
+    ) -> Result<(), NotWritten>
         requires own { AreOwn batch.now.domain self.old }
-        requires may { MayBeWrittenTogether (carrying batch.now (option_copied second)) (workflow_or_empty (under batch.now.workflow self.old)) }
+        requires may { vouched ≡ true → MayBeWrittenTogether (carrying batch.now (option_copied second)) (workflow_or_empty (under batch.now.workflow self.old)) }
+        requires made { IsMadeTogether (carrying batch.now (option_copied second)) }
         ensures ok { OnOk result (IsPut batch.now.workflow (with_written (carrying batch.now (option_copied second.entry)) (workflow_or_empty (under batch.now.workflow self.old))) self.old self.new) }
+        ensures may { OnOk result (MayBeWrittenTogether (carrying batch.now (option_copied second.entry)) (workflow_or_empty (under batch.now.workflow self.old))) }
+        ensures refused { IfErr result (λ cause. IsNotWritten cause (carrying batch.now (option_copied second.entry)) (workflow_or_empty (under batch.now.workflow self.old))) }
         ensures own { AreOwn batch.now.domain self.new }
         ensures err { OnErr result (self.new ≡ self.old) }
         ensures listed { OnOk result (IsListedBefore batch.now (option_copied second.entry) (learned (workflow_or_empty (under batch.now.workflow self.old)).arrived) due.old due.new) }
         ensures kept { (d w : Text) → is_listed d w due.new ≡ false → is_listed d w due.old ≡ false }
     {
         if let Some(workflow) = self.workflows.get_mut(&batch.workflow) {
-            return write_to(workflow, alloc, batch, second, due, steps);
+            return write_to(workflow, alloc, vouched, batch, second, due, steps);
         }
         let name = batch.workflow.try_copy()?;
         let mut workflow = Workflow::new(alloc);
-        write_to(&mut workflow, alloc, batch, second, due, steps)?;
+        write_to(&mut workflow, alloc, vouched, batch, second, due, steps)?;
         self.workflows.insert(name, workflow)?;
         Ok(())
     }

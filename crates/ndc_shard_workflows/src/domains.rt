@@ -3,7 +3,8 @@ ghost use Rattle.std.specs.List.{list_any};
 ghost use Rattle.std.specs.Str.{bytes_eq};
 ghost use Rattle.ndc_shard_workflows.specs.Reading.{learned_in_all, workflows_named};
 
-use crate::arrival::Received;
+use crate::admission::{AdmitError, NotWritten, Terms};
+use crate::arrival::{Admitted, Received};
 use crate::domain::Domain;
 use crate::due::DueListing;
 use crate::workflow::Workflow;
@@ -76,7 +77,15 @@ fn has_name(names: &[Name], name: &Name) -> bool
 }
 
 impl Domains {
-    ghost use Rattle.std.specs.Prelude.{◌≡◌, [], false, map, IfSome, IfNone, IfOk, OnOk, OnErr};
+    ghost use Rattle.std.specs.Prelude.{◌≡◌, [], true, false, map, Err, IfSome, IfNone, IfOk, IfErr, OnOk, OnErr};
+    ghost use Rattle.std.specs.List.{AllByRecursion};
+    ghost use Rattle.ndc_model_cells.specs.Cells.{both};
+    ghost use Rattle.ndc_model_cells.specs.Messages.{HasSmallIds, IsMessage};
+    ghost use Rattle.ndc_model_cells.specs.Places.{is_of};
+    ghost use Rattle.ndc_shard_workflows.specs.Admitting.{IsAdmitted};
+    ghost use Rattle.ndc_shard_workflows.specs.Arriving.{ComesFrom};
+    ghost use Rattle.ndc_shard_workflows.specs.Workflows.{OthersStay};
+    ghost use Rattle.ndc_shard_workflows.specs.declared.admission.AdmitError.TheVariants.{Memory};
     ghost use Rattle.std.specs.Option.{option_copied};
     ghost use Rattle.ndc_model_cells.specs.Arrival.{arrival_of, arrived_at, learned_by};
     ghost use Rattle.ndc_model_cells.specs.Cells.{empty_cell, learned_of, IsCell};
@@ -91,7 +100,8 @@ impl Domains {
     ghost use Rattle.ndc_shard_workflows.specs.Reading.{HoldLearned, learned_workflows};
     ghost use Rattle.ndc_shard_workflows.specs.Due.{is_listed};
     ghost use Rattle.ndc_shard_workflows.specs.Listed.{IsListedBefore};
-    ghost use Rattle.ndc_shard_workflows.specs.Writing.{MayBeWrittenTogether};
+    ghost use Rattle.ndc_shard_workflows.specs.Writing.{IsMadeTogether, MayBeWrittenTogether};
+    ghost use Rattle.ndc_shard_workflows.specs.Refused.{IsNotWritten};
 
     /// Nothing has arrived.
     pub(crate) fn new(alloc: Global) -> Domains
@@ -150,10 +160,11 @@ impl Domains {
         learned_in(alloc, &self.domains)
     }
 
-    /// The cell is in order, and so is each workflow of it.
+    /// The cell is in order, and so is each workflow of it, of which what is learned is sound.
     pub(crate) fn is_in_order(&self)
         ensures cell { IsCell self.now }
         ensures workflows { (domain workflow : Text) → IsWorkflow (workflow_of domain workflow self.now) }
+        ensures sound { (domain workflow : Text) → IsSound (learned_of domain workflow self.now) }
     {
         let _domains = &self.domains;
     }
@@ -182,28 +193,69 @@ impl Domains {
         Ok(received)
     }
 
+    /// A message of which nobody vouches is handed to its workflow. A workflow or a domain of which nothing has arrived then
+    /// leaves no trace. For want of memory nothing changes, or nothing is said of what has arrived ([`AdmitError::Spent`]).
+    pub(crate) fn admit<L>(
+        &mut self,
+        alloc: Global,
+        terms: &Terms,
+        message: Message,
+        steps: &mut Steps<L>,
+    ) -> Result<Admitted, AdmitError>
+        requires message { IsMessage message }
+        requires second { IfSome message.second (λ b. is_of message.batch.domain message.batch.workflow b ≡ true) }
+        requires ids { AllByRecursion HasSmallIds (both message) }
+        ensures admitted { IfOk result (λ it. IsAdmitted terms.now message it.admission
+            (workflow_of message.batch.domain message.batch.workflow self.old) (workflow_of message.batch.domain message.batch.workflow self.new)) }
+        ensures due { IfOk result (λ it. it.may_be_due ≡ false → is_due (learned_of message.batch.domain message.batch.workflow self.new) ≡ false) }
+        ensures behind { IfOk result (λ it. it.is_behind ≡ false → (workflow_of message.batch.domain message.batch.workflow self.new).waiting ≡ []) }
+        ensures comes { OnOk result (ComesFrom (learned_of message.batch.domain message.batch.workflow self.old) (learned_of message.batch.domain message.batch.workflow self.new)) }
+        ensures others { OthersStay message.batch self.old self.new }
+        ensures memory { result ≡ Err Memory → self.new ≡ self.old }
+    {
+        if let Some(domain) = self.domains.get_mut(&message.batch.domain) {
+            return domain.admit(alloc, terms, message, steps);
+        }
+        let name = message.batch.domain.try_copy()?;
+        let mut domain = Domain::new(alloc);
+        let admitted = domain.admit(alloc, terms, message, steps)?;
+        if domain.is_empty() {
+            return Ok(admitted);
+        }
+        self.domains.insert(name, domain)?;
+        Ok(admitted)
+    }
+
     /// Learns a batch that is written in this cell, and the one that goes right behind it, in their workflow, which is listed
-    /// before, unless the batch leaves no stray. For want of memory nothing changes but for what is listed.
+    /// before, unless the batch leaves no stray. Where the caller does not vouch for them they are tried. After an error
+    /// nothing changes but for what is listed.
     pub(crate) fn write<L>(
         &mut self,
         alloc: Global,
+        vouched: bool,
         batch: &Batch,
         second: Option<&Batch>,
         due: &mut DueListing,
         steps: &mut Steps<L>,
-    ) -> Result<(), OutOfMemory>
-        requires { MayBeWrittenTogether (carrying batch.now (option_copied second)) (workflow_of batch.now.domain batch.now.workflow self.old) }
+    ) -> Result<(), NotWritten>
+        requires may { vouched ≡ true → MayBeWrittenTogether (carrying batch.now (option_copied second)) (workflow_of batch.now.domain batch.now.workflow self.old) }
+        requires made { IsMadeTogether (carrying batch.now (option_copied second)) }
         ensures ok { OnOk result (self.new ≡ with_batches (record { batch = batch.now; second = option_copied second.entry }) self.old) }
+        ensures may { OnOk result (MayBeWrittenTogether (carrying batch.now (option_copied second.entry)) (workflow_of batch.now.domain batch.now.workflow self.old)) }
+        ensures refused { IfErr result (λ cause. IsNotWritten cause (carrying batch.now (option_copied second.entry)) (workflow_of batch.now.domain batch.now.workflow self.old)) }
         ensures err { OnErr result (self.new ≡ self.old) }
         ensures listed { OnOk result (IsListedBefore batch.now (option_copied second.entry) (learned_of batch.now.domain batch.now.workflow self.old) due.old due.new) }
         ensures kept { (d w : Text) → is_listed d w due.new ≡ false → is_listed d w due.old ≡ false }
     {
         if let Some(domain) = self.domains.get_mut(&batch.domain) {
-            return domain.write(alloc, batch, second, due, steps);
+            return domain.write(alloc, vouched, batch, second, due, steps);
         }
         let name = batch.domain.try_copy()?;
         let mut domain = Domain::new(alloc);
-        domain.write(alloc, batch, second, due, steps)?;
+        match domain.write(alloc, vouched, batch, second, due, steps) {
+            Ok(()) => {}
+            Err(cause) => return Err(cause),
+        }
         self.domains.insert(name, domain)?;
         Ok(())
     }

@@ -14,11 +14,12 @@ mod learning;
 mod listing;
 mod next;
 mod reading;
+mod standing;
 mod workflow;
 pub mod workflow_laws;
 mod workflows;
 
-pub use admission::{Admission, SetAside};
+pub use admission::{Admission, AdmitError, NotAdmitted, NotWritten, SetAside, Terms};
 pub use arrival::Arrival;
 pub use cell::{message_there, messages_of};
 pub use reading::{message_at, messages};

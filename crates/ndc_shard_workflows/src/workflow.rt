@@ -1,10 +1,10 @@
-use crate::admission::Admission;
-use crate::admitting::admit;
+use crate::admission::{Admission, AdmitError, NotWritten, Terms};
+use crate::admitting::{admit, fit};
 use crate::arrival::Arrival;
-use crate::learning::{learn, take_in};
+use crate::learning::{is_reached, learn, take_in};
 use ndc_event::{Batch, BatchKey, OutOfMemory};
 use ndc_model_cells::Message;
-use ndc_shard_runs::Runs;
+use ndc_shard_runs::{Misfit, Runs};
 use ndc_shard_waiting::{PutOff, Waiting};
 use ndc_state::Steps;
 use std::alloc::Global;
@@ -39,7 +39,7 @@ impl Drop for Workflow {
 }
 
 impl Workflow {
-    ghost use Rattle.std.specs.Prelude.{◌≡◌, [], ◌∷◌, false, length, map, true, Some, IfOk, OnOk, OnErr};
+    ghost use Rattle.std.specs.Prelude.{◌≡◌, [], ◌∷◌, false, length, map, true, Some, IfOk, IfErr, IfSome, IfNone, OnOk, OnErr};
     ghost use Rattle.std.specs.List.{AllByRecursion};
     ghost use Rattle.std.specs.Option.{option_copied};
     ghost use Rattle.ndc_model_cells.specs.Cells.{both};
@@ -52,8 +52,10 @@ impl Workflow {
     ghost use Rattle.ndc_shard_waiting.specs.Learning.{with_message};
     ghost use Rattle.ndc_model_cells.specs.Messages.{waits_for, IsMessage, IsNewTo};
     ghost use Rattle.ndc_model_cells.specs.Messages.{carrying, HasSmallIds};
-    ghost use Rattle.ndc_shard_workflows.specs.Admitting.{IsAdmitted};
-    ghost use Rattle.ndc_shard_workflows.specs.Writing.{GoTogether};
+    ghost use Rattle.ndc_shard_workflows.specs.Admitting.{IsAdmitted, IsLeftBy};
+    ghost use Rattle.ndc_shard_workflows.specs.Arriving.{ComesFrom};
+    ghost use Rattle.ndc_shard_workflows.specs.Writing.{GoTogether, IsMadeTogether, MayBeWrittenTogether};
+    ghost use Rattle.ndc_shard_workflows.specs.Refused.{IsNotWritten};
     ghost use Rattle.ndc_shard_workflows.specs.Workflow.{IsWorkflow, empty_workflow, has_arrived, all_missing, answer_to, made_learned, after_arrival, with_written, counted_for};
 
     /// Nothing has arrived.
@@ -96,6 +98,13 @@ impl Workflow {
         ensures { result ≡ has_arrived key self.now }
     {
         self.get(key).is_some()
+    }
+
+    /// Whether nothing has arrived.
+    pub fn is_empty(&self) -> bool
+        ensures { result ≡ true → self.now ≡ empty_workflow }
+    {
+        self.runs.is_empty() && self.waiting.is_empty()
     }
 
     /// Whether reapplication is due: there are strays, and the current run is open. Where it is open, the strays are known
@@ -151,35 +160,53 @@ impl Workflow {
         }
     }
 
-    /// A message of which nobody vouches, and of which neither batch has arrived. It is refused where it or what it carries has
-    /// a fault, or where its earlier key is learned and it does not fit ([`ndc_shard_runs::Misfit`]); nothing changes then. Where its earlier
-    /// key is not learned it is put off. Any other is learned, and then what waited for it, in key order: what fits is learned,
-    /// what does not is set aside, and what waits for that waits on. What is learned is sound, whatever came. For want of
-    /// memory nothing has arrived any more: the workflow is empty.
+    /// A message of which nobody vouches, on these terms. The first of these that holds decides: the cell's own versions
+    /// ([`NotAdmitted::OwnVersion`], [`NotAdmitted::OwnOrigin`]); another batch under one of its keys ([`NotAdmitted::Rival`]);
+    /// it has arrived ([`Admission::Known`]); it has a fault, or its earlier key is learned and it does not fit
+    /// ([`NotAdmitted::Misfit`]); its earlier key is not learned: it is put off, where one more may wait
+    /// ([`NotAdmitted::Full`]). Any other is learned, and then what waited for it, in key order: what fits is learned, what
+    /// does not is set aside, and what waits for that waits on. What is learned is sound, whatever came, and only grows.
+    /// For want of memory nothing changes, or, where it is learned, nothing has arrived any more: the workflow is empty.
     ///
     /// It is a message as cells write them, and event ids are at most 10^12.
     pub fn admit<L>(
         &mut self,
         alloc: Global,
+        terms: &Terms,
         message: Message,
         steps: &mut Steps<L>,
-    ) -> Result<Admission, OutOfMemory>
+    ) -> Result<Admission, AdmitError>
         requires message { IsMessage message }
-        requires new { IsNewTo self.old.arrived message }
         requires ids { AllByRecursion HasSmallIds (both message) }
-        ensures admitted { IfOk result (λ admission. IsAdmitted message admission self.old self.new) }
+        ensures admitted { IfOk result (λ admission. IsAdmitted terms.now message admission self.old self.new) }
         ensures sound { OnOk result (IsSound (learned self.new.arrived)) }
-        ensures err { OnErr result (self.new ≡ empty_workflow) }
+        ensures comes { OnOk result (ComesFrom (learned self.old.arrived) (learned self.new.arrived)) }
+        ensures err { IfErr result (λ error. IsLeftBy error self.old self.new) }
     {
-        match admit(&mut self.runs, &mut self.waiting, alloc, message, steps) {
+        self.runs.is_sound();
+        if let Some(cause) = self.refusal(terms, &message) {
+            return Ok(Admission::Refused { cause });
+        }
+        if self.has_arrived(message.batch.key) {
+            return Ok(Admission::Known);
+        }
+        match admit(
+            &mut self.runs,
+            &mut self.waiting,
+            alloc,
+            terms.may_wait,
+            message,
+            steps,
+        ) {
             Ok(admission) => {
                 self.runs.is_sound();
                 Ok(admission)
             }
-            Err(error) => {
+            Err(AdmitError::Memory) => Err(AdmitError::Memory),
+            Err(AdmitError::Spent) => {
                 self.runs = Runs::new(alloc);
                 self.waiting = Waiting::new(alloc);
-                Err(error)
+                Err(AdmitError::Spent)
             }
         }
     }
@@ -209,5 +236,55 @@ impl Workflow {
         ensures steps { OnOk result (batch.now.parent ≡ current_key batch.now.run (learned self.old.arrived) → steps.new ≡ counted (counted_for (option_copied second.entry) steps.old) (length batch.now.events)) }
     {
         learn(&mut self.runs, alloc, batch, second, steps)
+    }
+
+    /// Learns a batch that would be written in this cell, and the one that goes right after it, which it carries or not, if
+    /// nothing stands under their keys, nothing waits for them, and they fit what is learned; or nothing changes. Of what has
+    /// arrived nothing is asked.
+    pub fn try_write<L>(
+        &mut self,
+        alloc: Global,
+        batch: &Batch,
+        second: Option<&Batch>,
+        steps: &mut Steps<L>,
+    ) -> Result<(), NotWritten>
+        requires { IsMadeTogether (carrying batch.now (option_copied second)) }
+        ensures may { OnOk result (MayBeWrittenTogether (carrying batch.now (option_copied second.entry)) self.old) }
+        ensures ok { OnOk result (self.new ≡ with_written (carrying batch.now (option_copied second.entry)) self.old) }
+        ensures refused { IfErr result (λ cause. IsNotWritten cause (carrying batch.now (option_copied second.entry)) self.old) }
+        ensures err { OnErr result (self.new ≡ self.old) }
+    {
+        if let Some(key) = self.taken_key(batch, second) {
+            let waits = !self.runs.has(key);
+            return Err(NotWritten::Rival { key, waits });
+        }
+        if let Some(key) = self.waiting.first_waiter(alloc, batch, second)? {
+            return Err(NotWritten::Awaited { key });
+        }
+        if !is_reached(&self.runs, batch) {
+            return Err(NotWritten::Misfit(Misfit::ParentUnfit));
+        }
+        match fit(&mut self.runs, alloc, batch, second, steps) {
+            Ok(_) => {}
+            Err(Misfit::Memory) => return Err(NotWritten::Memory),
+            Err(misfit) => return Err(NotWritten::Misfit(misfit)),
+        }
+        self.runs.is_sound();
+        Ok(())
+    }
+
+    /// The first of the keys of these batches under which something stands.
+    fn taken_key(&self, batch: &Batch, second: Option<&Batch>) -> Option<BatchKey>
+        ensures some { IfSome result (λ key. has_key (Some key) (both (carrying batch.now (option_copied second.entry))) ≡ true) }
+        ensures there { IfSome result (λ key. has_arrived key self.now ≡ true) }
+        ensures none { IfNone result (IsNewTo self.now.arrived (carrying batch.now (option_copied second.entry))) }
+    {
+        if self.has_arrived(batch.key) {
+            return Some(batch.key);
+        }
+        match second {
+            Some(second) if self.has_arrived(second.key) => Some(second.key),
+            _ => None,
+        }
     }
 }

@@ -9,8 +9,9 @@ ghost use Rattle.ndc_model_cells.specs.Writing.{Entry, greatest_task};
 ghost use Rattle.ndc_model_cells.specs.Writing as writing;
 ghost use Rattle.ndc_model_cells.specs.declared.message.Message.{Message as Sent};
 ghost use Rattle.ndc_event.specs.declared.name.Name.{Name as Text};
-ghost use Rattle.ndc_model_sets.specs.Learned.{has_key, learned};
-ghost use Rattle.ndc_model_sets.specs.Sets.{PointsBack, earlier};
+ghost use Rattle.ndc_model_sets.specs.Learned.{has_key, learned, IsPart};
+ghost use Rattle.ndc_model_sets.specs.Sets.{PointsBack, earlier, IsSet};
+ghost use Rattle.ndc_shard_workflows.specs.Arriving.{ComesFrom};
 ghost use Rattle.ndc_model_sets.specs.Sound.{IsSound};
 ghost use Rattle.ndc_model_cells.specs.Messages.{batches_of, carrying, HasSmallIds, IsMessage, IsNewTo};
 ghost use Rattle.ndc_shard_waiting.specs.Learning.{with_message, with_messages, ArePutOff};
@@ -68,4 +69,9 @@ pub fn what_may_arrive_is_admitted_whole()
         → IsSound known → IsSound (learned (with_message new (with_messages waiting known)))
         → IsLone new → AllByRecursion IsLone waiting → greatest_task known < 2 ^ 64 → AllByRecursion HasSmallTask (both new) → AllByRecursion HasSmallTask (batches_of waiting)
         → settled_with new known waiting ≡ record { known = with_messages (freed new waiting) known; waiting = still_put_off new waiting; learned = freed new waiting; aside = [] } }
+{}
+
+/// What is learned of a workflow only grows: a set that came from another one by messages that arrived has all of it.
+pub fn what_is_learned_only_grows()
+    ensures { (known after : List One) → IsSet known → ComesFrom known after → IsPart known after }
 {}

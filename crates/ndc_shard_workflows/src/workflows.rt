@@ -1,4 +1,4 @@
-ghost use Rattle.std.specs.Prelude.{◌≡◌, [], map, true, false, None, IfOk, OnOk, OnErr};
+ghost use Rattle.std.specs.Prelude.{◌≡◌, [], map, true, false, None, Err, IfOk, IfSome, OnOk, OnErr};
 ghost use Rattle.std.specs.List.{filter_map};
 ghost use Rattle.std.specs.Option.{option_copied, option_map};
 ghost use Rattle.ndc_model_cells.specs.Arrival.{arrival_of, arrived_at, learned_by};
@@ -11,16 +11,24 @@ ghost use Rattle.ndc_model_cells.specs.Workflow.{workflow_of};
 ghost use Rattle.ndc_shard_workflows.specs.Behind.{HoldBehind, first_behind, first_batch};
 ghost use Rattle.ndc_shard_workflows.specs.Due.{HoldDue};
 ghost use Rattle.ndc_shard_workflows.specs.Listed.{IsListedWhereBehind, IsListedWhereDue};
+ghost use Rattle.ndc_shard_workflows.specs.Workflows.{IsHandedTo};
+ghost use Rattle.ndc_shard_workflows.specs.declared.admission.AdmitError.TheVariants.{Memory};
+ghost use Rattle.std.specs.List.{AllByRecursion};
+ghost use Rattle.ndc_model_cells.specs.Cells.{both};
+ghost use Rattle.ndc_model_cells.specs.Messages.{HasSmallIds, IsMessage};
+ghost use Rattle.ndc_model_cells.specs.Places.{is_of};
 
-use crate::arrival::{Arrival, Received};
+use crate::admission::{Admission, AdmitError, NotAdmitted, NotWritten, Terms};
+use crate::arrival::{Admitted, Arrival, Received};
 use crate::domains::Domains;
 use crate::due::DueListing;
 use crate::listing::Listing;
 use crate::workflow::Workflow;
+use ndc_admission::first_fault;
 use ndc_event::{Batch, Name, OutOfMemory};
 use ndc_model_cells::{Message, Place};
 use ndc_state::Steps;
-use std::alloc::Global;
+use std::alloc::{AllocError, Global};
 use std::marker::Model;
 
 /// All workflows of a cell, found by domain and then by workflow, which of them reapplication may be due in, and which of
@@ -55,7 +63,13 @@ impl Drop for Workflows {
 }
 
 impl Workflows {
-    ghost use Rattle.std.specs.Prelude.{◌≡◌, [], map, IsTrue, IfSome, IfNone, IfOk, OnOk, OnErr};
+    ghost use Rattle.std.specs.Prelude.{◌≡◌, [], map, true, Err, IsTrue, IfSome, IfNone, IfOk, IfErr, OnOk, OnErr};
+    ghost use Rattle.std.specs.List.{AllByRecursion};
+    ghost use Rattle.ndc_model_cells.specs.Cells.{both};
+    ghost use Rattle.ndc_model_cells.specs.Messages.{HasSmallIds, IsMessage};
+    ghost use Rattle.ndc_model_cells.specs.Places.{is_of};
+    ghost use Rattle.ndc_shard_workflows.specs.Workflows.{IsAdmittedTo};
+    ghost use Rattle.ndc_shard_workflows.specs.declared.admission.AdmitError.TheVariants.{Memory, Spent};
     ghost use Rattle.std.specs.Option.{option_copied};
     ghost use Rattle.ndc_model_cells.specs.Arrival.{arrival_of, arrived_at, learned_by};
     ghost use Rattle.ndc_event.specs.declared.name.Name.{Name as Text};
@@ -71,7 +85,8 @@ impl Workflows {
     ghost use Rattle.ndc_model_cells.specs.Workflow.{workflow_of};
     ghost use Rattle.ndc_shard_workflows.specs.Due.{AreDue, AreDueDomains, AreDueIn};
     ghost use Rattle.ndc_shard_workflows.specs.Reading.{HoldLearned, learned_workflows};
-    ghost use Rattle.ndc_shard_workflows.specs.Writing.{MayBeWrittenTogether};
+    ghost use Rattle.ndc_shard_workflows.specs.Writing.{IsMadeTogether, MayBeWrittenTogether};
+    ghost use Rattle.ndc_shard_workflows.specs.Refused.{IsNotWritten};
 
     /// Nothing has arrived.
     pub fn new(alloc: Global) -> Workflows
@@ -84,10 +99,11 @@ impl Workflows {
         }
     }
 
-    /// The cell is in order, and so is each workflow of it. Takes no time.
+    /// The cell is in order, and so is each workflow of it, of which what is learned is sound. Takes no time.
     pub fn is_in_order(&self)
         ensures cell { IsCell self.now }
         ensures workflows { (domain workflow : Text) → IsWorkflow (workflow_of domain workflow self.now) }
+        ensures sound { (domain workflow : Text) → IsSound (learned_of domain workflow self.now) }
     {
         self.domains.is_in_order();
     }
@@ -135,6 +151,46 @@ impl Workflows {
         }
     }
 
+    /// A message of which nobody vouches is handed to its workflow on these terms ([`Workflow::admit`]); all other workflows
+    /// stay as they are. Refused first where it is none that cells of these clusters send, whatever is learned
+    /// ([`NotAdmitted::Fault`]). For want of memory nothing changes ([`AdmitError::Memory`]), or, where it is learned, nothing
+    /// has arrived any more ([`AdmitError::Spent`]). Of the message nothing is asked.
+    pub fn admit<L>(
+        &mut self,
+        alloc: Global,
+        terms: &Terms,
+        message: Message,
+        steps: &mut Steps<L>,
+    ) -> Result<Admission, AdmitError>
+        ensures admitted { IfOk result (λ admission. IsAdmittedTo terms.now message admission self.old self.new) }
+        ensures memory { result ≡ Err Memory → self.new ≡ self.old }
+        ensures spent { result ≡ Err Spent → self.new ≡ empty_cell }
+    {
+        if let Some(fault) = first_fault(&message, terms.clusters) {
+            return Ok(Admission::Refused {
+                cause: NotAdmitted::Fault(fault),
+            });
+        }
+        match admit_in(
+            &mut self.domains,
+            &mut self.due,
+            &mut self.behind,
+            alloc,
+            terms,
+            message,
+            steps,
+        ) {
+            Ok(admission) => Ok(admission),
+            Err(AdmitError::Memory) => Err(AdmitError::Memory),
+            Err(AdmitError::Spent) => {
+                self.domains = Domains::new(alloc);
+                self.due = DueListing::new(alloc);
+                self.behind = Listing::new(alloc);
+                Err(AdmitError::Spent)
+            }
+        }
+    }
+
     /// Learns a batch that is written in this cell, and the one that goes right behind it, which it carries or not, in their
     /// workflow. For want of memory nothing changes.
     pub fn write<L>(
@@ -149,8 +205,34 @@ impl Workflows {
         ensures err { OnErr result (self.new ≡ self.old) }
     {
         self.domains.is_in_order();
+        match self
+            .domains
+            .write(alloc, true, batch, second, &mut self.due, steps)
+        {
+            Ok(()) => Ok(()),
+            Err(_) => Err(AllocError),
+        }
+    }
+
+    /// Learns a batch that would be written in this cell, and the one that goes right after it, which it carries or not, if
+    /// nothing stands under their keys, nothing waits for them, and they fit what is learned ([`Workflow::try_write`]). After an
+    /// error nothing changes.
+    pub fn try_write<L>(
+        &mut self,
+        alloc: Global,
+        batch: &Batch,
+        second: Option<&Batch>,
+        steps: &mut Steps<L>,
+    ) -> Result<(), NotWritten>
+        requires { IsMadeTogether (carrying batch.now (option_copied second)) }
+        ensures ok { OnOk result (self.new ≡ with_batches (record { batch = batch.now; second = option_copied second.entry }) self.old) }
+        ensures may { OnOk result (MayBeWrittenTogether (carrying batch.now (option_copied second.entry)) (workflow_of batch.now.domain batch.now.workflow self.old)) }
+        ensures refused { IfErr result (λ cause. IsNotWritten cause (carrying batch.now (option_copied second.entry)) (workflow_of batch.now.domain batch.now.workflow self.old)) }
+        ensures err { OnErr result (self.new ≡ self.old) }
+    {
+        self.domains.is_in_order();
         self.domains
-            .write(alloc, batch, second, &mut self.due, steps)
+            .write(alloc, false, batch, second, &mut self.due, steps)
     }
 
     /// The workflows of these domains, in order of domain and then of name. They hold, in order, all that is learned of
@@ -250,10 +332,73 @@ fn arrive_in<L>(
     let domain = message.batch.domain.try_copy()?;
     let workflow = message.batch.workflow.try_copy()?;
     let received = domains.arrive(alloc, message, steps)?;
-    list_where_due(received.may_be_due, due, &domain, &workflow)?;
-    list_where_behind(received.is_behind, behind, &domain, &workflow)?;
+    list_in(
+        due,
+        behind,
+        received.may_be_due,
+        received.is_behind,
+        &domain,
+        &workflow,
+    )?;
     let Received { arrival, .. } = received;
     Ok(arrival)
+}
+
+/// A message of which nobody vouches is handed to its workflow, which is listed where reapplication may be due in it, and
+/// where something is put off of it. For want of memory nothing changes, or nothing is said.
+fn admit_in<L>(
+    domains: &mut Domains,
+    due: &mut DueListing,
+    behind: &mut Listing,
+    alloc: Global,
+    terms: &Terms,
+    message: Message,
+    steps: &mut Steps<L>,
+) -> Result<Admission, AdmitError>
+    requires hold { HoldDue due.old domains.old }
+    requires waiting { HoldBehind behind.old domains.old }
+    requires message { IsMessage message }
+    requires second { IfSome message.second (λ b. is_of message.batch.domain message.batch.workflow b ≡ true) }
+    requires ids { AllByRecursion HasSmallIds (both message) }
+    ensures handed { IfOk result (λ admission. IsHandedTo terms.now message admission domains.old domains.new) }
+    ensures hold { OnOk result (HoldDue due.new domains.new) }
+    ensures waiting { OnOk result (HoldBehind behind.new domains.new) }
+    ensures domains_kept { result ≡ Err Memory → domains.new ≡ domains.old }
+    ensures due_kept { result ≡ Err Memory → due.new ≡ due.old }
+    ensures behind_kept { result ≡ Err Memory → behind.new ≡ behind.old }
+{
+    let domain = message.batch.domain.try_copy()?;
+    let workflow = message.batch.workflow.try_copy()?;
+    match domains.admit(alloc, terms, message, steps) {
+        Ok(admitted) => {
+            let Admitted {
+                admission,
+                may_be_due,
+                is_behind,
+            } = admitted;
+            match list_in(due, behind, may_be_due, is_behind, &domain, &workflow) {
+                Ok(()) => Ok(admission),
+                Err(_) => Err(AdmitError::Spent),
+            }
+        }
+        Err(error) => Err(error),
+    }
+}
+
+/// Lists a workflow in both lists, where it belongs there.
+fn list_in(
+    due: &mut DueListing,
+    behind: &mut Listing,
+    may_be_due: bool,
+    is_behind: bool,
+    domain: &Name,
+    workflow: &Name,
+) -> Result<(), OutOfMemory>
+    ensures due { OnOk result (IsListedWhereDue domain.now workflow.now may_be_due due.old due.new) }
+    ensures behind { OnOk result (IsListedWhereBehind domain.now workflow.now is_behind behind.old behind.new) }
+{
+    list_where_due(may_be_due, due, domain, workflow)?;
+    list_where_behind(is_behind, behind, domain, workflow)
 }
 
 /// Lists a workflow where reapplication may be due in it.

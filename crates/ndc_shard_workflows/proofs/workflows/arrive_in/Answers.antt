@@ -11,18 +11,18 @@ pub returns-clause-hold : goal.returns-clause-hold
 returns-clause-hold g c =
     let m = c.args.message in
     let may_be_due = c.in_ok-received.received.may_be_due in
-    let after = c.list_where_due.new.due in
+    let after = c.list_in.new.due in
     subst (HoldDue after) (sym c.in_ok-received.ensures.cell)
     (hold-arrived m c.args.domains.now may_be_due c.args.due.now after c.requires.may c.requires.hold c.in_ok-received.ensures.due
     (subst (λ (d : Name). IsListedWhereDue d m.batch.workflow may_be_due c.args.due.now after) c.in_ok-domain.ensures
-    (subst (λ (w : Name). IsListedWhereDue c.in_ok-domain.domain w may_be_due c.args.due.now after) c.in_ok-workflow.ensures c.in_ok-list_where_due.ensures)))
+    (subst (λ (w : Name). IsListedWhereDue c.in_ok-domain.domain w may_be_due c.args.due.now after) c.in_ok-workflow.ensures c.in_ok-list_in.ensures.due)))
 
 pub returns-clause-behind : goal.returns-clause-behind
 returns-clause-behind g c =
     let m = c.args.message in
     let is_behind = c.in_ok-received.received.is_behind in
-    let after = c.list_where_behind.new.behind in
+    let after = c.list_in.new.behind in
     subst (HoldBehind after) (sym c.in_ok-received.ensures.cell)
     (behind-arrived m c.args.domains.now is_behind c.args.behind.now after c.requires.behind c.in_ok-received.ensures.behind
     (subst (λ (d : Name). IsListedWhereBehind d m.batch.workflow is_behind c.args.behind.now after) c.in_ok-domain.ensures
-    (subst (λ (w : Name). IsListedWhereBehind c.in_ok-domain.domain w is_behind c.args.behind.now after) c.in_ok-workflow.ensures c.in_ok-list_where_behind.ensures)))
+    (subst (λ (w : Name). IsListedWhereBehind c.in_ok-domain.domain w is_behind c.args.behind.now after) c.in_ok-workflow.ensures c.in_ok-list_in.ensures.behind)))

@@ -1,0 +1,4 @@
+pub mod DoneLemmas
+pub mod KeptLemmas
+pub mod LaneLemmas
+pub mod LevelLemmas
