@@ -1,0 +1,33 @@
+//! What holds of the texts of all shapes.
+ghost use Rattle.std.specs.Prelude.{◌≡◌, ◌↔◌, ◌++◌, ℕ, List, [], true, Ok};
+ghost use Rattle.ndc_node_shapes.specs.Fits.{Fits, is_sound};
+ghost use Rattle.ndc_node_shapes.specs.Read.{read_of};
+ghost use Rattle.ndc_node_shapes.specs.Shapes.{Shape, Value, object};
+ghost use Rattle.ndc_node_shapes.specs.Objects.{object_at};
+ghost use Rattle.ndc_node_shapes.specs.Text.{text_of};
+
+/// A text is read as a value of a sound shape exactly where it is the text of that value, which fits the shape.
+pub fn read_where_printed()
+    ensures { (shape : Shape) (value : Value shape) (bytes : List ℕ) → is_sound shape ≡ true
+        → (read_of shape bytes ≡ Ok (value, [])) ↔ (Fits shape value × (bytes ≡ text_of shape value)) }
+{}
+
+/// No value has two texts.
+pub fn one_text_of_a_value()
+    ensures { (shape : Shape) (value : Value shape) (bytes more : List ℕ) → is_sound shape ≡ true
+        → read_of shape bytes ≡ Ok (value, []) → read_of shape more ≡ Ok (value, []) → bytes ≡ more }
+{}
+
+/// No text is that of two values.
+pub fn one_value_of_a_text()
+    ensures { (shape : Shape) (one other : Value shape) → is_sound shape ≡ true → Fits shape one → Fits shape other
+        → text_of shape one ≡ text_of shape other → one ≡ other }
+{}
+
+/// The text of an object is cut out of what begins with it, whatever comes after; and what is cut out stands there.
+pub fn objects_are_cut_out()
+    ensures cut { (key : List ℕ) (shape members : Shape) (value : Value (object key shape members)) (rest : List ℕ)
+        → is_sound (object key shape members) ≡ true → Fits (object key shape members) value
+        → object_at (text_of (object key shape members) value ++ rest) ≡ Ok (text_of (object key shape members) value, rest) }
+    ensures stands { (left text rest : List ℕ) → object_at left ≡ Ok (text, rest) → left ≡ text ++ rest }
+{}
