@@ -4,15 +4,15 @@ use Rattle.std.specs.Prelude.{IsTrue, nat_le, nat_lt, not}
 use Rattle.std.specs.List.{list_all, AllByRecursion}
 use Rattle.std.proofs.lemmas.Bool.{and_parts, ltb-true, ne_eqb, not-true}
 use Rattle.std.proofs.lemmas.Fmt.{decimal_nonempty}
-use Rattle.ndc_node_shapes.specs.Bytes.{after, expect, is_digit, digits_of, number_at, flag_text, flag_from, list_text, list_at, member_at, rise, rising_at, in_range, unless_null, first_key, next_key}
+use Rattle.ndc_node_shapes.specs.Bytes.{after, expect, is_digit, digits_of, number_at, flag_text, flag_from, list_text, list_at, member_at, numbers_at, word_at, in_range, unless_null, first_key, next_key}
 use Rattle.ndc_node_shapes.specs.Fits.{Fits, is_key, is_object, is_rest, is_sound}
 use Rattle.ndc_node_shapes.specs.Read.{read_of}
-use Rattle.ndc_node_shapes.specs.Shapes.{Shape, number, flag, name, text, run, rising, list, nullable, object, next, end, Value}
+use Rattle.ndc_node_shapes.specs.Shapes.{Shape, number, flag, name, word, text, run, numbers, list, nullable, object, next, end, Value}
 use Rattle.ndc_node_shapes.specs.Text.{text_of}
 use Rattle.ndc_node_shapes.proofs.Steps.{bound, parts}
 use Rattle.ndc_node_shapes.proofs.Pieces.{expected, is_there, was_expected}
 use Rattle.ndc_node_shapes.proofs.Numbers.{number_again, number_only, printed_digits}
-use Rattle.ndc_node_shapes.proofs.Quoted.{text_again, text_only, name_again, name_only, run_again, run_only, in_its_range}
+use Rattle.ndc_node_shapes.proofs.Quoted.{text_again, text_only, name_again, name_only, word_again, word_only, run_again, run_only, in_its_range}
 use Rattle.ndc_node_shapes.proofs.Lists.{IsRead, list_again, list_only}
 
 -- ---- how texts begin
@@ -38,9 +38,10 @@ begins (number least most) n rest sound h = number_begins n rest (number_small l
 begins flag true rest sound h = refl
 begins flag false rest sound h = refl
 begins name bytes rest sound h = refl
+begins (word test) bytes rest sound h = refl
 begins text bytes rest sound h = refl
 begins run id rest sound h = refl
-begins (rising most) ns rest sound h = refl
+begins (numbers most test) ns rest sound h = refl
 begins (list s) vs rest sound h = refl
 begins (nullable s) None rest sound h = refl
 begins (nullable s) (Some v) rest sound h = begins s v rest (and_parts (is_sound s) (is_object s) sound).0 h
@@ -52,9 +53,10 @@ object_begins : (s : Shape) (v : Value s) (rest : List ℕ) → is_object s ≡ 
 object_begins (number least most) v rest h = absurd (cc)
 object_begins flag v rest h = absurd (cc)
 object_begins name v rest h = absurd (cc)
+object_begins (word test) v rest h = absurd (cc)
 object_begins text v rest h = absurd (cc)
 object_begins run v rest h = absurd (cc)
-object_begins (rising most) v rest h = absurd (cc)
+object_begins (numbers most test) v rest h = absurd (cc)
 object_begins (list s) v rest h = absurd (cc)
 object_begins (nullable s) v rest h = absurd (cc)
 object_begins (object key s ms) v rest h = refl
@@ -65,9 +67,10 @@ rest_stops : (s : Shape) (v : Value s) (rest : List ℕ) → is_rest s ≡ true 
 rest_stops (number least most) v rest h = absurd (cc)
 rest_stops flag v rest h = absurd (cc)
 rest_stops name v rest h = absurd (cc)
+rest_stops (word test) v rest h = absurd (cc)
 rest_stops text v rest h = absurd (cc)
 rest_stops run v rest h = absurd (cc)
-rest_stops (rising most) v rest h = absurd (cc)
+rest_stops (numbers most test) v rest h = absurd (cc)
 rest_stops (list s) v rest h = absurd (cc)
 rest_stops (nullable s) v rest h = absurd (cc)
 rest_stops (object key s ms) v rest h = absurd (cc)
@@ -100,16 +103,16 @@ module _ (bound_of : ℕ) (small : bound_of < 10 ^ 18) where
     begins = λ n rest h. number_begins n rest (let upper : n ≤ bound_of = leb-true n bound_of (and_parts (nat_le 0 n) (nat_le n bound_of) h).1 in omega (arith, upper));
   }
 
-  rising_again : (ns rest : List ℕ) → list_all (λ n. nat_le n bound_of) ns ≡ true → rise ns ≡ true → rising_at bound_of (list_text decimal ns ++ rest) ≡ Ok (ns, rest)
-  rising_again ns rest all up = rw (list_again decimal (number_at 0 bound_of) IsBelow numbers_read ns rest (all_below ns all), up) refl
+  numbers_again : (test : List ℕ → Bool) (ns rest : List ℕ) → list_all (λ n. nat_le n bound_of) ns ≡ true → test ns ≡ true → numbers_at bound_of test (list_text decimal ns ++ rest) ≡ Ok (ns, rest)
+  numbers_again test ns rest all up = rw (list_again decimal (number_at 0 bound_of) IsBelow numbers_read ns rest (all_below ns all), up) refl
 
-  rising_only : (ns left rest : List ℕ) → rising_at bound_of left ≡ Ok (ns, rest) → ((list_all (λ n. nat_le n bound_of) ns ≡ true) × (rise ns ≡ true)) × (left ≡ list_text decimal ns ++ rest)
+  numbers_only : (test : List ℕ → Bool) (ns left rest : List ℕ) → numbers_at bound_of test left ≡ Ok (ns, rest) → ((list_all (λ n. nat_le n bound_of) ns ≡ true) × (test ns ≡ true)) × (left ≡ list_text decimal ns ++ rest)
   unfolding IsBelow
-  rising_only ns left rest h =
-      let p = bound (λ (r : List ℕ × List ℕ). in_range (rise r.0) r left) (list_at (number_at 0 bound_of) left) (ns, rest) h in
-      let r = in_its_range (rise p.0.0) p.0 (ns, rest) left p.1.1 in
+  numbers_only test ns left rest h =
+      let p = bound (λ (r : List ℕ × List ℕ). in_range (test r.0) r left) (list_at (number_at 0 bound_of) left) (ns, rest) h in
+      let r = in_its_range (test p.0.0) p.0 (ns, rest) left p.1.1 in
       let it = list_only decimal (number_at 0 bound_of) IsBelow (λ left rest n. number_only 0 bound_of n left rest) left rest ns (p.1.0 ∙ ap (λ (q : List ℕ × List ℕ). Ok q) r.0) in
-      ((are_below ns it.0, subst (λ (q : List ℕ × List ℕ). rise q.0 ≡ true) r.0 r.1), it.1)
+      ((are_below ns it.0, subst (λ (q : List ℕ × List ℕ). test q.0 ≡ true) r.0 r.1), it.1)
 
 -- the parts of what is sound
 abbrev pub IsJoined : List ℕ → Shape → Shape → Type 0
@@ -137,9 +140,10 @@ again (number least most) n rest sound h stop = number_again least most n rest (
 again flag true rest sound h stop = refl
 again flag false rest sound h stop = refl
 again name bytes rest sound h stop = name_again bytes rest h
+again (word test) bytes rest sound h stop = word_again test bytes rest h.0 h.1
 again text bytes rest sound h stop = text_again bytes rest h
 again run id rest sound h stop = run_again id rest h
-again (rising most) ns rest sound h stop = rising_again most (ltb-true most (10 ^ 18) sound) ns rest h.0 h.1
+again (numbers most test) ns rest sound h stop = numbers_again most (ltb-true most (10 ^ 18) sound) test ns rest h.0 h.1
 again (list s) vs rest sound h stop =
     let good = (and_parts (is_sound s) (not (is_rest s)) sound).0 in
     list_again (text_of s) (read_of s) (Fits s) (record { again = λ v rest f stop. again s v rest good f stop; begins = λ v rest f. begins s v rest good f }) vs rest h
@@ -199,9 +203,10 @@ pub only : (s : Shape) (left : List ℕ) (v : Value s) (rest : List ℕ) → is_
 only (number least most) left n rest sound h = number_only least most n left rest h
 only flag left b rest sound h = (tt, flag_was b left rest (after (codes "true") left) refl h)
 only name left bytes rest sound h = name_only left bytes rest h
+only (word test) left bytes rest sound h = word_only test left bytes rest h
 only text left bytes rest sound h = let p = text_only left bytes rest h in (p.1, p.0)
 only run left id rest sound h = run_only id left rest h
-only (rising most) left ns rest sound h = rising_only most (ltb-true most (10 ^ 18) sound) ns left rest h
+only (numbers most test) left ns rest sound h = numbers_only most (ltb-true most (10 ^ 18) sound) test ns left rest h
 only (list s) left vs rest sound h =
     let good = (and_parts (is_sound s) (not (is_rest s)) sound).0 in
     list_only (text_of s) (read_of s) (Fits s) (λ left rest v. only s left v rest good) left rest vs h

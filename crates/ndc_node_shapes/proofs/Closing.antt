@@ -10,7 +10,7 @@ use Rattle.ndc_node_shapes.specs.Bytes.{is_digit, is_marked, escaped, quoted, fu
 use Rattle.ndc_node_shapes.specs.Fits.{Fits, is_key, is_object, is_rest, is_sound}
 use Rattle.ndc_node_shapes.specs.Objects.{step, unless_done, rest_after, after_object, object_at}
 use Rattle.ndc_node_shapes.specs.declared.fault.Cause.TheVariants.{Unexpected}
-use Rattle.ndc_node_shapes.specs.Shapes.{Shape, number, flag, name, text, run, rising, list, nullable, object, next, end, Value}
+use Rattle.ndc_node_shapes.specs.Shapes.{Shape, number, flag, name, word, text, run, numbers, list, nullable, object, next, end, Value}
 use Rattle.ndc_node_shapes.specs.Text.{text_of}
 use Rattle.ndc_node_shapes.specs.declared.object.Place.{Place}
 use Rattle.ndc_node_shapes.specs.declared.object.Place.TheVariants.{Outside, Inside}
@@ -102,9 +102,10 @@ object_is_whole : (s : Shape) → is_object s ≡ true → is_rest s ≡ false
 object_is_whole (number least most) h = absurd (cc)
 object_is_whole flag h = absurd (cc)
 object_is_whole name h = absurd (cc)
+object_is_whole (word test) h = absurd (cc)
 object_is_whole text h = absurd (cc)
 object_is_whole run h = absurd (cc)
-object_is_whole (rising most) h = absurd (cc)
+object_is_whole (numbers most test) h = absurd (cc)
 object_is_whole (list s) h = absurd (cc)
 object_is_whole (nullable s) h = absurd (cc)
 object_is_whole (object key s ms) h = refl
@@ -127,9 +128,10 @@ passes (number least most) n m r sound h = number_passes n m r (number_small lea
 passes flag n true r sound h = refl
 passes flag n false r sound h = refl
 passes name n bytes r sound h = quoted_passes n bytes r
+passes (word test) n bytes r sound h = quoted_passes n bytes r
 passes text n bytes r sound h = quoted_passes n bytes r
 passes run n id r sound h = quoted_passes n (run_text id) r
-passes (rising most) n ns r sound h = list_passes decimal (λ m. m < 10 ^ 18) (λ n m r few. number_passes n m r few) n ns r (small_all most ns (ltb-true most (10 ^ 18) sound) h.0)
+passes (numbers most test) n ns r sound h = list_passes decimal (λ m. m < 10 ^ 18) (λ n m r few. number_passes n m r few) n ns r (small_all most ns (ltb-true most (10 ^ 18) sound) h.0)
 passes (list s) n vs r sound h =
     let p = and_parts (is_sound s) (not (is_rest s)) sound in
     list_passes (text_of s) (Fits s) (λ n v r f. as_whole s n (text_of s v ++ r) r (not-true (is_rest s) p.1) (passes s n v r p.0 f)) n vs r h
@@ -158,7 +160,7 @@ taken_front front rest = ap (λ k. take k (front ++ rest)) (let l = length-appen
 pub cut : (bytes rest : List ℕ) → after_object (bytes ++ rest) ≡ Some rest → object_at (bytes ++ rest) ≡ Ok (bytes, rest)
 cut bytes rest h = rw h (ap (λ (t : List ℕ). Ok (t, rest)) (taken_front bytes rest))
 
-closes : (key : List ℕ) (s ms : Shape) (v : Value (object key s ms)) (rest : List ℕ) → is_sound (object key s ms) ≡ true → Fits (object key s ms) v
+pub closes : (key : List ℕ) (s ms : Shape) (v : Value (object key s ms)) (rest : List ℕ) → is_sound (object key s ms) ≡ true → Fits (object key s ms) v
     → after_object (text_of (object key s ms) v ++ rest) ≡ Some rest
 unfolding rest_after
 closes key s ms v rest sound h =

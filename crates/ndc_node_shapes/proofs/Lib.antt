@@ -8,3 +8,4 @@ pub mod Both
 pub mod AllShapes
 pub mod OneByte
 pub mod Closing
+pub mod Onto

@@ -14,7 +14,7 @@ use Rattle.ndc_node_shapes.specs.Ranges.{is_id, is_version, is_run}
 use Rattle.std.specs.Prelude.{slice_index, IsTrue, nat_le, nat_lt, if◌then◌else◌}
 use Rattle.std.specs.List.{list_all}
 use Rattle.std.proofs.lemmas.Bool.{and_parts, ltb-true, ltb-false}
-use Rattle.ndc_node_shapes.specs.Bytes.{Taken, is_plain, is_marked, escaped, quoted, unquoted, with_byte, text_at, name_at, run_at, run_from, run_of_value, in_range, wanted, fault_at, expect}
+use Rattle.ndc_node_shapes.specs.Bytes.{Taken, is_plain, is_marked, escaped, quoted, unquoted, with_byte, text_at, name_at, word_at, run_at, run_from, run_of_value, in_range, wanted, fault_at, expect}
 use Rattle.ndc_node_shapes.specs.declared.fault.Cause.TheVariants.{Byte, Range}
 use Rattle.ndc_node_shapes.proofs.Steps.{bound, parts, wanted_some}
 use Rattle.ndc_node_shapes.proofs.Pieces.{was_expected}
@@ -142,6 +142,16 @@ name_only left bytes rest h =
     let p = bound (λ (r : List ℕ × List ℕ). in_range (is_name r.0) r left) (text_at left) (bytes, rest) h in
     let r = in_its_range (is_name p.0.0) p.0 (bytes, rest) left p.1.1 in
     (subst (λ (q : List ℕ × List ℕ). IsTrue (is_name q.0)) r.0 r.1, (text_only left bytes rest (p.1.0 ∙ ap (λ (q : List ℕ × List ℕ). Ok q) r.0)).0)
+
+pub word_again : (test : List ℕ → Bool) (bytes rest : List ℕ) → IsTrue (is_name bytes) → IsTrue (test bytes) → word_at test (quoted bytes ++ rest) ≡ Ok (bytes, rest)
+word_again test bytes rest h t = rw (name_again bytes rest h, t) refl
+
+pub word_only : (test : List ℕ → Bool) (left bytes rest : List ℕ) → word_at test left ≡ Ok (bytes, rest) → (IsTrue (is_name bytes) × IsTrue (test bytes)) × (left ≡ quoted bytes ++ rest)
+word_only test left bytes rest h =
+    let p = bound (λ (r : List ℕ × List ℕ). in_range (test r.0) r left) (name_at left) (bytes, rest) h in
+    let r = in_its_range (test p.0.0) p.0 (bytes, rest) left p.1.1 in
+    let it = name_only left bytes rest (p.1.0 ∙ ap (λ (q : List ℕ × List ℕ). Ok q) r.0) in
+    ((it.0, subst (λ (q : List ℕ × List ℕ). IsTrue (test q.0)) r.0 r.1), it.1)
 
 -- ---- ids of runs
 

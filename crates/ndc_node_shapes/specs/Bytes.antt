@@ -123,6 +123,12 @@ name_at left = do
   r ← text_at left
   in_range (is_name r.0) r left
 
+-- a name that passes a test
+abbrev pub word_at : (List ℕ → Bool) → List ℕ → Taken (List ℕ)
+word_at test left = do
+  r ← name_at left
+  in_range (test r.0) r left
+
 -- ---- keys
 
 -- what an object begins with, up to the first member's value
@@ -230,19 +236,10 @@ run_at left = do
   run ← wanted Range left (run_from r.0 (parsed r.0))
   Ok (run, r.1)
 
--- ---- numbers that rise
+-- ---- lists of numbers
 
--- each number is above the one before
-abbrev pub rise_from : ℕ → List ℕ → Bool
-rise_from last [] = true
-rise_from last (n ∷ ns) = nat_lt last n && rise_from n ns
-
-abbrev pub rise : List ℕ → Bool
-rise [] = true
-rise (n ∷ ns) = rise_from n ns
-
--- a list of numbers up to a bound that rise
-abbrev pub rising_at : ℕ → List ℕ → Taken (List ℕ)
-rising_at bound left = do
-  r ← list_at (number_at 0 bound) left
-  in_range (rise r.0) r left
+-- a list of numbers up to a bound that passes a test
+abbrev pub numbers_at : ℕ → (List ℕ → Bool) → List ℕ → Taken (List ℕ)
+numbers_at most test left = do
+  r ← list_at (number_at 0 most) left
+  in_range (test r.0) r left

@@ -1,6 +1,7 @@
 -- Shapes that occur in many texts.
 use Rattle.std.specs.Prelude.{◌^◌, codes}
 use Rattle.ndc_event.specs.declared.key.BatchKey.{BatchKey}
+use Rattle.ndc_history.specs.declared.item.Item.{Item}
 use Rattle.ndc_node_shapes.specs.Shapes.{Shape, number, object, next, end, Value}
 
 -- an event id or a task
@@ -17,3 +18,10 @@ key_shape = object (codes "task") id (next (codes "version") version end)
 
 abbrev pub key_value : BatchKey → Value key_shape
 key_value key = (key.task, (key.version, tt))
+
+-- the last event id of a version
+abbrev pub item_shape : Shape
+item_shape = object (codes "id") id (next (codes "version") version end)
+
+abbrev pub item_value : Item → Value item_shape
+item_value item = (item.id, (item.version, tt))

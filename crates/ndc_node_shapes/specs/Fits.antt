@@ -2,18 +2,19 @@
 use Rattle.std.specs.Prelude.{ℕ, ◌^◌, Bool, true, false, ◌&&◌, not, nat_lt, nat_le, List, Some, None, IsTrue, ⊤}
 use Rattle.std.specs.List.{list_all, AllByRecursion}
 use Rattle.ndc_event.specs.Name.{is_name}
-use Rattle.ndc_node_shapes.specs.Bytes.{is_plain, is_marked, rise}
+use Rattle.ndc_node_shapes.specs.Bytes.{is_plain, is_marked}
 use Rattle.ndc_node_shapes.specs.Ranges.{is_run}
-use Rattle.ndc_node_shapes.specs.Shapes.{Shape, number, flag, name, text, run, rising, list, nullable, object, next, end, Value}
+use Rattle.ndc_node_shapes.specs.Shapes.{Shape, number, flag, name, word, text, run, numbers, list, nullable, object, next, end, Value}
 
 -- numbers are in their ranges, names are names, texts have the bytes from space to `~` alone
 abbrev pub Fits : (shape : Shape) → Value shape → Type 0
 Fits (number least most) n = IsTrue (nat_le least n && nat_le n most)
 Fits flag value = ⊤
 Fits name bytes = IsTrue (is_name bytes)
+Fits (word test) bytes = IsTrue (is_name bytes) × IsTrue (test bytes)
 Fits text bytes = IsTrue (list_all is_plain bytes)
 Fits run id = IsTrue (is_run id.value)
-Fits (rising bound) ns = IsTrue (list_all (λ n. nat_le n bound) ns) × IsTrue (rise ns)
+Fits (numbers most test) ns = IsTrue (list_all (λ n. nat_le n most) ns) × IsTrue (test ns)
 Fits (list shape) values = AllByRecursion (Fits shape) values
 Fits (nullable shape) None = ⊤
 Fits (nullable shape) (Some value) = Fits shape value
@@ -30,9 +31,10 @@ abbrev pub is_object : Shape → Bool
 is_object (number least most) = false
 is_object flag = false
 is_object name = false
+is_object (word test) = false
 is_object text = false
 is_object run = false
-is_object (rising bound) = false
+is_object (numbers most test) = false
 is_object (list shape) = false
 is_object (nullable shape) = false
 is_object (object key shape members) = true
@@ -44,9 +46,10 @@ abbrev pub is_rest : Shape → Bool
 is_rest (number least most) = false
 is_rest flag = false
 is_rest name = false
+is_rest (word test) = false
 is_rest text = false
 is_rest run = false
-is_rest (rising bound) = false
+is_rest (numbers most test) = false
 is_rest (list shape) = false
 is_rest (nullable shape) = false
 is_rest (object key shape members) = false
@@ -58,9 +61,10 @@ abbrev pub is_sound : Shape → Bool
 is_sound (number least most) = nat_lt most (10 ^ 18)
 is_sound flag = true
 is_sound name = true
+is_sound (word test) = true
 is_sound text = true
 is_sound run = true
-is_sound (rising bound) = nat_lt bound (10 ^ 18)
+is_sound (numbers most test) = nat_lt most (10 ^ 18)
 is_sound (list shape) = is_sound shape && not (is_rest shape)
 is_sound (nullable shape) = is_sound shape && is_object shape
 is_sound (object key shape members) = is_key key && is_sound shape && not (is_rest shape) && is_sound members && is_rest members

@@ -1,8 +1,9 @@
 -- Where the object ends that bytes begin with: at the bracket that closes it.
-use Rattle.std.specs.Prelude.{ℕ, zero, suc, ◌-◌, ◌||◌, ◌==◌, List, [], ◌∷◌, length, take, Option, Some, None, Ok, if◌then◌else◌}
+use Rattle.std.specs.Prelude.{ℕ, zero, suc, ◌-◌, ◌||◌, ◌==◌, List, [], ◌∷◌, length, take, Option, Some, None, Result, Ok, if◌then◌else◌}
 use Rattle.ndc_event.specs.Outcome.{◌>>=◌}
 use Rattle.ndc_node_shapes.specs.Bytes.{Taken, wanted}
 use Rattle.ndc_node_shapes.specs.declared.fault.Cause.TheVariants.{Unexpected}
+use Rattle.ndc_node_shapes.specs.declared.fault.Fault.{Fault}
 use Rattle.ndc_node_shapes.specs.declared.object.Place.{Place}
 use Rattle.ndc_node_shapes.specs.declared.object.Place.TheVariants.{Outside, Inside, Escaped}
 
@@ -36,8 +37,12 @@ abbrev pub after_object : List ℕ → Option (List ℕ)
 after_object [] = None
 after_object (b ∷ bytes) = if b == 123 then rest_after Outside 0 bytes else None
 
+-- what comes after the object, where there is one
+abbrev pub skipped : List ℕ → Result (List ℕ) Fault
+skipped left = wanted Unexpected left (after_object left)
+
 -- the bytes of an object
 abbrev pub object_at : List ℕ → Taken (List ℕ)
 object_at left = do
-  rest ← wanted Unexpected left (after_object left)
+  rest ← skipped left
   Ok (take (length left - length rest) left, rest)

@@ -1,16 +1,17 @@
 -- The value of a shape that bytes begin with, or why they begin with none.
 use Rattle.std.specs.Prelude.{ℕ, List, [], ◌∷◌, codes, Ok}
 use Rattle.ndc_event.specs.Outcome.{◌>>=◌}
-use Rattle.ndc_node_shapes.specs.Bytes.{Taken, after, expect, number_at, flag_at, text_at, name_at, run_at, rising_at, list_at, unless_null, member_at, first_key, next_key}
-use Rattle.ndc_node_shapes.specs.Shapes.{Shape, number, flag, name, text, run, rising, list, nullable, object, next, end, Value}
+use Rattle.ndc_node_shapes.specs.Bytes.{Taken, after, expect, number_at, flag_at, text_at, name_at, word_at, run_at, numbers_at, list_at, unless_null, member_at, first_key, next_key}
+use Rattle.ndc_node_shapes.specs.Shapes.{Shape, number, flag, name, word, text, run, numbers, list, nullable, object, next, end, Value}
 
 abbrev pub read_of : (shape : Shape) → List ℕ → Taken (Value shape)
 read_of (number least most) left = number_at least most left
 read_of flag left = flag_at left
 read_of name left = name_at left
+read_of (word test) left = word_at test left
 read_of text left = text_at left
 read_of run left = run_at left
-read_of (rising bound) left = rising_at bound left
+read_of (numbers most test) left = numbers_at most test left
 read_of (list shape) left = list_at (read_of shape) left
 read_of (nullable shape) left = unless_null (after (codes "null") left) (read_of shape left)
 read_of (object key shape members) left = member_at (first_key key) (read_of shape) (read_of members) left

@@ -9,6 +9,7 @@ use crate::piece::{
     MAX_ID, MAX_VERSION, push_end, push_first, push_next, push_number, push_quoted, push_run,
     take_end, take_first, take_name, take_next, take_number, take_run, take_text,
 };
+use ndc_history::Item;
 use ndc_event::{BatchKey, Items, Name, OutOfMemory, RunId};
 use std::alloc::Global;
 
@@ -70,5 +71,30 @@ impl Framed for BatchKey {
         let (version, left) = take_number(left, 0, MAX_VERSION)?;
         let left = take_end(left)?;
         Ok((BatchKey { version, task }, left))
+    }
+}
+
+impl Framed for Item {
+    ghost use Rattle.ndc_node_shapes.specs.Common.{item_shape, item_value};
+
+    ghost shape = { item_shape };
+
+    ghost value = { item_value };
+
+    fn push(&self, text: &mut Vec<u8>) -> Result<(), OutOfMemory> {
+        push_first(text, "id")?;
+        push_number(text, self.id)?;
+        push_next(text, "version")?;
+        push_number(text, self.version)?;
+        push_end(text)
+    }
+
+    fn take(_alloc: Global, left: &[u8]) -> Result<(Item, &[u8]), Fault> {
+        let left = take_first(left, "id")?;
+        let (id, left) = take_number(left, 1, MAX_ID)?;
+        let left = take_next(left, "version")?;
+        let (version, left) = take_number(left, 0, MAX_VERSION)?;
+        let left = take_end(left)?;
+        Ok((Item { id, version }, left))
     }
 }

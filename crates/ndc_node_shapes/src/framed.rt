@@ -1,10 +1,10 @@
 //! What has a text between nodes, and lists of such.
-ghost use Rattle.std.specs.Prelude.{◌≡◌, ◌++◌, ◌∷◌, [], List, ℕ, Option, OnOk, map, option_map, option_copied, length};
+ghost use Rattle.std.specs.Prelude.{◌≡◌, ◌++◌, ◌∷◌, [], List, ℕ, Option, IfOk, OnOk, map, option_map, option_copied, length};
 ghost use Rattle.ndc_event.specs.Outcome.{Gives};
 ghost use Rattle.ndc_node_shapes.specs.Bytes.{further, further_at, with_commas, items_at, list_text, list_at, with_items};
 ghost use Rattle.ndc_node_shapes.specs.Read.{read_of};
 ghost use Rattle.ndc_node_shapes.specs.Shapes.{Shape, Value, list, nullable};
-ghost use Rattle.ndc_node_shapes.specs.Text.{text_of};
+ghost use Rattle.ndc_node_shapes.specs.Text.{onto, text_of};
 ghost use Rattle.ndc_node_shapes.specs.declared.fault.Fault.TheVariants.{Memory};
 
 use crate::fault::{Cause, Fault};
@@ -22,11 +22,28 @@ pub trait Framed: Drop {
 
     /// Appends its text.
     fn push(&self, text: &mut Vec<u8>) -> Result<(), OutOfMemory>
-        ensures { OnOk result (text.new.items ≡ text.old.items ++ text_of shape (value self.now)) };
+        ensures { OnOk result (text.new.items ≡ onto shape text.old.items (value self.now)) };
 
     /// Takes it from the bytes that are left.
     fn take(alloc: Global, left: &[u8]) -> Result<(Self, &[u8]), Fault>
         ensures { Gives Memory (λ taken. (value taken.0, taken.1.now)) result (read_of shape left.now) };
+}
+
+/// Appends the text of a value.
+#[tactic(auto, using(crate::proofs::Onto::behind))]
+pub fn push_one<T: Framed>(text: &mut Vec<u8>, one: &T) -> Result<(), OutOfMemory>
+    ensures { OnOk result (text.new.items ≡ text.old.items ++ text_of T.shape (T.value one.now)) }
+{
+    one.push(text)
+}
+
+/// The text of a value.
+pub fn print<T: Framed>(alloc: Global, one: &T) -> Result<Vec<u8>, OutOfMemory>
+    ensures { IfOk result (λ text. text.items ≡ text_of T.shape (T.value one.now)) }
+{
+    let mut text = Vec::new(alloc);
+    push_one(&mut text, one)?;
+    Ok(text)
 }
 
 /// Appends the texts of items, each after a comma.
@@ -35,7 +52,7 @@ fn push_further<T: Framed>(text: &mut Vec<u8>, items: &[T]) -> Result<(), OutOfM
 {
     for item in items {
         text.push(b',')?;
-        item.push(text)?;
+        push_one(text, item)?;
     }
     Ok(())
 }
@@ -47,7 +64,7 @@ fn push_items<T: Framed>(text: &mut Vec<u8>, items: &[T]) -> Result<(), OutOfMem
     match items {
         [] => Ok(()),
         [first, later @ ..] => {
-            first.push(text)?;
+            push_one(text, first)?;
             push_further(text, later)
         }
     }
@@ -116,7 +133,7 @@ pub fn push_nullable<T: Framed>(text: &mut Vec<u8>, one: Option<&T>) -> Result<(
         ≡ text.old.items ++ text_of (nullable T.shape) (option_map T.value (option_copied one.entry))) }
 {
     match one {
-        Some(one) => one.push(text),
+        Some(one) => push_one(text, one),
         None => text.extend_from_slice(b"null"),
     }
 }

@@ -17,4 +17,4 @@ pub mod piece;
 pub use common::Text;
 pub use fault::{Cause, Fault};
 pub use framed::Framed;
-pub use object::take_object;
+pub use object::{skip_object, take_object};

@@ -1,7 +1,7 @@
 // The object that bytes begin with, cut out without being read.
 ghost use Rattle.std.specs.Prelude.{◌≡◌, ◌<◌, ◌≤◌, ◌^◌, ◌∷◌, drop, length, option_map, IfSome};
 ghost use Rattle.ndc_event.specs.Outcome.{Gives};
-ghost use Rattle.ndc_node_shapes.specs.Objects.{closed, step, rest_after, after_object, object_at};
+ghost use Rattle.ndc_node_shapes.specs.Objects.{closed, step, rest_after, after_object, skipped, object_at};
 ghost use Rattle.ndc_node_shapes.specs.declared.fault.Fault.TheVariants.{Memory};
 ghost use Rattle.ndc_node_shapes.specs.declared.object.Place.TheVariants.{Outside};
 
@@ -75,6 +75,19 @@ fn object_len(bytes: &[u8]) -> Option<usize>
     match bytes {
         [b'{', members @ ..] => Some(count_to_end(members)? + 1),
         _ => None,
+    }
+}
+
+/// What comes after the object that the bytes begin with.
+pub fn skip_object(left: &[u8]) -> Result<&[u8], Fault>
+    ensures { Gives Memory (λ rest. rest.now) result (skipped left.now) }
+{
+    match object_len(left) {
+        Some(count) => Ok(left.split_at(count).1),
+        None => Err(Fault::At {
+            cause: Cause::Unexpected,
+            left: left.len(),
+        }),
     }
 }
 
