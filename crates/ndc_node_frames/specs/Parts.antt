@@ -1,8 +1,8 @@
 -- The parts of frames: their shapes, and what they are as values of them.
-use Rattle.std.specs.Prelude.{ℕ, ◌^◌, codes, map, List, option_map}
+use Rattle.std.specs.Prelude.{◌^◌, codes, map, option_map}
 use Rattle.ndc_history.specs.declared.item.Item.{Item}
-use Rattle.ndc_node_shapes.specs.Common.{id, version, key_shape, key_value}
-use Rattle.ndc_node_shapes.specs.Shapes.{Shape, number, flag, name, text, run, list, nullable, object, next, end, Value}
+use Rattle.ndc_node_shapes.specs.Common.{version, key_shape, key_value}
+use Rattle.ndc_node_shapes.specs.Shapes.{Shape, number, name, text, run, list, nullable, object, next, end, Value}
 use Rattle.ndc_node_frames.specs.declared.header.Header.{Header}
 use Rattle.ndc_node_frames.specs.declared.header.Seat.{Seat}
 use Rattle.ndc_node_frames.specs.declared.place.Late.{Late}

@@ -10,12 +10,19 @@
 #![tactic(auto)]
 
 mod body;
+mod frame;
 mod gap;
 mod header;
+mod kind;
 mod piece;
 mod place;
+mod text;
 
 pub use body::{Domains, Entries, Entry, EntryList, Lates, Messages, Poll, Polled, Polls, Served};
+pub use frame::{Body, Frame};
 pub use gap::AskedGap;
 pub use header::{Header, Seat, Seats};
+pub use kind::Kind;
+pub use ndc_node_shapes::{Cause, Fault, Text};
 pub use place::{Late, Place};
+pub use text::{frame_text, read_frame};

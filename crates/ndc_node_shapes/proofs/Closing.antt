@@ -171,9 +171,22 @@ closes key s ms v rest sound h =
     ∙ as_whole s 0 more (text_of ms v.1 ++ rest) j.2 (passes s 0 v.0 (text_of ms v.1 ++ rest) j.1 h.0)
     ∙ as_rest ms 0 (text_of ms v.1 ++ rest) rest j.4 (passes ms 0 v.1 rest j.3 h.1)
 
-pub object_cut : (key : List ℕ) (s ms : Shape) (v : Value (object key s ms)) (rest : List ℕ) → is_sound (object key s ms) ≡ true → Fits (object key s ms) v
-    → object_at (text_of (object key s ms) v ++ rest) ≡ Ok (text_of (object key s ms) v, rest)
-object_cut key s ms v rest sound h = cut (text_of (object key s ms) v) rest (closes key s ms v rest sound h)
+pub object_closes : (s : Shape) (v : Value s) (rest : List ℕ) → is_object s ≡ true → is_sound s ≡ true → Fits s v → after_object (text_of s v ++ rest) ≡ Some rest
+object_closes (number least most) v rest is sound h = absurd (cc)
+object_closes flag v rest is sound h = absurd (cc)
+object_closes name v rest is sound h = absurd (cc)
+object_closes (word test) v rest is sound h = absurd (cc)
+object_closes text v rest is sound h = absurd (cc)
+object_closes run v rest is sound h = absurd (cc)
+object_closes (numbers most test) v rest is sound h = absurd (cc)
+object_closes (list s) v rest is sound h = absurd (cc)
+object_closes (nullable s) v rest is sound h = absurd (cc)
+object_closes (object key s ms) v rest is sound h = closes key s ms v rest sound h
+object_closes (next key s ms) v rest is sound h = absurd (cc)
+object_closes end v rest is sound h = absurd (cc)
+
+pub object_cut : (s : Shape) (v : Value s) (rest : List ℕ) → is_object s ≡ true → is_sound s ≡ true → Fits s v → object_at (text_of s v ++ rest) ≡ Ok (text_of s v, rest)
+object_cut s v rest is sound h = cut (text_of s v) rest (object_closes s v rest is sound h)
 
 -- what comes after an object stands at the end
 abbrev IsEnd : List ℕ → List ℕ → Type 0

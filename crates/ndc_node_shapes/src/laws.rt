@@ -1,8 +1,8 @@
 //! What holds of the texts of all shapes.
 ghost use Rattle.std.specs.Prelude.{◌≡◌, ◌↔◌, ◌++◌, ℕ, List, [], true, Ok};
-ghost use Rattle.ndc_node_shapes.specs.Fits.{Fits, is_sound};
+ghost use Rattle.ndc_node_shapes.specs.Fits.{Fits, is_object, is_sound};
 ghost use Rattle.ndc_node_shapes.specs.Read.{read_of};
-ghost use Rattle.ndc_node_shapes.specs.Shapes.{Shape, Value, object};
+ghost use Rattle.ndc_node_shapes.specs.Shapes.{Shape, Value};
 ghost use Rattle.ndc_node_shapes.specs.Objects.{object_at};
 ghost use Rattle.ndc_node_shapes.specs.Text.{text_of};
 
@@ -26,8 +26,7 @@ pub fn one_value_of_a_text()
 
 /// The text of an object is cut out of what begins with it, whatever comes after; and what is cut out stands there.
 pub fn objects_are_cut_out()
-    ensures cut { (key : List ℕ) (shape members : Shape) (value : Value (object key shape members)) (rest : List ℕ)
-        → is_sound (object key shape members) ≡ true → Fits (object key shape members) value
-        → object_at (text_of (object key shape members) value ++ rest) ≡ Ok (text_of (object key shape members) value, rest) }
+    ensures cut { (shape : Shape) (value : Value shape) (rest : List ℕ) → is_object shape ≡ true → is_sound shape ≡ true
+        → Fits shape value → object_at (text_of shape value ++ rest) ≡ Ok (text_of shape value, rest) }
     ensures stands { (left text rest : List ℕ) → object_at left ≡ Ok (text, rest) → left ≡ text ++ rest }
 {}
