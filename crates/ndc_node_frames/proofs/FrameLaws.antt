@@ -4,7 +4,7 @@ use Rattle.ndc_event.specs.Outcome.{◌>>=◌}
 use Rattle.ndc_node_frames.specs.Frames.{Content, Seen, body_shape, tail_shape, frame_shape, named_kind, kind_in, content_at, at_end, tail_at, frame_at, frame_text, FrameFits, seen_of, kind_of}
 use Rattle.ndc_node_frames.specs.declared.frame.Frame.{Frame}
 use Rattle.ndc_node_frames.specs.declared.kind.Kind.{Kind}
-use Rattle.ndc_node_frames.specs.declared.kind.Kind.TheVariants.{Poll, Entries, Gap, Served}
+use Rattle.ndc_node_frames.specs.declared.kind.Kind.TheVariants.{Poll, Entries, Records, Handover, Gap, Served, Bootstrap, Recall, Recalled, Progress}
 use Rattle.ndc_node_shapes.specs.Bytes.{expect, wanted, first_key}
 use Rattle.ndc_node_shapes.specs.Fits.{Fits, is_object, is_sound}
 use Rattle.ndc_node_shapes.specs.Objects.{after_object, skipped}
@@ -25,14 +25,26 @@ use Rattle.ndc_node_frames.proofs.KindNames.{kind_again}
 body_sound : (kind : Kind) → is_sound (body_shape kind) ≡ true
 body_sound Poll = refl
 body_sound Entries = refl
+body_sound Records = refl
+body_sound Handover = refl
 body_sound Gap = refl
 body_sound Served = refl
+body_sound Bootstrap = refl
+body_sound Recall = refl
+body_sound Recalled = refl
+body_sound Progress = refl
 
 body_object : (kind : Kind) → is_object (body_shape kind) ≡ true
 body_object Poll = refl
 body_object Entries = refl
+body_object Records = refl
+body_object Handover = refl
 body_object Gap = refl
 body_object Served = refl
+body_object Bootstrap = refl
+body_object Recall = refl
+body_object Recalled = refl
+body_object Progress = refl
 
 body_closes : (kind : Kind) (v : Value (body_shape kind)) (rest : List ℕ) → Fits (body_shape kind) v → after_object (text_of (body_shape kind) v ++ rest) ≡ Some rest
 body_closes kind v rest h = object_closes (body_shape kind) v rest (body_object kind) (body_sound kind) h
@@ -44,8 +56,14 @@ contained kind r = Ok (kind, r.0)
 content_is : (kind : Kind) (left : List ℕ) → content_at kind left ≡ (read_of (body_shape kind) left >>= contained kind)
 content_is Poll left = refl
 content_is Entries left = refl
+content_is Records left = refl
+content_is Handover left = refl
 content_is Gap left = refl
 content_is Served left = refl
+content_is Bootstrap left = refl
+content_is Recall left = refl
+content_is Recalled left = refl
+content_is Progress left = refl
 
 -- a body that was read has its kind
 same_first : (one other : Content) → ◌≡◌ {A = Result Content Fault} (Ok one) (Ok other) → one ≡ other
@@ -101,9 +119,9 @@ seen_only bytes seen h =
     let shut = ap after_object body.1 ∙ body_closes kind value v.0.1 body.0 in
     let joined : v.0.1 ≡ rest = let both : Some v.0.1 ≡ Some rest = sym shut ∙ skip in cc in
     let whole : bytes ≡ text_of (frame_shape kind) (value, tail) =
-        was_expected (first_key (codes "body")) bytes left p.1.0
-        ∙ ap (λ (z : List ℕ). first_key (codes "body") ++ z) (body.1 ∙ ap (λ (z : List ℕ). text_of (body_shape kind) value ++ z) (joined ∙ after.1))
-        ∙ sym (append_assoc (first_key (codes "body")) (text_of (body_shape kind) value) (text_of tail_shape tail)) in
+    was_expected (first_key (codes "body")) bytes left p.1.0
+    ∙ ap (λ (z : List ℕ). first_key (codes "body") ++ z) (body.1 ∙ ap (λ (z : List ℕ). text_of (body_shape kind) value ++ z) (joined ∙ after.1))
+    ∙ sym (append_assoc (first_key (codes "body")) (text_of (body_shape kind) value) (text_of tail_shape tail)) in
     let content : ◌≡◌ {A = Content} (kind, value) c.0 = same_first (kind, value) c.0 v.1.1 in
     let seen_is : ◌≡◌ {A = Seen} (c.0, tail) seen = let e = c.1.1 in cc in
     subst (λ (s : Seen). SeenFits s × (bytes ≡ text_seen s)) (ap (λ (x : Content). (x, tail)) content ∙ seen_is) ((body.0, after.0), whole)

@@ -1,8 +1,11 @@
 -- The parts of frames: their shapes, and what they are as values of them.
-use Rattle.std.specs.Prelude.{◌^◌, codes, map, option_map}
+use Rattle.std.specs.Prelude.{ℕ, ◌^◌, Bool, List, codes, map, option_map}
+use Rattle.std.specs.Str.{bytes_eq}
+use Rattle.ndc_domain.specs.Members.{has_member, numbers_where}
+use Rattle.ndc_domain.specs.declared.clusters.ClusterNo.{ClusterNo}
 use Rattle.ndc_history.specs.declared.item.Item.{Item}
-use Rattle.ndc_node_shapes.specs.Common.{version, key_shape, key_value}
-use Rattle.ndc_node_shapes.specs.Shapes.{Shape, number, name, text, run, list, nullable, object, next, end, Value}
+use Rattle.ndc_node_shapes.specs.Common.{id, version, key_shape, key_value}
+use Rattle.ndc_node_shapes.specs.Shapes.{Shape, number, flag, name, text, run, numbers, list, nullable, object, next, end, Value}
 use Rattle.ndc_node_frames.specs.declared.header.Header.{Header}
 use Rattle.ndc_node_frames.specs.declared.header.Seat.{Seat}
 use Rattle.ndc_node_frames.specs.declared.place.Late.{Late}
@@ -14,6 +17,18 @@ use Rattle.ndc_node_frames.specs.declared.body.Polled.{Polled}
 use Rattle.ndc_node_frames.specs.declared.body.Served.{Served}
 use Rattle.ndc_node_frames.specs.declared.gap.AskedGap.{AskedGap}
 use Rattle.ndc_node_frames.specs.declared.gap.End.{End}
+use Rattle.ndc_node_frames.specs.declared.record.Member.{Member}
+use Rattle.ndc_node_frames.specs.declared.record.ToldRecord.{ToldRecord}
+use Rattle.ndc_node_frames.specs.declared.handover.Promised.{Promised}
+use Rattle.ndc_node_frames.specs.declared.handover.Offer.{Offer}
+use Rattle.ndc_node_frames.specs.declared.sending.Records.{Records}
+use Rattle.ndc_node_frames.specs.declared.sending.Bootstrap.{Bootstrap}
+use Rattle.ndc_node_frames.specs.declared.sending.Spot.{Spot}
+use Rattle.ndc_node_frames.specs.declared.sending.Recall.{Recall}
+use Rattle.ndc_node_frames.specs.declared.sending.Recalled.{Recalled}
+use Rattle.ndc_node_frames.specs.declared.progress.ToldReport.{ToldReport}
+use Rattle.ndc_node_frames.specs.declared.progress.Held.{Held}
+use Rattle.ndc_progress.specs.declared.report.ActivityRef.{ActivityRef}
 
 -- ---- ranges
 
@@ -101,3 +116,100 @@ gap_shape = object (codes "after") end_shape (next (codes "before") end_shape (n
 abbrev pub gap_value : AskedGap → Value gap_shape
 gap_value asked =
     (end_of asked.gap.gap.after, (end_of asked.gap.gap.before, (asked.gap.domain, (key_value asked.gap.key, (key_value asked.gap.missing, (asked.gap.run, (asked.gap.workflow, tt)))))))
+
+-- ---- records
+
+-- a member of a domain, by its number
+abbrev pub member_shape : Shape
+member_shape = number 0 7
+
+abbrev pub member_value : Member → Value member_shape
+member_value member = member.number
+
+abbrev pub cluster_of : Member → ClusterNo
+cluster_of member = record { number = member.number }
+
+abbrev pub number_of : ClusterNo → ℕ
+number_of cluster = cluster.number
+
+-- the numbers are members of a domain: in order, each once
+abbrev pub are_members : List ℕ → Bool
+are_members ns = bytes_eq (numbers_where (has_member ns)) ns
+
+abbrev pub members_shape : Shape
+members_shape = numbers 7 are_members
+
+abbrev pub record_shape : Shape
+record_shape = object (codes "config") level (next (codes "days") small (next (codes "members") members_shape (next (codes "name") name (next (codes "version") version end))))
+
+abbrev pub record_value : ToldRecord → Value record_shape
+record_value told = (told.record.config, (told.record.days, (told.record.members, (told.record.name, (told.record.version, tt)))))
+
+abbrev pub records_shape : Shape
+records_shape = object (codes "records") (list record_shape) end
+
+abbrev pub records_value : Records → Value records_shape
+records_value told = (map record_value told.records, tt)
+
+-- ---- handovers
+
+abbrev pub promised_shape : Shape
+promised_shape = object (codes "epoch") level (next (codes "place") level end)
+
+abbrev pub promised_value : Promised → Value promised_shape
+promised_value promised = (promised.epoch, (promised.place, tt))
+
+abbrev pub offer_shape : Shape
+offer_shape =
+    object (codes "domain") name (next (codes "late") flag (next (codes "new") version (next (codes "old") version (next (codes "places") (list promised_shape) (next (codes "record") record_shape end)))))
+
+abbrev pub offer_value : Offer → Value offer_shape
+offer_value offer = (offer.domain, (offer.late, (offer.new, (offer.old, (map promised_value offer.places, (record_value offer.record, tt))))))
+
+-- ---- all of a domain, and what a node had given out
+
+abbrev pub bootstrap_shape : Shape
+bootstrap_shape = object (codes "domain") name (next (codes "from") (nullable place_shape) (next (codes "last") flag (next (codes "messages") (list text) end)))
+
+abbrev pub bootstrap_value : Bootstrap → Value bootstrap_shape
+bootstrap_value piece = (piece.domain, (option_map place_value piece.from, (piece.last, (map (λ message. message) piece.messages, tt))))
+
+abbrev pub spot_shape : Shape
+spot_shape = object (codes "domain") name (next (codes "place") place_shape end)
+
+abbrev pub spot_value : Spot → Value spot_shape
+spot_value spot = (spot.domain, (place_value spot.place, tt))
+
+abbrev pub recall_shape : Shape
+recall_shape = object (codes "after") (nullable spot_shape) (next (codes "largest") level end)
+
+abbrev pub recall_value : Recall → Value recall_shape
+recall_value recall = (option_map spot_value recall.after, (recall.largest, tt))
+
+abbrev pub recalled_shape : Shape
+recalled_shape =
+    object (codes "after") (nullable spot_shape) (next (codes "handovers") (list offer_shape) (next (codes "last") flag (next (codes "messages") (list text) (next (codes "records") (list record_shape) end))))
+
+abbrev pub recalled_value : Recalled → Value recalled_shape
+recalled_value piece =
+    (option_map spot_value piece.after, (map offer_value piece.handovers, (piece.last, (map (λ message. message) piece.messages, (map record_value piece.records, tt)))))
+
+-- ---- progress
+
+abbrev pub activity_shape : Shape
+activity_shape = object (codes "domain") name (next (codes "run") run (next (codes "scheduled") id (next (codes "version") version (next (codes "workflow") name end))))
+
+abbrev pub activity_value : ActivityRef → Value activity_shape
+activity_value activity = (activity.domain, (activity.run, (activity.scheduled, (activity.version, (activity.workflow, tt)))))
+
+abbrev pub report_shape : Shape
+report_shape = object (codes "activity") activity_shape (next (codes "beat") level (next (codes "details") name (next (codes "version") version end)))
+
+abbrev pub report_value : ToldReport → Value report_shape
+report_value told = (activity_value told.report.activity, (told.report.beat, (told.report.details, (told.report.version, tt))))
+
+abbrev pub held_shape : Shape
+held_shape = object (codes "reports") (list report_shape) end
+
+abbrev pub held_value : Held → Value held_shape
+held_value held = (map report_value held.reports, tt)

@@ -3,7 +3,8 @@ use crate::place::Late;
 use ndc_event::{BatchKey, Items, Name, OutOfMemory};
 use ndc_node_shapes::framed::{push_list, push_nullable, take_nullable};
 use ndc_node_shapes::piece::{
-    push_end, push_first, push_next, push_number, take_end, take_first, take_name, take_next, take_number,
+    push_end, push_first, push_next, push_number, take_end, take_first, take_name, take_next,
+    take_number,
 };
 use ndc_node_shapes::{Fault, Framed, Text};
 use std::alloc::Global;
@@ -111,7 +112,15 @@ impl Framed for Polled {
         let left = take_next(left, "read")?;
         let (read, left) = take_number(left, 0, MAX_LEVEL)?;
         let left = take_end(left)?;
-        Ok((Polled { epoch, read, done, key }, left))
+        Ok((
+            Polled {
+                epoch,
+                read,
+                done,
+                key,
+            },
+            left,
+        ))
     }
 }
 
@@ -144,7 +153,15 @@ impl Framed for Poll {
         let left = take_next(left, "shards")?;
         let (shards, left) = take_items::<Polled>(alloc, left)?;
         let left = take_end(left)?;
-        Ok((Poll { largest, shards, late, all }, left))
+        Ok((
+            Poll {
+                largest,
+                shards,
+                late,
+                all,
+            },
+            left,
+        ))
     }
 }
 
@@ -210,7 +227,17 @@ impl Framed for Entries {
         let left = take_next(left, "shard")?;
         let (shard, left) = take_small(left)?;
         let left = take_end(left)?;
-        Ok((Entries { shard, epoch, from, next, late, entries }, left))
+        Ok((
+            Entries {
+                shard,
+                epoch,
+                from,
+                next,
+                late,
+                entries,
+            },
+            left,
+        ))
     }
 }
 

@@ -1,12 +1,13 @@
 use crate::piece::{MAX_LEVEL, take_items, take_small};
+use ndc_event::{BatchKey, Items, Name, OutOfMemory, RunId};
 use ndc_history::Item;
-use ndc_resend::{Gap, GapOf};
-use ndc_event::{BatchKey, Items, Name, RunId, OutOfMemory};
 use ndc_node_shapes::framed::{push_list, push_nullable, take_nullable};
 use ndc_node_shapes::piece::{
-    push_end, push_first, push_next, push_number, take_end, take_first, take_name, take_next, take_number, MAX_VERSION, push_run, take_run,
+    MAX_VERSION, push_end, push_first, push_next, push_number, push_run, take_end, take_first,
+    take_name, take_next, take_number, take_run,
 };
 use ndc_node_shapes::{Fault, Framed, Text};
+use ndc_resend::{Gap, GapOf};
 use std::alloc::Global;
 
 /// One end of a gap.

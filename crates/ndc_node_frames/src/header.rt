@@ -2,7 +2,8 @@ use crate::piece::{MAX_LEVEL, take_items, take_small};
 use ndc_event::{Items, Name, OutOfMemory};
 use ndc_node_shapes::framed::{push_list, push_nullable, take_nullable};
 use ndc_node_shapes::piece::{
-    push_end, push_first, push_next, push_number, take_end, take_first, take_name, take_next, take_number,
+    push_end, push_first, push_next, push_number, take_end, take_first, take_name, take_next,
+    take_number,
 };
 use ndc_node_shapes::{Fault, Framed, Text};
 use std::alloc::Global;
@@ -86,6 +87,14 @@ impl Framed for Header {
         let left = take_next(left, "shards")?;
         let (shards, left) = take_small(left)?;
         let left = take_end(left)?;
-        Ok((Header { clusters, increment, limit, shards }, left))
+        Ok((
+            Header {
+                clusters,
+                increment,
+                limit,
+                shards,
+            },
+            left,
+        ))
     }
 }

@@ -16,10 +16,22 @@ pub enum Kind {
     Poll,
     /// A piece of a source's queue.
     Entries,
+    /// Records of domains.
+    Records,
+    /// A handover, to the cluster that is to be active.
+    Handover,
     /// A reader asks for what lies before a batch that is put off.
     Gap,
     /// What a holder serves for a gap.
     Served,
+    /// A piece of all of a domain, for a reader that is late in it.
+    Bootstrap,
+    /// A node asks for all that has versions of its own.
+    Recall,
+    /// A piece of what is sent for a recall.
+    Recalled,
+    /// Reports of the progress of activities.
+    Progress,
 }
 
 impl Kind {
@@ -33,8 +45,14 @@ impl Kind {
         match self {
             Kind::Poll => "poll",
             Kind::Entries => "entries",
+            Kind::Records => "records",
+            Kind::Handover => "handover",
             Kind::Gap => "gap",
             Kind::Served => "served",
+            Kind::Bootstrap => "bootstrap",
+            Kind::Recall => "recall",
+            Kind::Recalled => "recalled",
+            Kind::Progress => "progress",
         }
     }
 }
@@ -48,10 +66,22 @@ fn kind_in(word: &[u8]) -> Option<Kind>
         Some(Kind::Poll)
     } else if word == b"entries".as_slice() {
         Some(Kind::Entries)
+    } else if word == b"records".as_slice() {
+        Some(Kind::Records)
+    } else if word == b"handover".as_slice() {
+        Some(Kind::Handover)
     } else if word == b"gap".as_slice() {
         Some(Kind::Gap)
     } else if word == b"served".as_slice() {
         Some(Kind::Served)
+    } else if word == b"bootstrap".as_slice() {
+        Some(Kind::Bootstrap)
+    } else if word == b"recall".as_slice() {
+        Some(Kind::Recall)
+    } else if word == b"recalled".as_slice() {
+        Some(Kind::Recalled)
+    } else if word == b"progress".as_slice() {
+        Some(Kind::Progress)
     } else {
         None
     }

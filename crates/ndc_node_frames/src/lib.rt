@@ -12,17 +12,26 @@
 mod body;
 mod frame;
 mod gap;
+mod handover;
 mod header;
 mod kind;
+pub mod laws;
 mod piece;
 mod place;
+mod progress;
+mod record;
+mod sending;
 mod text;
 
 pub use body::{Domains, Entries, Entry, EntryList, Lates, Messages, Poll, Polled, Polls, Served};
 pub use frame::{Body, Frame};
 pub use gap::AskedGap;
+pub use handover::{Offer, Offers, Promised, PromisedList};
 pub use header::{Header, Seat, Seats};
 pub use kind::Kind;
 pub use ndc_node_shapes::{Cause, Fault, Text};
 pub use place::{Late, Place};
+pub use progress::{Held, ToldReport, ToldReports};
+pub use record::{ToldRecord, ToldRecords};
+pub use sending::{Bootstrap, Recall, Recalled, Records, Spot};
 pub use text::{frame_text, read_frame};

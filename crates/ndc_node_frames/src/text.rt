@@ -1,6 +1,7 @@
 // Frames as text, both ways.
-ghost use Rattle.std.specs.Prelude.{◌≡◌, ◌++◌, IfOk, OnOk};
+ghost use Rattle.std.specs.Prelude.{◌≡◌, ◌++◌, IfOk, OnOk, Ok};
 ghost use Rattle.ndc_event.specs.Outcome.{Gives};
+ghost use Rattle.ndc_node_frames.specs.declared.frame.Frame.{Frame as Sent};
 ghost use Rattle.ndc_node_frames.specs.Frames.{body_onto, content_of, content_at, at_end, tail_shape, tail_value, tail_at, tail_seen, frame_text, frame_at, seen_of, FrameFits};
 ghost use Rattle.ndc_node_shapes.specs.Read.{read_of};
 ghost use Rattle.ndc_node_shapes.specs.Text.{onto, text_of};
@@ -9,8 +10,11 @@ ghost use Rattle.ndc_node_shapes.specs.declared.fault.Fault.TheVariants.{Memory}
 use crate::body::{Entries, Poll, Served};
 use crate::frame::{Body, Frame};
 use crate::gap::AskedGap;
+use crate::handover::Offer;
 use crate::header::Header;
 use crate::kind::{Kind, take_kind};
+use crate::progress::Held;
+use crate::sending::{Bootstrap, Recall, Recalled, Records};
 use ndc_event::{Name, OutOfMemory};
 use ndc_node_shapes::piece::{
     push_end, push_first, push_next, push_number, push_quoted, take_end, take_first, take_name,
@@ -35,8 +39,14 @@ fn push_body(text: &mut Vec<u8>, body: &Body) -> Result<(), OutOfMemory>
     match body {
         Body::Poll(poll) => poll.push(text),
         Body::Entries(entries) => entries.push(text),
+        Body::Records(records) => records.push(text),
+        Body::Handover(offer) => offer.push(text),
         Body::Gap(gap) => gap.push(text),
         Body::Served(served) => served.push(text),
+        Body::Bootstrap(piece) => piece.push(text),
+        Body::Recall(recall) => recall.push(text),
+        Body::Recalled(piece) => piece.push(text),
+        Body::Progress(held) => held.push(text),
     }
 }
 
@@ -82,6 +92,14 @@ fn take_body(alloc: Global, kind: Kind, left: &[u8]) -> Result<Body, Fault>
             let (body, _) = Entries::take(alloc, left)?;
             Ok(Body::Entries(body))
         }
+        Kind::Records => {
+            let (body, _) = Records::take(alloc, left)?;
+            Ok(Body::Records(body))
+        }
+        Kind::Handover => {
+            let (body, _) = Offer::take(alloc, left)?;
+            Ok(Body::Handover(body))
+        }
         Kind::Gap => {
             let (body, _) = AskedGap::take(alloc, left)?;
             Ok(Body::Gap(body))
@@ -89,6 +107,22 @@ fn take_body(alloc: Global, kind: Kind, left: &[u8]) -> Result<Body, Fault>
         Kind::Served => {
             let (body, _) = Served::take(alloc, left)?;
             Ok(Body::Served(body))
+        }
+        Kind::Bootstrap => {
+            let (body, _) = Bootstrap::take(alloc, left)?;
+            Ok(Body::Bootstrap(body))
+        }
+        Kind::Recall => {
+            let (body, _) = Recall::take(alloc, left)?;
+            Ok(Body::Recall(body))
+        }
+        Kind::Recalled => {
+            let (body, _) = Recalled::take(alloc, left)?;
+            Ok(Body::Recalled(body))
+        }
+        Kind::Progress => {
+            let (body, _) = Held::take(alloc, left)?;
+            Ok(Body::Progress(body))
         }
     }
 }
@@ -142,6 +176,29 @@ fn take_tail(alloc: Global, left: &[u8]) -> Result<Tail, Fault>
     Ok(tail)
 }
 
+/// The frame that a text is: the body is passed over, and read once the kind is known.
+#[tactic(auto, unfolding(crate::specs::Frames::frame_at), using(crate::proofs::KindNames::kind_again))]
+fn take_frame(alloc: Global, bytes: &[u8]) -> Result<Frame, Fault>
+    ensures { Gives Memory seen_of result (frame_at bytes.now) }
+{
+    let left = take_first(bytes, "body")?;
+    let rest = skip_object(left)?;
+    let tail = take_tail(alloc, rest)?;
+    let body = take_body(alloc, tail.kind, left)?;
+    let Tail {
+        from,
+        header,
+        to,
+        ..
+    } = tail;
+    Ok(Frame {
+        from,
+        to,
+        header,
+        body,
+    })
+}
+
 /// Reads the text of a frame. It answers the frame exactly where the frame fits and the bytes are what [`frame_text`]
 /// writes of it.
 ///
@@ -150,21 +207,12 @@ fn take_tail(alloc: Global, left: &[u8]) -> Result<Tail, Fault>
 /// member, as its kind has it. [`Cause::Unexpected`] where another bracket, comma, key, quote or word is wanted, or the text
 /// goes on; [`Cause::Number`], [`Cause::Byte`] and [`Cause::Range`] where a value is none, or out of its range, or there is
 /// no such kind.
-#[tactic(auto, unfolding(crate::specs::Frames::frame_at), using(crate::proofs::KindNames::kind_again))]
+#[tactic(auto, using(crate::proofs::FrameLaws::frame_only, crate::proofs::BackToFrames::only_frame))]
 pub fn read_frame(alloc: Global, bytes: &[u8]) -> Result<Frame, Fault>
     ensures gives { Gives Memory seen_of result (frame_at bytes.now) }
+    ensures found { IfOk result (λ frame. FrameFits frame × (bytes.now ≡ frame_text frame)) }
+    ensures only { (frame : Sent) → FrameFits frame → bytes.now ≡ frame_text frame
+        → Gives Memory (λ read. read) result (Ok frame) }
 {
-    let left = take_first(bytes, "body")?;
-    let rest = skip_object(left)?;
-    let tail = take_tail(alloc, rest)?;
-    let body = take_body(alloc, tail.kind, left)?;
-    let Tail {
-        from, header, to, ..
-    } = tail;
-    Ok(Frame {
-        from,
-        to,
-        header,
-        body,
-    })
+    take_frame(alloc, bytes)
 }

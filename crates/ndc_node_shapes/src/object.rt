@@ -9,7 +9,7 @@ use crate::fault::{Cause, Fault};
 
 /// Where a reader of brackets stands: outside of a quoted text, inside of one, or there after a backslash.
 #[derive(Clone, Copy, Debug, PartialEq, Eq)]
-pub(crate) enum Place {
+pub enum Place {
     Outside,
     Inside,
     Escaped,
