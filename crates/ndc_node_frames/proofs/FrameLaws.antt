@@ -1,7 +1,11 @@
 -- A frame is read exactly where it is printed.
 use Rattle.std.proofs.Common.{◌≡◌, ℕ, true, List, [], ◌∷◌, ◌++◌, Some, Result, Ok, codes, refl, sym, ap, ◌∙◌, subst, append-nil, append_assoc}
+use Rattle.std.specs.Prelude.{IsTrue}
+use Rattle.std.specs.List.{list_all}
+use Rattle.ndc_node_shapes.specs.Bytes.{is_plain}
+use Rattle.ndc_node_shapes.proofs.PlainTexts.{plain}
 use Rattle.ndc_event.specs.Outcome.{◌>>=◌}
-use Rattle.ndc_node_frames.specs.Frames.{Content, Seen, body_shape, tail_shape, frame_shape, named_kind, kind_in, content_at, at_end, tail_at, frame_at, frame_text, FrameFits, seen_of, kind_of}
+use Rattle.ndc_node_frames.specs.Frames.{Content, Seen, body_shape, tail_shape, frame_shape, named_kind, kind_in, content_at, at_end, tail_at, frame_at, frame_text, FrameFits, seen_of, kind_of, frame_value}
 use Rattle.ndc_node_frames.specs.declared.frame.Frame.{Frame}
 use Rattle.ndc_node_frames.specs.declared.kind.Kind.{Kind}
 use Rattle.ndc_node_frames.specs.declared.kind.Kind.TheVariants.{Poll, Entries, Records, Handover, Gap, Served, Bootstrap, Recall, Recalled, Progress}
@@ -149,3 +153,18 @@ frame_only frame bytes h = seen_only bytes (seen_of frame) h
 
 pub frame_again : (frame : Frame) → FrameFits frame → frame_at (frame_text frame) ≡ Ok (seen_of frame)
 frame_again frame h = seen_again (seen_of frame) (kind_again (kind_of frame.body)) h
+
+frame_sound : (kind : Kind) → is_sound (frame_shape kind) ≡ true
+frame_sound Poll = refl
+frame_sound Entries = refl
+frame_sound Records = refl
+frame_sound Handover = refl
+frame_sound Gap = refl
+frame_sound Served = refl
+frame_sound Bootstrap = refl
+frame_sound Recall = refl
+frame_sound Recalled = refl
+frame_sound Progress = refl
+
+pub frame_plain : (frame : Frame) → FrameFits frame → IsTrue (list_all is_plain (frame_text frame))
+frame_plain frame h = plain (frame_shape (kind_of frame.body)) (frame_value frame) (frame_sound (kind_of frame.body)) h

@@ -6,7 +6,7 @@ use Rattle.ndc_node_frames.specs.declared.frame.Body.TheVariants.{Poll, Entries,
 use Rattle.ndc_node_frames.specs.declared.frame.Frame.{Frame}
 use Rattle.ndc_node_shapes.specs.Bytes.{first_key}
 use Rattle.ndc_node_shapes.specs.Text.{onto}
-use Rattle.ndc_node_shapes.proofs.Onto.{behind}
+use Rattle.ndc_node_shapes.proofs.Onto.{at_the_end}
 
 -- the body alone
 body_is : (old : List ℕ) (b : Body) → body_onto old b ≡ onto (body_shape (kind_of b)) old (body_value b)
@@ -24,4 +24,4 @@ body_is old (Progress held) = refl
 pub pushed : (frame : Frame) → onto tail_shape (body_onto (first_key (codes "body")) frame.body) (tail_value frame) ≡ frame_text frame
 pushed frame =
     ap (λ (z : List ℕ). onto tail_shape z (tail_value frame)) (body_is (first_key (codes "body")) frame.body)
-    ∙ behind (frame_shape (kind_of frame.body)) [] (frame_value frame)
+    ∙ at_the_end (frame_shape (kind_of frame.body)) [] (frame_value frame)

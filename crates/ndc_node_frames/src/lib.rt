@@ -1,8 +1,8 @@
 //! The frames that nodes send each other, as text both ways.
 //!
 //! A frame is one line of canonical JSON, without its newline: an object with the keys `body`, `format` (the number 1),
-//! `from` and `to` (names of clusters), `header` and `kind`, in this order. The body is that of its kind. Each kind has a
-//! shape of the language of `ndc_node_shapes`, and each type of this crate is seen as a value of its shape: so one proof over
+//! `from`, `header`, `kind` and `to`, in this order; `from` and `to` are names of clusters. The body is that of its kind. Each
+//! kind has a shape of the language of `ndc_node_shapes`, and each type of this crate is seen as a value of its shape: so one proof over
 //! all shapes gives that a frame is read exactly where it is what would be printed. The kind stands after the body, so the
 //! body is passed over first, to its closing bracket, and read once the kind is known.
 //!

@@ -1,12 +1,12 @@
 -- The text of a value of a sound shape leaves no bracket open: so the object ends at the bracket that closes it.
-use Rattle.std.proofs.Common.{◌≡◌, ℕ, suc, ◌-◌, ◌<◌, ◌≤◌, ◌^◌, Bool, true, false, ◌==◌, List, [], ◌∷◌, ◌++◌, length, take, Option, Some, None, Ok, decimal, refl, sym, ap, ◌∙◌, arith, append_assoc, leb-true}
+use Rattle.std.proofs.Common.{◌&&◌, ◌≡◌, ℕ, suc, ◌-◌, ◌<◌, ◌≤◌, ◌^◌, Bool, true, false, ◌==◌, List, [], ◌∷◌, ◌++◌, length, take, Option, Some, None, Ok, decimal, refl, sym, ap, ◌∙◌, arith, append_assoc, leb-true}
 use Rattle.std.specs.Prelude.{not, nat_le, if◌then◌else◌}
 use Rattle.std.specs.List.{list_all, AllByRecursion}
 use Rattle.std.proofs.lemmas.Bool.{and_parts, ltb-true, ne_eqb, not-true}
 use Rattle.std.proofs.lemmas.List.{length-append}
 use Rattle.std.proofs.Math.Seq.{take-append_seam}
 use Rattle.ndc_event.specs.Key.{run_text}
-use Rattle.ndc_node_shapes.specs.Bytes.{is_digit, is_marked, escaped, quoted, further, with_commas, list_text, first_key, next_key, wanted}
+use Rattle.ndc_node_shapes.specs.Bytes.{is_digit, is_plain, is_marked, escaped, quoted, further, with_commas, list_text, first_key, next_key, wanted}
 use Rattle.ndc_node_shapes.specs.Fits.{Fits, is_key, is_object, is_rest, is_sound}
 use Rattle.ndc_node_shapes.specs.Objects.{step, unless_done, rest_after, after_object, object_at}
 use Rattle.ndc_node_shapes.specs.declared.fault.Cause.TheVariants.{Unexpected}
@@ -84,8 +84,8 @@ key_passes : (n : ℕ) (key r : List ℕ) → is_key key ≡ true → rest_after
 unfolding rest_after
 key_passes n [] r h = refl
 key_passes n (b ∷ key) r h =
-    let p = and_parts (not (is_marked b)) (is_key key) h in
-    let e = neither (b == 34) (b == 92) (not-true (is_marked b) p.0) in
+    let p = and_parts (is_plain b && not (is_marked b)) (is_key key) h in
+    let e = neither (b == 34) (b == 92) (not-true (is_marked b) (and_parts (is_plain b) (not (is_marked b)) p.0).1) in
     rw (e.0, e.1) (key_passes n key r p.1)
 
 first_passes : (n : ℕ) (key r : List ℕ) → is_key key ≡ true → rest_after Outside n (first_key key ++ r) ≡ rest_after Outside (suc n) r
@@ -153,12 +153,12 @@ passes end n v r sound h = refl
 
 -- ---- an object is cut out of what it begins
 
-taken_front : (front rest : List ℕ) → take (length (front ++ rest) - length rest) (front ++ rest) ≡ front
-taken_front front rest = ap (λ k. take k (front ++ rest)) (let l = length-append front rest in omega (arith, l)) ∙ take-append_seam front rest
+taken_prefix : (front rest : List ℕ) → take (length (front ++ rest) - length rest) (front ++ rest) ≡ front
+taken_prefix front rest = ap (λ k. take k (front ++ rest)) (let l = length-append front rest in omega (arith, l)) ∙ take-append_seam front rest
 
 -- what is cut out as these bytes
 pub cut : (bytes rest : List ℕ) → after_object (bytes ++ rest) ≡ Some rest → object_at (bytes ++ rest) ≡ Ok (bytes, rest)
-cut bytes rest h = rw h (ap (λ (t : List ℕ). Ok (t, rest)) (taken_front bytes rest))
+cut bytes rest h = rw h (ap (λ (t : List ℕ). Ok (t, rest)) (taken_prefix bytes rest))
 
 pub closes : (key : List ℕ) (s ms : Shape) (v : Value (object key s ms)) (rest : List ℕ) → is_sound (object key s ms) ≡ true → Fits (object key s ms) v
     → after_object (text_of (object key s ms) v ++ rest) ≡ Some rest
@@ -215,5 +215,5 @@ object_was left bytes rest h =
     let p = bound (λ (r : List ℕ). Ok (take (length left - length r) left, r)) (wanted Unexpected left (after_object left)) (bytes, rest) h in
     let q = parts (take (length left - length p.0) left) bytes p.0 rest p.1.1 in
     let it = object_ends left p.0 (wanted_some Unexpected left (after_object left) p.0 p.1.0) in
-    let front : take (length left - length p.0) left ≡ it.0 = ap (λ (z : List ℕ). take (length z - length p.0) z) it.1 ∙ taken_front it.0 p.0 in
+    let front : take (length left - length p.0) left ≡ it.0 = ap (λ (z : List ℕ). take (length z - length p.0) z) it.1 ∙ taken_prefix it.0 p.0 in
     it.1 ∙ ap (λ (z : List ℕ). z ++ p.0) (sym front ∙ q.0) ∙ ap (λ (z : List ℕ). bytes ++ z) q.1

@@ -9,3 +9,4 @@ pub mod AllShapes
 pub mod OneByte
 pub mod Closing
 pub mod Onto
+pub mod PlainTexts

@@ -10,48 +10,48 @@ use Rattle.ndc_node_shapes.specs.Bytes.{is_digit, digits_of, has_leading_zero, i
 use Rattle.ndc_node_shapes.specs.declared.fault.Cause.TheVariants.{Number, Range}
 use Rattle.ndc_node_shapes.proofs.Steps.{parts}
 
--- ---- the digits at the front
+-- ---- the leading digits
 
-front_by : (b : ℕ) (bytes : List ℕ) (test : Bool) → list_all is_digit (digits_of bytes) ≡ true → is_digit b ≡ test → list_all is_digit (if test then b ∷ digits_of bytes else []) ≡ true
-front_by b bytes true h e = rw (e, h) refl
-front_by b bytes false h e = refl
+leading_by : (b : ℕ) (bytes : List ℕ) (test : Bool) → list_all is_digit (digits_of bytes) ≡ true → is_digit b ≡ test → list_all is_digit (if test then b ∷ digits_of bytes else []) ≡ true
+leading_by b bytes true h e = rw (e, h) refl
+leading_by b bytes false h e = refl
 
 pub are_digits : (bytes : List ℕ) → list_all is_digit (digits_of bytes) ≡ true
 are_digits [] = refl
-are_digits (b ∷ bytes) = front_by b bytes (is_digit b) (are_digits bytes) refl
+are_digits (b ∷ bytes) = leading_by b bytes (is_digit b) (are_digits bytes) refl
 
 split_by : (b : ℕ) (bytes : List ℕ) (test : Bool) → digits_of bytes ++ drop (length (digits_of bytes)) bytes ≡ bytes
     → (if test then b ∷ digits_of bytes else []) ++ drop (length (if test then b ∷ digits_of bytes else [])) (b ∷ bytes) ≡ b ∷ bytes
 split_by b bytes true h = ap (λ (bs : List ℕ). b ∷ bs) h
 split_by b bytes false h = refl
 
-pub front_and_rest : (bytes : List ℕ) → digits_of bytes ++ drop (length (digits_of bytes)) bytes ≡ bytes
-front_and_rest [] = refl
-front_and_rest (b ∷ bytes) = split_by b bytes (is_digit b) (front_and_rest bytes)
+pub leading_and_rest : (bytes : List ℕ) → digits_of bytes ++ drop (length (digits_of bytes)) bytes ≡ bytes
+leading_and_rest [] = refl
+leading_and_rest (b ∷ bytes) = split_by b bytes (is_digit b) (leading_and_rest bytes)
 
 take_by : (b : ℕ) (bytes : List ℕ) (test : Bool) → take (length (digits_of bytes)) bytes ≡ digits_of bytes
     → take (length (if test then b ∷ digits_of bytes else [])) (b ∷ bytes) ≡ (if test then b ∷ digits_of bytes else [])
 take_by b bytes true h = ap (λ (bs : List ℕ). b ∷ bs) h
 take_by b bytes false h = refl
 
-pub front_taken : (bytes : List ℕ) → take (length (digits_of bytes)) bytes ≡ digits_of bytes
-front_taken [] = refl
-front_taken (b ∷ bytes) = take_by b bytes (is_digit b) (front_taken bytes)
+pub leading_taken : (bytes : List ℕ) → take (length (digits_of bytes)) bytes ≡ digits_of bytes
+leading_taken [] = refl
+leading_taken (b ∷ bytes) = take_by b bytes (is_digit b) (leading_taken bytes)
 
 within_by : (b : ℕ) (bytes : List ℕ) (test : Bool) → length (digits_of bytes) ≤ length bytes → length (if test then b ∷ digits_of bytes else []) ≤ length (b ∷ bytes)
 within_by b bytes true h = omega (arith, h)
 within_by b bytes false h = omega arith
 
-pub front_within : (bytes : List ℕ) → length (digits_of bytes) ≤ length bytes
-front_within [] = omega arith
-front_within (b ∷ bytes) = within_by b bytes (is_digit b) (front_within bytes)
+pub leading_within : (bytes : List ℕ) → length (digits_of bytes) ≤ length bytes
+leading_within [] = omega arith
+leading_within (b ∷ bytes) = within_by b bytes (is_digit b) (leading_within bytes)
 
 -- digits with no digit after them
-pub front_again : (ds rest : List ℕ) → list_all is_digit ds ≡ true → digits_of rest ≡ [] → digits_of (ds ++ rest) ≡ ds
-front_again [] rest h stop = stop
-front_again (d ∷ ds) rest h stop =
+pub leading_again : (ds rest : List ℕ) → list_all is_digit ds ≡ true → digits_of rest ≡ [] → digits_of (ds ++ rest) ≡ ds
+leading_again [] rest h stop = stop
+leading_again (d ∷ ds) rest h stop =
     let p = and_parts (is_digit d) (list_all is_digit ds) h in
-    rw (p.0, front_again ds rest p.1 stop) refl
+    rw (p.0, leading_again ds rest p.1 stop) refl
 
 -- ---- the model of numerals
 
@@ -87,7 +87,7 @@ pub number_again : (least most n : ℕ) (rest : List ℕ) → most < 10 ^ 18 →
     → number_at least most (decimal n ++ rest) ≡ Ok (n, rest)
 number_again least most n rest small h stop =
     let upper : n ≤ most = leb-true n most (and_parts (nat_le least n) (nat_le n most) h).1 in
-    rw (front_again (decimal n) rest (digits_decimal own n (omega arith)) stop, numeral n (omega arith), digits_value-decimal own n (omega arith), h)
+    rw (leading_again (decimal n) rest (digits_decimal own n (omega arith)) stop, numeral n (omega arith), digits_value-decimal own n (omega arith), h)
     (ap (λ (r : List ℕ). Ok (n, r)) (drop-append_seam (decimal n) rest))
 
 -- ---- what is read was printed
@@ -127,5 +127,5 @@ number_only least most n left rest h =
     let ds = digits_of left in
     let known = by_tests least most ds left rest n (is_number ds) (nat_le least (value_on 0 ds) && nat_le (value_on 0 ds) most) refl refl h in (
       subst (λ m. IsTrue (nat_le least m && nat_le m most)) (sym known.1) known.3,
-      sym (ap (λ (m : ℕ). decimal m ++ rest) known.1 ∙ ap (λ (bs : List ℕ). bs ++ rest) (printed ds (are_digits left) known.0) ∙ ap (λ (r : List ℕ). ds ++ r) known.2 ∙ front_and_rest left),
+      sym (ap (λ (m : ℕ). decimal m ++ rest) known.1 ∙ ap (λ (bs : List ℕ). bs ++ rest) (printed ds (are_digits left) known.0) ∙ ap (λ (r : List ℕ). ds ++ r) known.2 ∙ leading_and_rest left),
     )

@@ -11,16 +11,16 @@ members piece s ms old v vs one more =
     more (onto s (old ++ piece) v) ∙ ap (λ (z : List ℕ). z ++ text_of ms vs) (one (old ++ piece) ∙ append_assoc old piece (text_of s v))
     ∙ append_assoc old (piece ++ text_of s v) (text_of ms vs)
 
-pub behind : (s : Shape) (old : List ℕ) (v : Value s) → onto s old v ≡ old ++ text_of s v
-behind (number least most) old v = refl
-behind flag old v = refl
-behind name old v = refl
-behind (word test) old v = refl
-behind text old v = refl
-behind run old v = refl
-behind (numbers most test) old v = refl
-behind (list s) old v = refl
-behind (nullable s) old v = refl
-behind (object key s ms) old v = members (first_key key) s ms old v.0 v.1 (λ old. behind s old v.0) (λ old. behind ms old v.1)
-behind (next key s ms) old v = members (next_key key) s ms old v.0 v.1 (λ old. behind s old v.0) (λ old. behind ms old v.1)
-behind end old v = refl
+pub at_the_end : (s : Shape) (old : List ℕ) (v : Value s) → onto s old v ≡ old ++ text_of s v
+at_the_end (number least most) old v = refl
+at_the_end flag old v = refl
+at_the_end name old v = refl
+at_the_end (word test) old v = refl
+at_the_end text old v = refl
+at_the_end run old v = refl
+at_the_end (numbers most test) old v = refl
+at_the_end (list s) old v = refl
+at_the_end (nullable s) old v = refl
+at_the_end (object key s ms) old v = members (first_key key) s ms old v.0 v.1 (λ old. at_the_end s old v.0) (λ old. at_the_end ms old v.1)
+at_the_end (next key s ms) old v = members (next_key key) s ms old v.0 v.1 (λ old. at_the_end s old v.0) (λ old. at_the_end ms old v.1)
+at_the_end end old v = refl

@@ -123,7 +123,7 @@ plain_by b h =
     let low : 33 ≤ b = leb-true 33 b p.0 in
     rw (le-leb 32 b (omega arith), p.1) refl
 
-names_plain : (bytes : List ℕ) → list_all is_name_byte bytes ≡ true → list_all is_plain bytes ≡ true
+pub names_plain : (bytes : List ℕ) → list_all is_name_byte bytes ≡ true → list_all is_plain bytes ≡ true
 names_plain [] h = refl
 names_plain (b ∷ bytes) h = let p = and_parts (is_name_byte b) (list_all is_name_byte bytes) h in plain_more b bytes (plain_by b p.0) (names_plain bytes p.1)
 
@@ -182,7 +182,7 @@ place_plain : (xs : List ℕ) (k : ℕ) (test : Bool) → is_plain (if test then
 place_plain xs k true = refl
 place_plain xs k false = digit_plain (nibble xs (digit_place k)) (nat_lt (nibble xs (digit_place k)) 10) refl (half_small xs (digit_place k) (digit_place k % 2 == 0))
 
-run_plain : (run : RunId) → list_all is_plain (run_text run) ≡ true
+pub run_plain : (run : RunId) → list_all is_plain (run_text run) ≡ true
 run_plain run = listed_plain 36 _ (λ k. place_plain (to_be_bytes w128 run.value) k (is_hyphen_place k))
 
 byte_small : (i n : ℕ) → byte_at i n < 256

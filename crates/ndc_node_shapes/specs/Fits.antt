@@ -22,9 +22,9 @@ Fits (object key shape members) value = Fits shape value.0 × Fits members value
 Fits (next key shape members) value = Fits shape value.0 × Fits members value.1
 Fits end value = ⊤
 
--- a key without a quote or a backslash
+-- a key of bytes from space to `~`, without a quote or a backslash
 abbrev pub is_key : List ℕ → Bool
-is_key key = list_all (λ b. not (is_marked b)) key
+is_key key = list_all (λ b. is_plain b && not (is_marked b)) key
 
 -- an object
 abbrev pub is_object : Shape → Bool

@@ -9,8 +9,8 @@ use crate::piece::{
     MAX_ID, MAX_VERSION, push_end, push_first, push_next, push_number, push_quoted, push_run,
     take_end, take_first, take_name, take_next, take_number, take_run, take_text,
 };
-use ndc_history::Item;
 use ndc_event::{BatchKey, Items, Name, OutOfMemory, RunId};
+use ndc_history::Item;
 use std::alloc::Global;
 
 /// A text of bytes from space to `~`.

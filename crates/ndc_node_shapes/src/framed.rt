@@ -30,7 +30,7 @@ pub trait Framed: Drop {
 }
 
 /// Appends the text of a value.
-#[tactic(auto, using(crate::proofs::Onto::behind))]
+#[tactic(auto, using(crate::proofs::Onto::at_the_end))]
 pub fn push_one<T: Framed>(text: &mut Vec<u8>, one: &T) -> Result<(), OutOfMemory>
     ensures { OnOk result (text.new.items ≡ text.old.items ++ text_of T.shape (T.value one.now)) }
 {
@@ -94,9 +94,9 @@ fn take_further<T: Framed>(alloc: Global, first: T, left: &[u8]) -> Result<(Vec<
             None => {}
         }
         let next = expect(rest, b",")?;
-        let (item, behind) = T::take(alloc, next)?;
+        let (item, later) = T::take(alloc, next)?;
         items.push(item)?;
-        rest = behind;
+        rest = later;
     }
     Err(Fault::At {
         cause: Cause::Unexpected,

@@ -1,5 +1,7 @@
 //! What holds of the texts of all shapes.
-ghost use Rattle.std.specs.Prelude.{◌≡◌, ◌↔◌, ◌++◌, ℕ, List, [], true, Ok};
+ghost use Rattle.std.specs.Prelude.{◌≡◌, ◌↔◌, ◌++◌, ℕ, List, [], true, Ok, IsTrue};
+ghost use Rattle.std.specs.List.{list_all};
+ghost use Rattle.ndc_node_shapes.specs.Bytes.{is_plain};
 ghost use Rattle.ndc_node_shapes.specs.Fits.{Fits, is_object, is_sound};
 ghost use Rattle.ndc_node_shapes.specs.Read.{read_of};
 ghost use Rattle.ndc_node_shapes.specs.Shapes.{Shape, Value};
@@ -22,6 +24,12 @@ pub fn one_text_of_a_value()
 pub fn one_value_of_a_text()
     ensures { (shape : Shape) (one other : Value shape) → is_sound shape ≡ true → Fits shape one → Fits shape other
         → text_of shape one ≡ text_of shape other → one ≡ other }
+{}
+
+/// The text of a value has the bytes from space to `~` alone, so it is one line.
+pub fn texts_are_plain()
+    ensures { (shape : Shape) (value : Value shape) → is_sound shape ≡ true → Fits shape value
+        → IsTrue (list_all is_plain (text_of shape value)) }
 {}
 
 /// The text of an object is cut out of what begins with it, whatever comes after; and what is cut out stands there.

@@ -37,9 +37,9 @@ loop-preserved g c most e =
     let items = map t.value c.loop.items.items in
     let goes_on : after (93 ∷ []) c.loop.rest.now ≡ None = search rules in
     let comma : expect (44 ∷ []) c.loop.rest.now ≡ Ok c.in_ok-next.next.now = search rules in
-    let one : read_of t.shape c.in_ok-next.next.now ≡ Ok (t.value c.in_ok-item.item, c.in_ok-item.behind.now) = search rules in
+    let one : read_of t.shape c.in_ok-next.next.now ≡ Ok (t.value c.in_ok-item.item, c.in_ok-item.later.now) = search rules in
     map_more t.value c.loop.items.items c.in_ok-item.item c.push-in-loop.new.self.items _ (search rules)
-    ∙ one_more (read_of t.shape) items most c.loop.rest.now c.in_ok-next.next.now goes_on comma (t.value c.in_ok-item.item) c.in_ok-item.behind.now one
+    ∙ one_more (read_of t.shape) items most c.loop.rest.now c.in_ok-next.next.now goes_on comma (t.value c.in_ok-item.item) c.in_ok-item.later.now one
     ∙ c.loop.invariant (suc most) (omega arith)
 
 pub returns : goal.returns
