@@ -25,6 +25,8 @@ use Rattle.ndc_text.specs.declared.error.TextError.{TextError}
 use Rattle.ndc_text.specs.declared.form.TextForm.TheVariants.{Two}
 use Rattle.ndc_text.proofs.Exact.{found, text_again}
 use Rattle.ndc_node_messages.proofs.BatchEnds.{batch_ends, no_null}
+use Rattle.ndc_node_shapes.proofs.PlainTexts.{IsPlainText, plain_joined, plain}
+use Rattle.ndc_node_messages.proofs.Visible.{batch_is_plain}
 use Rattle.ndc_node_messages.proofs.Items.{items_back, values_back}
 
 -- ---- steps
@@ -152,3 +154,26 @@ message_only bytes sent h =
 
 pub one_message : (one other : Message) → MessageFits one → MessageFits other → message_text one ≡ message_text other → one ≡ other
 one_message one other h k e = let both : ◌≡◌ {A = Result Message MessageError} (Ok one) (Ok other) = sym (message_again one h) ∙ ap message_at e ∙ message_again other k in cc
+
+-- ---- in frames
+
+second_plain : (o : Option Batch) → IsWholeIfThere o → IsPlainText (second_text o)
+second_plain None h = refl
+second_plain (Some b) h = batch_is_plain b h.range
+
+pub message_plain : (sent : Message) → MessageFits sent → IsPlainText (message_text sent)
+message_plain sent h =
+    let a = first_key (codes "batch") in
+    let b = batch_text sent.batch in
+    let c = next_key (codes "history") in
+    let d = text_of history_shape (history_value sent.history) in
+    let e = next_key (codes "second") in
+    let f = second_text sent.second in
+    plain_joined (((((a ++ b) ++ c) ++ d) ++ e) ++ f) (125 ∷ [])
+    (plain_joined ((((a ++ b) ++ c) ++ d) ++ e) f
+    (plain_joined (((a ++ b) ++ c) ++ d) e
+    (plain_joined ((a ++ b) ++ c) d
+    (plain_joined (a ++ b) c
+    (plain_joined a b refl (batch_is_plain sent.batch h.batch.range)) refl)
+    (plain history_shape (history_value sent.history) refl h.history)) refl)
+    (second_plain sent.second h.second)) refl

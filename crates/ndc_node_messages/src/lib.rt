@@ -7,5 +7,7 @@ mod laws;
 mod message;
 
 pub use error::MessageError;
-pub use laws::{one_message_of_a_text, one_text_of_a_message, read_where_printed};
+pub use laws::{
+    messages_fit_in_frames, one_message_of_a_text, one_text_of_a_message, read_where_printed,
+};
 pub use message::{message_text, read_message};

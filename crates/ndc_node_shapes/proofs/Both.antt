@@ -4,7 +4,7 @@ use Rattle.std.specs.Prelude.{IsTrue, nat_le, nat_lt, not}
 use Rattle.std.specs.List.{list_all, AllByRecursion}
 use Rattle.std.proofs.lemmas.Bool.{and_parts, ltb-true, ne_eqb, not-true}
 use Rattle.std.proofs.lemmas.Fmt.{decimal_nonempty}
-use Rattle.ndc_node_shapes.specs.Bytes.{after, expect, is_digit, digits_of, number_at, flag_text, flag_from, list_text, list_at, member_at, numbers_at, word_at, in_range, unless_null, first_key, next_key}
+use Rattle.ndc_node_shapes.specs.Bytes.{after, expect, is_digit, digits_of, number_at, flag_text, flag_from, list_text, list_at, member_at, numbers_at, in_range, unless_null, first_key, next_key}
 use Rattle.ndc_node_shapes.specs.Fits.{Fits, is_key, is_object, is_rest, is_sound}
 use Rattle.ndc_node_shapes.specs.Read.{read_of}
 use Rattle.ndc_node_shapes.specs.Shapes.{Shape, number, flag, name, word, text, run, numbers, list, nullable, object, next, end, Value}

@@ -1,6 +1,6 @@
 -- The text of a value has the bytes from space to `~` alone: it is one line.
-use Rattle.std.proofs.Common.{◌≡◌, ℕ, ◌<◌, ◌≤◌, ◌^◌, Bool, true, false, ◌&&◌, List, [], ◌∷◌, ◌++◌, Option, Some, None, decimal, codes, refl, ap, ◌∙◌, arith, leb-true, le-leb}
-use Rattle.std.specs.Prelude.{IsTrue, nat_le, nat_lt, not, if◌then◌else◌}
+use Rattle.std.proofs.Common.{◌≡◌, ℕ, ◌<◌, ◌≤◌, ◌^◌, Bool, true, false, ◌&&◌, List, [], ◌∷◌, ◌++◌, Some, None, decimal, refl, arith, leb-true, le-leb}
+use Rattle.std.specs.Prelude.{IsTrue, nat_le, not, if◌then◌else◌}
 use Rattle.std.specs.List.{list_all, AllByRecursion}
 use Rattle.std.proofs.lemmas.Bool.{and_parts, ltb-true}
 use Rattle.ndc_event.specs.Key.{run_text}
