@@ -54,6 +54,13 @@ next_may allows view home jobs i asked before now replies one below at inside is
     let front : AreAllowed allows home (asked ∷ drop (i + 1) jobs) (map view now) = subst (λ left. AreAllowed allows home left (map view now)) (drop-next jobs i asked below at) done.may in
     subst (allows home asked.job) (cell_there view now asked.shard one inside is) front.0
 
+-- one job is done by the cell that stands at its shard
+pub one_done : {X : Type 0} (view : X → Cell) (home : Desk) (asked : ShardJob) (now : List X) (one new : X) → asked.shard < length now → one ≡ get_or now asked.shard one
+    → view new ≡ after_job home asked.job (view one) → map view (set now asked.shard new) ≡ cells_behind home asked (map view now)
+one_done view home asked now one new inside is after =
+    map-set view now asked.shard new
+    ∙ ap (λ cell. set (map view now) asked.shard cell) (after ∙ ap (after_job home asked.job) (sym (cell_there view now asked.shard one inside is)))
+
 -- one job more is done
 pub next_done : {X : Type 0} (allows : Condition) (view : X → Cell) (home : Desk) (jobs : List ShardJob) (i : ℕ) (asked : ShardJob) (before now : List X) (replies more : List JobReply) (one new : X) (reply : JobReply) → i < length jobs → asked ≡ get_or jobs i asked
     → asked.shard < length now → one ≡ get_or now asked.shard one → view new ≡ after_job home asked.job (view one) → reply ≡ reply_to home asked.job (view one) → more ≡ replies ++ reply ∷ []
@@ -62,8 +69,7 @@ pub next_done : {X : Type 0} (allows : Condition) (view : X → Cell) (home : De
 next_done allows view home jobs i asked before now replies more one new reply below at inside is after replied longer same done =
     let next = drop-next jobs i asked below at in
     let there : cell_for asked.shard (map view now) ≡ view one = cell_there view now asked.shard one inside is in
-    let behind : map view (set now asked.shard new) ≡ cells_behind home asked (map view now) =
-    map-set view now asked.shard new ∙ ap (λ cell. set (map view now) asked.shard cell) (after ∙ ap (after_job home asked.job) (sym there)) in
+    let behind : map view (set now asked.shard new) ≡ cells_behind home asked (map view now) = one_done view home asked now one new inside is after in
     let front : AreAllowed allows home (asked ∷ drop (i + 1) jobs) (map view now) = subst (λ left. AreAllowed allows home left (map view now)) next done.may in
     record {
       many = same ∙ done.many;

@@ -1,5 +1,8 @@
 use crate::cell::Cell;
 use crate::fresh::Fresh;
+use crate::home::Desk;
+use ndc_event::OutOfMemory;
+use ndc_model_cells::{JobReply, ShardJob};
 use std::marker::Model;
 
 /// Cells by shard. Behind a round that was done in pieces, messages that each of them has written stand beside them, until
@@ -31,8 +34,9 @@ impl<C: Cell + Drop> Drop for Cells<C> {
 }
 
 impl<C: Cell + Drop> Cells<C> {
-    ghost use Rattle.std.specs.Prelude.{◌≡◌, map, IfSome};
+    ghost use Rattle.std.specs.Prelude.{◌≡◌, ◌<◌, length, map, IfSome, IfOk, OnOk};
     ghost use Rattle.ndc_cluster.specs.Rounds.{AreFresh};
+    ghost use Rattle.ndc_model_cells.specs.Jobs.{cell_for, cells_behind, reply_to};
 
     /// Cells, and what they have written from some place on, where it is at hand.
     pub(crate) fn new(cells: Vec<C>, fresh: Option<Vec<Fresh>>) -> Cells<C>
@@ -66,5 +70,18 @@ impl<C: Cell + Drop> Cells<C> {
         ensures same { self.new ≡ self.old }
     {
         self.fresh.take()
+    }
+
+    /// The cell of its shard does a job. What is at hand of what the cells have written is no more.
+    pub(crate) fn do_one(&mut self, desk: &Desk, asked: &ShardJob) -> Result<JobReply, OutOfMemory>
+        requires shard { asked.now.shard < length self.old }
+        requires allowed { C.allows desk.now asked.now.job (cell_for asked.now.shard self.old) }
+        ensures cells { OnOk result (self.new ≡ cells_behind desk.now asked.now self.old) }
+        ensures reply { IfOk result (λ reply. reply ≡ reply_to desk.now asked.now.job (cell_for asked.now.shard self.old)) }
+    {
+        self.fresh = None;
+        let cell = &mut self.cells[asked.shard as usize];
+        let reply = cell.do_job(desk, &asked.job)?;
+        Ok(reply)
     }
 }

@@ -61,7 +61,7 @@ impl<C: Cell + Drop> Cluster<C> {
     ghost use Rattle.ndc_cluster.specs.Homes.{desk_of};
     ghost use Rattle.ndc_cluster.specs.Rounds.{AreFresh};
     ghost use Rattle.ndc_model_cells.specs.Conditions.{AreAllowed};
-    ghost use Rattle.ndc_model_cells.specs.Jobs.{cell_for, cells_after, replies_to};
+    ghost use Rattle.ndc_model_cells.specs.Jobs.{cell_for, cells_after, cells_behind, replies_to, reply_to};
 
     /// A cluster without a record, of so many cells in which nothing has happened.
     pub fn new(alloc: Global, home: &Home, shards: u32) -> Result<Cluster<C>, OutOfMemory>
@@ -132,6 +132,37 @@ impl<C: Cell + Drop> Cluster<C> {
         let rounded = round(rt, alloc, gate, workers, &desk, cells, jobs)?;
         self.cells = Cells::new(rounded.cells, rounded.fresh);
         Ok(rounded.replies)
+    }
+
+    /// The cell of its shard does one job, which it may do, without a gate. After want of memory there are no cells, and the
+    /// domain records are as they were. What was at hand of what the cells have written (`take_fresh`) is no more.
+    pub fn do_one(
+        &mut self,
+        alloc: Global,
+        home: &Home,
+        asked: &ShardJob,
+    ) -> Result<JobReply, OutOfMemory>
+        requires shard { asked.now.shard < length self.old.cells }
+        requires allowed { C.allows (desk_of home.now self.old.table) asked.now.job (cell_for asked.now.shard self.old.cells) }
+        ensures cells { OnOk result (self.new ≡ with_cells (cells_behind (desk_of home.now self.old.table) asked.now self.old.cells) self.old) }
+        ensures err { OnErr result (self.new ≡ with_cells [] self.old) }
+        ensures reply { IfOk result (λ reply. reply ≡ reply_to (desk_of home.now self.old.table) asked.now.job (cell_for asked.now.shard self.old.cells)) }
+    {
+        let desk = Desk::new(home.clusters, home.me, home.limit, &self.table);
+        match self.cells.do_one(&desk, asked) {
+            Ok(reply) => Ok(reply),
+            Err(error) => {
+                self.cells = Cells::new(Vec::new(alloc), None);
+                Err(error)
+            }
+        }
+    }
+
+    /// It has no cells any more; its domain records stay. Takes no memory.
+    pub fn clear(&mut self, alloc: Global)
+        ensures { self.new ≡ with_cells [] self.old }
+    {
+        self.cells = Cells::new(Vec::new(alloc), None);
     }
 
     /// For each cell messages that it has written, from some place on, where the last round was done in pieces: they are at

@@ -7,7 +7,7 @@ use Rattle.ndc_model.specs.Moves.{without_flight}
 use Rattle.ndc_model.specs.Queues.{Lane, after_rewind, new_lane}
 use Rattle.ndc_queue.specs.Queues.{QueueValue, queue_len}
 use Rattle.ndc_cluster_links.specs.Links.{done_of}
-use Rattle.ndc_cluster_links.specs.Rest.{AreWithin, lane_at, queue_at}
+use Rattle.ndc_cluster_links.specs.Rest.{AreDoneBut, AreWithin, lane_at, queue_at}
 
 -- how far a lane is done
 abbrev done : Lane → ℕ
@@ -50,7 +50,7 @@ done_more lanes i count more new below so step =
     ∙ ap (λ n. n + done new) (sym so) ∙ ap (λ n. count + n) (sym step))
 
 -- no more is done than is written
-done-most : (queues : List QueueValue) (lanes : List Lane) → length queues ≡ length lanes → AreWithin queues lanes → done_of lanes ≤ sum_by queue_len queues
+pub done-most : (queues : List QueueValue) (lanes : List Lane) → length queues ≡ length lanes → AreWithin queues lanes → done_of lanes ≤ sum_by queue_len queues
 done-most [] [] alike within = omega arith
 done-most [] (lane ∷ lanes) alike within = absurd (omega (arith, alike))
 done-most (queue ∷ queues) [] alike within = absurd (omega (arith, alike))
@@ -95,3 +95,93 @@ done_each (queue ∷ queues) (lane ∷ lanes) alike within all (suc shard) below
       sum_by-cons queue_len queue queues,
     ) in
     done_each queues lanes (omega (arith, alike)) rest left shard (omega (arith, below))
+
+-- as much as is missing in one lane is missing in all of them at least
+missing-least : (queues : List QueueValue) (lanes : List Lane) → length queues ≡ length lanes → AreWithin queues lanes → (shard : ℕ) → shard < length lanes
+    → done_of lanes + queue_len (queue_at queues shard) ≤ sum_by queue_len queues + (lane_at lanes shard).levels.done
+missing-least queues [] alike within shard below = absurd (omega (arith, below))
+missing-least [] (lane ∷ lanes) alike within shard below = absurd (omega (arith, alike))
+missing-least (queue ∷ queues) (lane ∷ lanes) alike within zero below =
+    omega (arith, done-most queues lanes (omega (arith, alike)) (λ k less. within (suc k) (omega (arith, less))), done-more lane lanes, sum_by-cons queue_len queue queues)
+missing-least (queue ∷ queues) (lane ∷ lanes) alike within (suc shard) below =
+    let first = within zero (omega arith) in
+    omega (
+      arith,
+      first.done_most,
+      first.read_most,
+      missing-least queues lanes (omega (arith, alike)) (λ k less. within (suc k) (omega (arith, less))) shard (omega (arith, below)),
+      done-more lane lanes,
+      sum_by-cons queue_len queue queues,
+    )
+
+-- where as much is missing in one lane as in all of them, each other one is done
+pub done_but : (queues : List QueueValue) (lanes : List Lane) → length queues ≡ length lanes → AreWithin queues lanes → (shard : ℕ) → shard < length lanes
+    → done_of lanes + queue_len (queue_at queues shard) ≡ sum_by queue_len queues + (lane_at lanes shard).levels.done → AreDoneBut shard queues lanes
+done_but queues [] alike within shard below missing other less differs = absurd (omega (arith, less))
+done_but [] (lane ∷ lanes) alike within shard below missing other less differs = absurd (omega (arith, alike))
+done_but (queue ∷ queues) (lane ∷ lanes) alike within zero below missing zero less differs = absurd (differs refl)
+done_but (queue ∷ queues) (lane ∷ lanes) alike within zero below missing (suc other) less differs =
+    done_each queues lanes (omega (arith, alike)) (λ k small. within (suc k) (omega (arith, small)))
+    (omega (arith, missing, done-more lane lanes, sum_by-cons queue_len queue queues)) other (omega (arith, less))
+done_but (queue ∷ queues) (lane ∷ lanes) alike within (suc shard) below missing zero less differs =
+    let first = within zero (omega arith) in
+    omega (
+      arith,
+      missing,
+      first.done_most,
+      first.read_most,
+      missing-least queues lanes (omega (arith, alike)) (λ k small. within (suc k) (omega (arith, small))) shard (omega (arith, below)),
+      done-more lane lanes,
+      sum_by-cons queue_len queue queues,
+    )
+done_but (queue ∷ queues) (lane ∷ lanes) alike within (suc shard) below missing (suc other) less differs =
+    let first = within zero (omega arith) in
+    let rest : AreWithin queues lanes = λ k small. within (suc k) (omega (arith, small)) in
+    let left : done_of lanes + queue_len (queue_at queues shard) ≡ sum_by queue_len queues + (lane_at lanes shard).levels.done =
+    omega (
+      arith,
+      missing,
+      first.done_most,
+      first.read_most,
+      missing-least queues lanes (omega (arith, alike)) rest shard (omega (arith, below)),
+      done-more lane lanes,
+      sum_by-cons queue_len queue queues,
+    ) in
+    done_but queues lanes (omega (arith, alike)) rest shard (omega (arith, below)) left other (omega (arith, less)) (λ same. differs (ap suc same))
+
+-- where each lane is done, as much is done as is written
+done-all : (queues : List QueueValue) (lanes : List Lane) → length queues ≡ length lanes → ((k : ℕ) → k < length lanes → (lane_at lanes k).levels.done ≡ queue_len (queue_at queues k)) → done_of lanes ≡ sum_by queue_len queues
+done-all [] [] alike each = refl
+done-all [] (lane ∷ lanes) alike each = absurd (omega (arith, alike))
+done-all (queue ∷ queues) [] alike each = absurd (omega (arith, alike))
+done-all (queue ∷ queues) (lane ∷ lanes) alike each =
+    let first = each zero (omega arith) in
+    omega (arith, first, done-all queues lanes (omega (arith, alike)) (λ k less. each (suc k) (omega (arith, less))), done-more lane lanes, sum_by-cons queue_len queue queues)
+
+-- how much is done where a lane takes the place of the only one that is not
+pub done_one : (queues : List QueueValue) (lanes : List Lane) → length queues ≡ length lanes → (shard : ℕ) → shard < length lanes → AreDoneBut shard queues lanes → (new : Lane)
+    → done_of (set lanes shard new) + queue_len (queue_at queues shard) ≡ sum_by queue_len queues + new.levels.done
+done_one queues [] alike shard below others new = absurd (omega (arith, below))
+done_one [] (lane ∷ lanes) alike shard below others new = absurd (omega (arith, alike))
+done_one (queue ∷ queues) (lane ∷ lanes) alike zero below others new =
+    omega (
+      arith,
+      done-all queues lanes (omega (arith, alike)) (λ k less. others (suc k) (omega (arith, less)) (λ same. absurd (omega (arith, same)))),
+      done-more new lanes,
+      sum_by-cons queue_len queue queues,
+    )
+done_one (queue ∷ queues) (lane ∷ lanes) alike (suc shard) below others new =
+    let first = others zero (omega arith) (λ same. absurd (omega (arith, same))) in
+    omega (
+      arith,
+      first,
+      done_one queues lanes (omega (arith, alike)) shard (omega (arith, below)) (λ k less differs. others (suc k) (omega (arith, less)) (λ same. differs (omega (arith, same)))) new,
+      done-more lane (set lanes shard new),
+      sum_by-cons queue_len queue queues,
+    )
+
+-- a queue has no more entries than all of them
+pub len_within : (queues : List QueueValue) (shard : ℕ) → shard < length queues → queue_len (queue_at queues shard) ≤ sum_by queue_len queues
+len_within [] shard below = absurd (omega (arith, below))
+len_within (queue ∷ queues) zero below = omega (arith, sum_by-cons queue_len queue queues)
+len_within (queue ∷ queues) (suc shard) below = omega (arith, len_within queues shard (omega (arith, below)), sum_by-cons queue_len queue queues)

@@ -1,5 +1,5 @@
 -- Queues of which the first entries were dropped, beside the whole queues.
-use Rattle.std.specs.Prelude.{◌≡◌, ◌≤◌, ◌<◌, ℕ, List, drop, length, slice_index_or, take}
+use Rattle.std.specs.Prelude.{◌≡◌, ◌≢◌, ◌≤◌, ◌<◌, ℕ, List, drop, length, slice_index_or, take}
 use Rattle.ndc_model_cells.specs.declared.message.Message.{Message}
 use Rattle.ndc_model.specs.Queues.{Lane, new_lane}
 use Rattle.ndc_queue.specs.Queues.{QueueValue, new_queue, queue_len}
@@ -37,3 +37,7 @@ AreFronts queues whole = (shard : ℕ) → shard < length queues → IsFrontOf (
 -- the levels of each lane lie in what is kept of the queue of its shard
 abbrev pub AreWithin : List QueueValue → List Lane → Type 0
 AreWithin queues lanes = (shard : ℕ) → shard < length lanes → IsWithin (queue_at queues shard) (lane_at lanes shard)
+
+-- the lane of each shard but this one is done up to the end of what is kept of its queue
+abbrev pub AreDoneBut : ℕ → List QueueValue → List Lane → Type 0
+AreDoneBut shard queues lanes = (other : ℕ) → other < length lanes → other ≢ shard → (lane_at lanes other).levels.done ≡ queue_len (queue_at queues other)

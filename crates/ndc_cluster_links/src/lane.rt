@@ -52,6 +52,7 @@ fn entries_of(queue: &Queue, level: u64) -> &[Message]
     requires last { level ≤ queue_len queue.now }
     ensures entries { result.now ≡ drop (level - queue.now.first) queue.now.kept }
     ensures most { level + length result.now ≤ 10 ^ 12 }
+    ensures end { level + length result.now ≡ queue_len queue.now }
 {
     let _most = queue.len();
     &queue.kept()[(level - queue.first()) as usize..]
@@ -70,6 +71,7 @@ fn settled_from<C: Cell>(
     requires last { level ≤ queue_len queue.now }
     ensures front { (whole : List Sent) → IsRestOf queue.now whole → result ≡ prefix_len (needs_nothing reader table.now (C.cell cell.now)) (drop level whole) }
     ensures most { level + result ≤ 10 ^ 12 }
+    ensures end { level + result ≤ queue_len queue.now }
 {
     if level == queue.len() {
         return 0;
@@ -144,6 +146,13 @@ impl Lane {
         self.levels.read == queue.len()
     }
 
+    /// Whether all entries of a queue are done.
+    pub(crate) fn is_done(&self, queue: &Queue) -> bool
+        ensures { IsTrue result → self.now.levels.done ≡ queue_len queue.now }
+    {
+        self.levels.done == queue.len()
+    }
+
     /// The same, wherever `read` lies.
     fn pull_entries(
         &mut self,
@@ -188,6 +197,7 @@ impl Lane {
         ensures flight { self.new.flight ≡ self.old.flight }
         ensures done { result ≡ self.new.levels.done }
         ensures most { result ≤ 10 ^ 12 }
+        ensures end { result ≤ queue_len queue.now }
     {
         let done = self.levels.done;
         let settled = settled_from(table, reader, cell, queue, done);

@@ -92,8 +92,13 @@ fn renew_lanes<C: Cell>(
 {
     let mut done = 0;
     for shard in 0..lanes.len() {
+        let queue = &queues[shard];
         let lane = &mut lanes[shard];
-        done += lane.renew(table, reader, &cells[shard], &queues[shard]);
+        if lane.is_done(queue) {
+            done += queue.len();
+            continue;
+        }
+        done += lane.renew(table, reader, &cells[shard], queue);
     }
     done
 }
@@ -153,7 +158,7 @@ impl Link {
     ghost use Rattle.ndc_model_cells.specs.Jobs.{cell_for};
     ghost use Rattle.ndc_model_cells.specs.declared.message.Message.{Message as Sent};
     ghost use Rattle.ndc_cluster_links.specs.Links.{flight_in, with_flight_in, with_lane_in};
-    ghost use Rattle.ndc_cluster_links.specs.Rest.{AreRests, AreWithin, IsRestOf, IsWithin, queue_at};
+    ghost use Rattle.ndc_cluster_links.specs.Rest.{AreDoneBut, AreRests, AreWithin, IsRestOf, IsWithin, queue_at};
     ghost use Rattle.ndc_queue.specs.Queues.{queue_len};
     ghost use Rattle.ndc_model.specs.Moves.{link_without_flights, map_from};
     ghost use Rattle.ndc_model.specs.Queues.{after_pull, after_renewal, after_rewind, is_addressed, new_lane, put_in_flight};
@@ -333,8 +338,49 @@ impl Link {
         if self.done == queues.written() {
             return;
         }
+        let latest = queues.latest();
+        if self.is_done_but(latest, queues) {
+            self.renew_one(latest, table, cells, queues);
+            return;
+        }
         let queues = queues.as_slice();
         self.done = renew_lanes(&mut self.lanes, table, self.reader, cells, queues);
+    }
+
+    /// Whether all entries are done but some of the queue of one shard.
+    fn is_done_but(&self, shard: usize, queues: &Queues) -> bool
+        requires alike { length queues.now ≡ length self.now.lanes }
+        requires within { AreWithin queues.now self.now.lanes }
+        ensures shard { IsTrue result → shard < length self.now.lanes }
+        ensures others { IsTrue result → AreDoneBut shard queues.now self.now.lanes }
+    {
+        if self.lanes.len() <= shard {
+            return false;
+        }
+        let left = queues.as_slice()[shard].len() - self.lanes[shard].levels().done;
+        queues.written() - self.done == left
+    }
+
+    /// Renews the levels of one shard, where all entries are done but some of its queue.
+    fn renew_one<C: Cell>(
+        &mut self,
+        shard: usize,
+        table: &DomainTable,
+        cells: &[C],
+        queues: &Queues,
+    )
+        requires shard { shard < length self.old.lanes }
+        requires cells { length cells.now ≡ length self.old.lanes }
+        requires alike { length queues.now ≡ length self.old.lanes }
+        requires within { AreWithin queues.now self.old.lanes }
+        requires others { AreDoneBut shard queues.now self.old.lanes }
+        ensures { (whole : ℕ → List Sent) → AreRests queues.now whole
+            → self.new ≡ record self.old { lanes = map_from (λ shard lane. after_renewal self.old.reader table.now (cell_for shard (map C.cell cells.now)) (whole shard) lane) 0 self.old.lanes } }
+    {
+        let queue = &queues.as_slice()[shard];
+        let lane = &mut self.lanes[shard];
+        let done = lane.renew(table, self.reader, &cells[shard], queue);
+        self.done = queues.written() - (queue.len() - done);
     }
 
     /// What was read and is not done is to be read again, for every shard. Takes no memory.

@@ -15,6 +15,8 @@ pub struct Queues {
     items: Vec<Queue>,
     /// How many entries there are, over all queues, with those that were dropped.
     written: u64,
+    /// The shard whose queue was put to last.
+    latest: usize,
 }
 
 impl Model for Queues {
@@ -81,7 +83,7 @@ fn push_written<C: Cell>(queue: &mut Queue, cell: &C) -> Result<(), OutOfMemory>
 }
 
 impl Queues {
-    ghost use Rattle.std.specs.Prelude.{◌≡◌, ◌<◌, ◌≤◌, ◌-◌, length, max, replicate, slice_set, IfOk, IfSome, OnOk};
+    ghost use Rattle.std.specs.Prelude.{◌≡◌, ◌<◌, ◌≤◌, ◌-◌, [], length, max, replicate, slice_set, IfOk, IfSome, OnOk};
     ghost use Rattle.std.specs.List.{sum_by};
     ghost use Rattle.ndc_cluster.specs.Rounds.{IsFresh};
     ghost use Rattle.ndc_cluster_links.specs.Rest.{IsFrontOf, IsRestOf, queue_at};
@@ -96,7 +98,22 @@ impl Queues {
         while items.len() < shards as usize {
             items.push(Queue::new(alloc))?;
         }
-        Ok(Queues { items, written: 0 })
+        Ok(Queues {
+            items,
+            written: 0,
+            latest: 0,
+        })
+    }
+
+    /// No queue at all. Takes no memory.
+    pub fn none(alloc: Global) -> Queues
+        ensures { result ≡ [] }
+    {
+        Queues {
+            items: Vec::new(alloc),
+            written: 0,
+            latest: 0,
+        }
     }
 
     /// The queues, by shard. Takes no memory.
@@ -119,6 +136,11 @@ impl Queues {
         ensures { result ≡ sum_by queue_len self.now }
     {
         self.written
+    }
+
+    /// The shard whose queue was put to last, 0 in the beginning. Takes no memory.
+    pub(crate) fn latest(&self) -> usize {
+        self.latest
     }
 
     /// Drops all entries of a shard's queue below a level, which is not above its length, and counts those that are
@@ -155,6 +177,7 @@ impl Queues {
         let pushed = push_all(queue, cell, fresh);
         let grown = queue.len() - before;
         self.written += grown;
+        self.latest = shard;
         pushed
     }
 }

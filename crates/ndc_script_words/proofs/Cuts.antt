@@ -1,5 +1,5 @@
 -- How a text falls into its first line and the rest.
-use Rattle.std.proofs.Common.{◌≡◌, ℕ, suc, ◌-◌, ◌<◌, ◌≤◌, Bool, true, false, ◌==◌, List, [], ◌∷◌, length, take, drop, refl, ap, arith, cond, sub-one}
+use Rattle.std.proofs.Common.{◌≡◌, ℕ, zero, suc, ◌-◌, ◌<◌, ◌≤◌, Bool, true, false, ◌==◌, List, [], ◌∷◌, length, take, drop, slice_index, refl, ap, sym, arith, cond, sub-one}
 use Rattle.std.proofs.Math.Seq.{take-length}
 use Rattle.std.specs.List.{onto_first}
 use Rattle.ndc_script_words.specs.Text.{text_lines, line_len}
@@ -37,3 +37,22 @@ text_lines-last bytes front (x ∷ back) n f b e = absurd (omega arith)
 -- a line with its end
 pub text_lines-first : (bytes front back : List ℕ) → (0 < length bytes) → front ≡ take (line_len bytes) bytes → back ≡ drop (line_len bytes) bytes → text_lines bytes ≡ front ∷ text_lines (take (length back - 1) (drop 1 back))
 text_lines-first bytes front back n f b = rw (drop_first back) (text_lines-split bytes front back n f b)
+
+-- a text without the byte that ends a line
+pub line_len-none : (bs : List ℕ) → ((k : ℕ) → k < length bs → ¬ ((slice_index bs k == 10) ≡ true)) → length bs ≡ line_len bs
+line_len-none [] never = refl
+line_len-none (b ∷ bs) never = by (b == 10) refl (line_len-none bs (λ k below. never (suc k) (omega (arith, below))))
+  where
+    by : (t : Bool) → (b == 10) ≡ t → length bs ≡ line_len bs → suc (length bs) ≡ cond t 0 (suc (line_len bs))
+    by true is rest = absurd (never zero (omega arith) is)
+    by false is rest = ap suc rest
+
+-- the first place of that byte
+pub line_len-first : (bs : List ℕ) (at : ℕ) → at < length bs → ((k : ℕ) → k < at → ¬ ((slice_index bs k == 10) ≡ true)) → (slice_index bs at == 10) ≡ true → at ≡ line_len bs
+line_len-first [] at below never is = absurd (omega (arith, below))
+line_len-first (b ∷ bs) zero below never is = sym (ap (λ (t : Bool). cond t 0 (suc (line_len bs))) is)
+line_len-first (b ∷ bs) (suc at) below never is = by (b == 10) refl (line_len-first bs at (omega (arith, below)) (λ k less. never (suc k) (omega (arith, less))) is)
+  where
+    by : (t : Bool) → (b == 10) ≡ t → at ≡ line_len bs → suc at ≡ cond t 0 (suc (line_len bs))
+    by true ends rest = absurd (never zero (omega arith) ends)
+    by false other rest = ap suc rest

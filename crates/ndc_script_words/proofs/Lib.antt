@@ -4,3 +4,4 @@ pub mod Fits
 pub mod HeaderNames
 pub mod Members
 pub mod Names
+mod WordLists

@@ -2,6 +2,7 @@ ghost use Rattle.std.specs.Prelude.{◌≡◌, ◌<◌, ◌≤◌, length, map, 
 ghost use Rattle.std.specs.List.{list_all};
 ghost use Rattle.ndc_script_words.specs.Text.{text_lines, line_len, words_of, is_line_byte, is_short, is_comment, is_skipped, kept_line, kept_from, kept_of, line_behind, line_after};
 
+use memchr::memchr;
 use ndc_event::OutOfMemory;
 use std::alloc::Global;
 use std::marker::Model;
@@ -21,6 +22,9 @@ pub enum Reading {
     /// It stands behind the last line that a script may have.
     PastLimit,
 }
+
+/// For how many words of a line memory is asked for at once: most lines have no more.
+const WORDS: usize = 6;
 
 /// A line that is not skipped, with its words.
 #[derive(Drop)]
@@ -68,12 +72,10 @@ impl<'a> KeptLine<'a> {
 fn line_len(bytes: &[u8]) -> usize
     ensures { result ≡ line_len bytes.now }
 {
-    for (at, byte) in bytes.iter().enumerate() {
-        if *byte == b'\n' {
-            return at;
-        }
+    match memchr(b'\n', bytes) {
+        Some(at) => at,
+        None => bytes.len(),
     }
-    bytes.len()
 }
 
 /// The first line of a text and what stands behind it; nothing where the text is empty.
@@ -96,9 +98,12 @@ fn split_line(bytes: &[u8]) -> Option<(&[u8], &[u8])>
 fn words_of<'a>(alloc: Global, line: &'a [u8]) -> Result<Vec<&'a [u8]>, OutOfMemory>
     ensures { IfOk result (λ words. map (λ word. word.now) words.items ≡ words_of line.now) }
 {
-    line.split(|byte| *byte == b' ')
-        .filter(|word| !word.is_empty())
-        .collect(alloc)
+    let mut words = Vec::with_capacity(alloc, WORDS)?;
+    words.extend(
+        line.split(|byte| *byte == b' ')
+            .filter(|word| !word.is_empty()),
+    )?;
+    Ok(words)
 }
 
 /// Whether the line has allowed bytes alone.

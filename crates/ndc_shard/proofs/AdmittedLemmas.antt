@@ -1,5 +1,5 @@
 -- What a shard has written stays as it is where it is handed messages of which nobody vouches.
-use Rattle.std.proofs.Common.{◌≡◌, ◌⊎◌, inl, inr, Bool, true, false, not, List, [], ◌∷◌, Option, Some, None, refl, sym, ◌∙◌, ap, subst, if◌then_is◌else◌, true≢false}
+use Rattle.std.proofs.Common.{◌≡◌, ◌⊎◌, inl, inr, Bool, true, false, not, List, [], ◌∷◌, Option, Some, None, refl, sym, ◌∙◌, ap, subst, if◌then◌else◌, true≢false}
 use Rattle.std.specs.Prelude.{IfSome, is_some, option_to_list}
 use Rattle.std.specs.List.{AllByRecursion, cons_option, filter}
 use Rattle.std.specs.Option.{option_or}
@@ -184,8 +184,8 @@ module _ (before after : WorkflowValue) (is : IsWorkflow before) (then_is : IsWo
   some-known key some = ap (λ (l : List Batch). is_some (own_message_of known (batch_at key l))) (closed_whole known is.apart.set is.apart.closed) ∙ by (batch_at key known) some
     where
       carrier-by : (b : Batch) (o : Option BatchKey) → b.carrier ≡ o → is_some (own_message known before.arrived b) ≡ true → is_some (own_message (learned known) known b) ≡ true
-      carrier-by b None e h = ap (λ (c : Option BatchKey). is_some (if is_some c then_is None else Some (Rattle.ndc_model_cells.specs.Cells.message_of (learned known) known b))) e
-      carrier-by b (Some key) e h = absurd (true≢false (sym h ∙ ap (λ (c : Option BatchKey). is_some (if is_some c then_is None else Some (Rattle.ndc_model_cells.specs.Cells.message_of known before.arrived b))) e))
+      carrier-by b None e h = ap (λ (c : Option BatchKey). is_some (if is_some c then None else Some (Rattle.ndc_model_cells.specs.Cells.message_of (learned known) known b))) e
+      carrier-by b (Some key) e h = absurd (true≢false (sym h ∙ ap (λ (c : Option BatchKey). is_some (if is_some c then None else Some (Rattle.ndc_model_cells.specs.Cells.message_of known before.arrived b))) e))
 
       by : (o : Option Batch) → is_some (own_message_of before.arrived o) ≡ true → is_some (own_message_of known o) ≡ true
       by None h = h
@@ -231,8 +231,8 @@ module _ (terms : TermsValue) (sent : Message) (told : Admission) (old new : Cel
   carried-in d w b has =
       let p = filter-among (is_of d w) old.arrived b (has-among (arrived_of d w old) b has) in
       let names = names-of d w b p.0 in
-      subst (λ (n : Name). IfSome b.carrier (λ key. is_lone (batch_at key (arrived_of n w old)) ≡ true)) (sym names.0)
-      (subst (λ (n : Name). IfSome b.carrier (λ key. is_lone (batch_at key (arrived_of b.domain n old)) ≡ true)) (sym names.1) (all-among (HasCarrier old) old.arrived b are.carried p.1))
+      subst (λ (n : Name). IfSome b.carrier (λ key. is_lone (batch_at key (arrived_of n w old)) ≡ true)) names.0
+      (subst (λ (n : Name). IfSome b.carrier (λ key. is_lone (batch_at key (arrived_of b.domain n old)) ≡ true)) names.1 (all-among (HasCarrier old) old.arrived b are.carried p.1))
 
   carried-new : (d w : Name) → Carried (arrived_of d w new)
   carried-new d w =
@@ -245,7 +245,7 @@ module _ (terms : TermsValue) (sent : Message) (told : Admission) (old new : Cel
   place-stays place is_sent =
       sym (at-place new place)
       ∙ by-workflow (λ x y. is_some (own_message_of x.arrived (batch_at place.key (learned x.arrived))) ≡ true
-          → own_message_of y.arrived (batch_at place.key (learned y.arrived)) ≡ own_message_of x.arrived (batch_at place.key (learned x.arrived))) place.domain place.workflow
+      → own_message_of y.arrived (batch_at place.key (learned y.arrived)) ≡ own_message_of x.arrived (batch_at place.key (learned x.arrived))) place.domain place.workflow
       (message-then (workflow_of sent.batch.domain sent.batch.workflow old) (workflow_of sent.batch.domain sent.batch.workflow new) (workflows sent.batch.domain sent.batch.workflow)
       (workflows_then sent.batch.domain sent.batch.workflow) sound (lone-in sent.batch.domain sent.batch.workflow) own-lone admitted.grows place.key)
       (λ v e some. refl) (ap is_some (at-place old place) ∙ is_sent)

@@ -262,12 +262,12 @@ none-sent cell none waits = record { sent = tt; carried = subst (AllByRecursion 
 -- a message goes to the place of its batch
 placed-lone : (new : Message) (messages : List Message) → IsLone new → AllByRecursion IsLone messages → AllByRecursion IsLone (message_placed new messages)
 placed-lone new [] lone all = (lone, tt)
-placed-lone new (sent ∷ messages) lone all = by (place_lt (place_of new.batch) (place_of sent.batch)) (is_at (place_of new.batch) sent.batch)
+placed-lone new (sent ∷ messages) lone all = by (placed-lone new messages lone all.1) (place_lt (place_of new.batch) (place_of sent.batch)) (is_at (place_of new.batch) sent.batch)
   where
-    by : (t u : Bool) → AllByRecursion IsLone (if t then new ∷ sent ∷ messages else if u then sent ∷ messages else sent ∷ message_placed new messages)
-    by true u = (lone, all)
-    by false true = all
-    by false false = (all.0, placed-lone new messages lone all.1)
+    by : AllByRecursion IsLone (message_placed new messages) → (t u : Bool) → AllByRecursion IsLone (if t then new ∷ sent ∷ messages else if u then sent ∷ messages else sent ∷ message_placed new messages)
+    by rest true u = (lone, all)
+    by rest false true = all
+    by rest false false = (all.0, rest)
 
 -- a message arrives, and may be known
 module _ (sent : Message) (old : Cell) (places : List Place) (is : IsCell old) (may : MayArrive sent old) where

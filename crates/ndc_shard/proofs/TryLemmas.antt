@@ -1,8 +1,12 @@
 -- What is written for which nobody vouches.
-use Rattle.std.proofs.Common.{◌≡◌, true, List, [], ◌∷◌, Option, Some, None, Result, Ok, Err, IfOk, IsOk, ◌≤◌, ℕ, refl, sym, ◌∙◌, subst, ap}
+use Rattle.std.proofs.Common.{arith, ◌≡◌, ◌&&◌, ◌^◌, Bool, true, false, true≢false, List, [], ◌∷◌, Option, Some, None, Result, Ok, Err, IfOk, IsOk, ◌≤◌, ℕ, refl, sym, ◌∙◌, subst, ap}
 use Rattle.std.proofs.lemmas.List.{append-nil}
-use Rattle.std.specs.Prelude.{IfSome}
-use Rattle.std.specs.List.{AllByRecursion}
+use Rattle.std.specs.Prelude.{IfSome, nat_le, option_to_list}
+use Rattle.std.specs.List.{AllByRecursion, list_all}
+use Rattle.std.proofs.lemmas.Bool.{and_from, and_parts, le-leb}
+use Rattle.std.proofs.lemmas.Bool.Decides.{nat_tests}
+use Rattle.std.proofs.lemmas.List.Elements.{All-from_recursion, recursion_from_All}
+use Rattle.ndc_event.specs.declared.batch.Event.{Event}
 use Rattle.ndc_event.specs.declared.batch.Batch.{Batch}
 use Rattle.ndc_event.specs.declared.name.Name.{Name}
 use Rattle.ndc_command.specs.declared.command.Command.{Command}
@@ -11,7 +15,7 @@ use Rattle.ndc_command.specs.declared.refusal.Refusal.{Refusal}
 use Rattle.ndc_domain.specs.Records.{record_of}
 use Rattle.ndc_event.specs.Outcome.{◌>>=◌}
 use Rattle.ndc_model_cells.specs.Cells.{Cell, learned_of}
-use Rattle.ndc_model_cells.specs.Messages.{IsCarriedBy, IsMessage, carrying}
+use Rattle.ndc_model_cells.specs.Messages.{HasSmallIds, IsCarriedBy, IsMessage, carrying}
 use Rattle.ndc_model_cells.specs.Places.{is_of}
 use Rattle.ndc_model_cells.specs.Workflow.{workflow_of}
 use Rattle.ndc_model_cells.specs.Writing.{Desk, Entry, as_command_error, batches_in, command_entries, command_of, greatest_version, may_write, may_write_by}
@@ -90,3 +94,41 @@ one-not-taken why domain workflow written cell entry to e not =
 -- the keys of what one entry writes
 pub one-answer : (written : Result (List Entry) CommandError) (entry : Entry) (keys : Written) → written ≡ Ok (entry ∷ []) → keys_of (batches_in entry) ≡ Ok keys → answer_of written ≡ Ok keys
 one-answer written entry keys e is = ap answer_of e ∙ ap keys_of (append-nil (batches_in entry)) ∙ is
+
+-- ---- small ids
+
+within : (a b : ℕ) → nat_le a b ≡ true → a ≤ b
+within a b e = grind (arith, nat_tests)
+
+small-all : (events : List Event) → list_all (λ event. nat_le event.id (10 ^ 12)) events ≡ true → AllByRecursion (λ (event : Event). event.id ≤ 10 ^ 12) events
+small-all [] all = tt
+small-all (event ∷ events) all =
+    let p = and_parts (nat_le event.id (10 ^ 12)) (list_all (λ e. nat_le e.id (10 ^ 12)) events) all in
+    (within event.id (10 ^ 12) p.0, small-all events p.1)
+
+all-small : (events : List Event) → AllByRecursion (λ (event : Event). event.id ≤ 10 ^ 12) events → list_all (λ event. nat_le event.id (10 ^ 12)) events ≡ true
+all-small [] all = refl
+all-small (event ∷ events) all = and_from (nat_le event.id (10 ^ 12)) (list_all (λ e. nat_le e.id (10 ^ 12)) events) (le-leb event.id (10 ^ 12) all.0) (all-small events all.1)
+
+ids-small : (b : Batch) → list_all (λ event. nat_le event.id (10 ^ 12)) b.events ≡ true → HasSmallIds b
+ids-small b all = All-from_recursion (λ (event : Event). event.id ≤ 10 ^ 12) b.events (small-all b.events all)
+
+small-ids : (b : Batch) → HasSmallIds b → list_all (λ event. nat_le event.id (10 ^ 12)) b.events ≡ true
+small-ids b all = all-small b.events (recursion_from_All (λ (event : Event). event.id ≤ 10 ^ 12) b.events all)
+
+-- the first is not small
+pub first-large : (entry : Entry) (t : Bool) → t ≡ list_all (λ event. nat_le event.id (10 ^ 12)) entry.batch.events → t ≡ false → HasSmallIdsIn entry → ⊥
+first-large entry t is h all = true≢false (sym (is ∙ small-ids entry.batch all.0) ∙ h)
+
+module _ (entry : Entry) (t : Bool) (is : t ≡ list_all (λ event. nat_le event.id (10 ^ 12)) entry.batch.events) (first : t ≡ true) where
+  pub alone-small : entry.second ≡ None → HasSmallIdsIn entry
+  alone-small e = subst (λ (o : Option Batch). AllByRecursion HasSmallIds (entry.batch ∷ option_to_list o)) (sym e) (ids-small entry.batch (sym is ∙ first), tt)
+
+  module _ (second : Batch) (e : entry.second ≡ Some second) (u : Bool) (more : u ≡ list_all (λ event. nat_le event.id (10 ^ 12)) second.events) where
+    pub both-small : u ≡ true → HasSmallIdsIn entry
+    both-small h = subst (λ (o : Option Batch). AllByRecursion HasSmallIds (entry.batch ∷ option_to_list o)) (sym e) (ids-small entry.batch (sym is ∙ first), (ids-small second (sym more ∙ h), tt))
+
+    pub second-large : u ≡ false → HasSmallIdsIn entry → ⊥
+    second-large h all =
+        let list = subst (λ (o : Option Batch). AllByRecursion HasSmallIds (entry.batch ∷ option_to_list o)) e all in
+        true≢false (sym (more ∙ small-ids second list.1.0) ∙ h)

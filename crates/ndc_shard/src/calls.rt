@@ -1,5 +1,5 @@
-ghost use Rattle.std.specs.Prelude.{◌≡◌, ◌↔◌, map, true, false, Ok, IsTrue, IfOk};
-ghost use Rattle.ndc_model_cells.specs.Messages.{HasSmallIds};
+ghost use Rattle.std.specs.Prelude.{◌≡◌, ◌^◌, map, true, false, nat_le, Ok, IfOk};
+ghost use Rattle.std.specs.List.{list_all};
 ghost use Rattle.ndc_model_cells.specs.Writing.{batches_in};
 ghost use Rattle.ndc_shard.specs.Trying.{HasSmallIdsIn};
 ghost use Rattle.ndc_event.specs.Outcome.{Gives};
@@ -47,6 +47,9 @@ fn places_of(alloc: Global, batches: &[Batch]) -> Result<Vec<(Name, Name, BatchK
     Ok(places)
 }
 
+/// The greatest id of an event that is written.
+const MOST_ID: u64 = 1_000_000_000_000;
+
 /// The keys of an entry: of its batch, and of the one that it carries.
 fn written_by(entry: &Entry) -> Written
     ensures { keys_of (batches_in entry.now) ≡ Ok result }
@@ -65,22 +68,24 @@ fn has_small_ids(entry: &Entry) -> bool
     ensures small { result ≡ true → HasSmallIdsIn entry.now }
     ensures none { result ≡ false → HasSmallIdsIn entry.now → ⊥ }
 {
+    if !are_small(entry.batch()) {
+        return false;
+    }
     match entry.second() {
-        None => are_small(entry.batch()),
-        Some(second) => are_small(entry.batch()) && are_small(second),
+        None => true,
+        Some(second) => are_small(second),
     }
 }
 
 /// Whether the event ids of a batch are at most 10^12.
 fn are_small(batch: &Batch) -> bool
-    ensures { IsTrue result ↔ HasSmallIds batch.now }
+    ensures { result ≡ list_all (λ event. nat_le event.id (10 ^ 12)) batch.now.events }
 {
-    for event in batch.events.as_slice() {
-        if event.id > 1_000_000_000_000 {
-            return false;
-        }
-    }
-    true
+    batch
+        .events
+        .as_slice()
+        .iter()
+        .all(|event| event.id <= MOST_ID)
 }
 
 impl Shard {

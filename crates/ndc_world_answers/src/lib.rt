@@ -22,6 +22,6 @@ pub use membership::members;
 pub use progress::{beaten, report, stale};
 pub use queues::{arrived, brought, gaps, levels, no_place, settled, worked};
 pub use reading::{branches, compared, current, dump, history, no_workflow, state};
-pub use tally::{Tally, add_seen, sum};
+pub use tally::{Tally, add_reply, add_seen, sum};
 pub use text::AnswerText;
 pub use writing::{outcome, refusal};

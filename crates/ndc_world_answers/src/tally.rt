@@ -179,6 +179,21 @@ fn add_batches(
     Ok(())
 }
 
+/// Adds what a reply made learned at a cluster, in order.
+pub fn add_reply(
+    seen: &mut Vec<Seen>,
+    cluster: ClusterNo,
+    reply: JobReply,
+) -> Result<(), OutOfMemory>
+    ensures { OnOk result (seen.new.items ≡ seen.old.items ++ seen_at cluster reply.learned) }
+{
+    let JobReply {
+        outcome: _outcome,
+        learned,
+    } = reply;
+    add_batches(seen, cluster, learned.into_vec())
+}
+
 /// Adds what replies made learned at a cluster, in order.
 fn add_replies(
     seen: &mut Vec<Seen>,
@@ -188,11 +203,7 @@ fn add_replies(
     ensures { OnOk result (seen.new.items ≡ seen.old.items ++ seen_by cluster replies.items) }
 {
     for reply in replies {
-        let JobReply {
-            outcome: _outcome,
-            learned,
-        } = reply;
-        add_batches(seen, cluster, learned.into_vec())?;
+        add_reply(seen, cluster, reply)?;
     }
     Ok(())
 }

@@ -1,11 +1,15 @@
+use crate::word::push_written;
 use ndc_event::OutOfMemory;
+use ndc_model_cells::Written;
 use ndc_text::line::push_number;
 use std::alloc::Global;
 use std::marker::Model;
 
-/// The text of an answer, which knows whether it is a refusal. Seen as its bytes.
+/// The text of an answer, which knows whether it is a refusal. Seen as its bytes. That of a line that wrote is made of the
+/// keys where it goes, behind its number.
 #[derive(Drop)]
 pub struct AnswerText {
+    written: Option<Written>,
     text: Vec<u8>,
     refused: bool,
 }
@@ -13,26 +17,33 @@ pub struct AnswerText {
 impl Model for AnswerText {
     ghost use Rattle.std.specs.Prelude.{◌≡◌, ℕ, List};
     ghost use Rattle.ndc_model.specs.Laws.{is_refusal};
+    ghost use Rattle.ndc_world_answers.specs.Words.{text_of};
 
     ghost Value = { List ℕ };
 
-    ghost view = { λ answer. answer.text.items };
+    ghost view = { λ answer. text_of answer.written answer.text.items };
 
-    ghost invariant = { λ answer. answer.refused ≡ is_refusal answer.text.items };
+    ghost invariant = { λ answer. answer.refused ≡ is_refusal (text_of answer.written answer.text.items) };
 }
 
 /// How much memory a number and the space behind it take at most.
 const NUMBER_ROOM: usize = 21;
 
+/// How much memory the keys of what was written are given: most have room in it.
+const KEYS_ROOM: usize = 40;
+
 impl AnswerText {
     ghost use Rattle.std.specs.Prelude.{◌≡◌, ◌++◌, [], codes, decimal, false, true, IfOk, OnOk};
     ghost use Rattle.ndc_model.specs.Laws.{is_refusal};
+    ghost use Rattle.ndc_model.specs.Steps.{written_words};
+    ghost use Rattle.ndc_model.specs.Texts.{ok};
 
     /// No answer at all.
     pub fn empty(alloc: Global) -> AnswerText
         ensures { result ≡ [] }
     {
         AnswerText {
+            written: None,
             text: Vec::new(alloc),
             refused: false,
         }
@@ -44,7 +55,19 @@ impl AnswerText {
         ensures { result ≡ text.items }
     {
         AnswerText {
+            written: None,
             text,
+            refused: false,
+        }
+    }
+
+    /// The answer of a line that wrote.
+    pub(crate) fn written(alloc: Global, written: Written) -> AnswerText
+        ensures { result ≡ ok (written_words written) }
+    {
+        AnswerText {
+            written: Some(written),
+            text: Vec::new(alloc),
             refused: false,
         }
     }
@@ -55,6 +78,7 @@ impl AnswerText {
         ensures { result ≡ text.items }
     {
         AnswerText {
+            written: None,
             text,
             refused: true,
         }
@@ -73,14 +97,17 @@ impl AnswerText {
     {
         push_number(text, number)?;
         text.extend_from_slice(b" ")?;
-        text.extend_from_slice(self.text.as_slice())
+        match self.written {
+            Some(written) => push_written(text, written),
+            None => text.extend_from_slice(self.text.as_slice()),
+        }
     }
 
     /// The answer behind the number of its line, in memory that is asked for once.
     pub fn behind_number(&self, alloc: Global, number: u64) -> Result<Vec<u8>, OutOfMemory>
         ensures { IfOk result (λ text. text.items ≡ decimal number ++ codes " " ++ self.now) }
     {
-        let room = self.text.len().saturating_add(NUMBER_ROOM);
+        let room = self.text.len().saturating_add(NUMBER_ROOM + KEYS_ROOM);
         let mut text = Vec::with_capacity(alloc, room)?;
         self.push_behind_number(&mut text, number)?;
         Ok(text)

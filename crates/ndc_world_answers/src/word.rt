@@ -1,9 +1,11 @@
 ghost use Rattle.std.specs.Prelude.{◌≡◌, ◌++◌, [], ◌∷◌, codes, decimal, map, IfOk, OnOk};
+ghost use Rattle.ndc_model.specs.Steps.{written_words};
 ghost use Rattle.ndc_model.specs.Texts.{ok, refused, spaced};
 ghost use Rattle.ndc_world_answers.specs.Words.{word_text};
 
 use crate::text::AnswerText;
 use ndc_event::{BatchKey, OutOfMemory};
+use ndc_model_cells::Written;
 use ndc_text::line::{push_key, push_number};
 use std::alloc::Global;
 
@@ -55,6 +57,19 @@ fn line(alloc: Global, first: &'static str, words: &[Word]) -> Result<Vec<u8>, O
     push_words(&mut text, words)?;
     text.extend_from_slice(b"\n")?;
     Ok(text)
+}
+
+/// Appends the answer of a line that wrote: `ok`, and the keys.
+pub(crate) fn push_written(text: &mut Vec<u8>, written: Written) -> Result<(), OutOfMemory>
+    ensures { OnOk result (text.new.items ≡ text.old.items ++ ok (written_words written)) }
+{
+    text.extend_from_slice(b"ok ")?;
+    push_key(text, written.key)?;
+    if let Some(second) = written.second {
+        text.extend_from_slice(b" ")?;
+        push_key(text, second)?;
+    }
+    text.extend_from_slice(b"\n")
 }
 
 /// `ok` and a number: the first line of an answer of so many lines more, or of lines on so many things.

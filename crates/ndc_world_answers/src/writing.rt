@@ -4,10 +4,10 @@ ghost use Rattle.ndc_model.specs.Texts.{ok, refusal_words, refused};
 ghost use Rattle.ndc_world_answers.specs.Refusals.{carried_version, refusal_name_of};
 
 use crate::text::AnswerText;
-use crate::word::{Word, ok, refused};
+use crate::word::{Word, refused};
 use ndc_command::Refusal;
 use ndc_event::OutOfMemory;
-use ndc_model_cells::{Outcome, Written};
+use ndc_model_cells::Outcome;
 use std::alloc::Global;
 
 /// The name of a refusal that carries no version.
@@ -61,22 +61,12 @@ pub fn refusal(alloc: Global, refusal: Refusal) -> Result<AnswerText, OutOfMemor
     }
 }
 
-/// The keys of what was written.
-fn written(alloc: Global, written: Written) -> Result<AnswerText, OutOfMemory>
-    ensures { IfOk result (λ text. text ≡ ok (written_words written)) }
-{
-    match written.second {
-        None => ok(alloc, &[Word::Key(written.key)]),
-        Some(second) => ok(alloc, &[Word::Key(written.key), Word::Key(second)]),
-    }
-}
-
 /// What came of a line that writes; a job of another kind has no answer.
 pub fn outcome(alloc: Global, outcome: &Outcome) -> Result<AnswerText, OutOfMemory>
     ensures { IfOk result (λ text. text ≡ outcome_answer outcome.now) }
 {
     match outcome {
-        Outcome::Written(keys) => written(alloc, *keys),
+        Outcome::Written(keys) => Ok(AnswerText::written(alloc, *keys)),
         Outcome::Refused(why) => refusal(alloc, *why),
         Outcome::Arrived(_) => Ok(AnswerText::empty(alloc)),
         Outcome::Reapplied { .. } => Ok(AnswerText::empty(alloc)),

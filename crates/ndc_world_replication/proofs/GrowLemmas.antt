@@ -9,7 +9,7 @@ use Rattle.ndc_model_cells.specs.declared.job.ShardJob.{ShardJob}
 use Rattle.ndc_model_cells.specs.declared.message.Message.{Message}
 use Rattle.ndc_model_cells.specs.Arrival.{arrived_at, has_arrived}
 use Rattle.ndc_model_cells.specs.Cells.{Cell}
-use Rattle.ndc_model_cells.specs.Jobs.{after_job, cell_for, cells_after, reapplied_in, workflows_of, written_at}
+use Rattle.ndc_model_cells.specs.Jobs.{after_job, cell_for, cells_after, cells_behind, reapplied_in, replies_to, reply_to, workflows_of, written_at}
 use Rattle.ndc_model_cells.specs.Writing.{Entry, Desk, command_of, entry_message, reapplication_of, reset_at, with_all_written, with_batches, with_written}
 use Rattle.ndc_command.specs.declared.refusal.CommandError.{CommandError}
 use Rattle.ndc_event.specs.declared.batch.Batch.{Batch}
@@ -151,6 +151,20 @@ module _ (queues new : List QueueValue) (at : ℕ) (whole : ℕ → List Message
 -- and there is a queue for each cell
 pub alike_after : (home : Desk) (jobs : List ShardJob) (cells : List Cell) (queues : List QueueValue) → AreTied cells queues → length (cells_after home jobs cells) ≡ length queues
 alike_after home jobs cells queues tied = cells-many home jobs cells ∙ sym tied.alike
+
+-- what one job leaves, and what is replied to it
+pub cells_of_one : (home : Desk) (asked : ShardJob) (cells : List Cell) → cells_behind home asked cells ≡ cells_after home (asked ∷ []) cells
+unfolding cells_after
+cells_of_one home asked cells = refl
+
+pub reply_of_one : (home : Desk) (asked : ShardJob) (cells : List Cell) → reply_to home asked.job (cell_for asked.shard cells) ∷ [] ≡ replies_to home (asked ∷ []) cells
+unfolding replies_to
+reply_of_one home asked cells = refl
+
+-- as many replies as jobs
+pub one_reply : (home : Desk) (asked : ShardJob) (cells : List Cell) → length (replies_to home (asked ∷ []) cells) ≡ 1
+unfolding replies_to
+one_reply home asked cells = refl
 
 -- queues without an entry are trimmed nowhere
 pub firsts_new : (count : ℕ) → map (λ (queue : QueueValue). queue.first) (replicate count new_queue) ≡ replicate count 0

@@ -24,3 +24,5 @@ pub mod AlikeLemmas
 pub mod LateLemmas
 pub mod RecordLemmas
 pub mod OneTableLemmas
+pub mod BlockLemmas
+pub mod OwnLemmas

@@ -10,3 +10,4 @@ pub mod Places
 pub mod Trims
 pub mod Publishers
 pub mod Tables
+pub mod Own

@@ -7,6 +7,7 @@ ghost use Rattle.ndc_world_replication.specs.Dones.{notes_in};
 ghost use Rattle.ndc_world_replication.specs.Orderly.{IsOrderly};
 ghost use Rattle.ndc_world_replication.specs.Places.{links_at};
 
+use crate::own::own_places;
 use crate::replication::Replication;
 use crate::taking::add_jobs;
 use crate::working::Done;
@@ -27,13 +28,15 @@ impl<C: Cell + Drop> Replication<C> {
         header: &Header,
         reader: ClusterNo,
     ) -> Result<Vec<usize>, OutOfMemory>
+        requires reader { IsCluster header.now reader }
         requires orderly { IsOrderly header.now self.now }
         ensures places { IfOk result (λ places. AllByRecursion (λ place. place < length self.now.links) places.items) }
         ensures due { IfOk result (λ places. (shard : ℕ) → shard < header.now.shards
             → flat_map (due self.now shard) (links_at places.items self.now.links) ≡ by_link reader (due self.now) self.now.links shard) }
     {
         let mut places = Vec::new(alloc);
-        for place in 0..self.links.len() {
+        let (first, last) = own_places(header, reader);
+        for place in first..last {
             let link = &self.links[place];
             if link.reader().number != reader.number {
                 continue;
@@ -84,6 +87,7 @@ impl<C: Cell + Drop> Replication<C> {
         header: &Header,
         reader: ClusterNo,
     ) -> Result<Vec<ShardJob>, OutOfMemory>
+        requires reader { IsCluster header.now reader }
         requires orderly { IsOrderly header.now self.now }
         ensures { IfOk result (λ jobs. jobs.items ≡ due_jobs header.now reader self.now) }
     {

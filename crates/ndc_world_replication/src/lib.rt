@@ -7,6 +7,7 @@ mod due;
 mod flights;
 mod handovers;
 mod opening;
+mod own;
 mod publisher;
 pub mod publishers;
 mod pulling;

@@ -1,4 +1,4 @@
-ghost use Rattle.std.specs.Prelude.{◌≡◌, ◌<◌, length, map, IfSome, OnOk};
+ghost use Rattle.std.specs.Prelude.{◌≡◌, ◌<◌, [], ◌∷◌, length, map, IfSome, OnOk};
 ghost use Rattle.std.specs.List.{AllByRecursion};
 ghost use Rattle.ndc_cluster_links.specs.Rest.{AreFronts, AreRests};
 ghost use Rattle.ndc_cluster.specs.Rounds.{AreFresh};
@@ -19,8 +19,8 @@ use ndc_port::Gate;
 use ndc_script_types::Header;
 use std::alloc::Global;
 use std::marker::Model;
-use std::mem;
 use std::thread::Threads;
+use std::{mem, slice};
 
 /// A cluster in the world: with the queues of what its cells have written, by shard, and what it set aside.
 pub struct Publisher<C: Cell + Drop> {
@@ -130,8 +130,20 @@ fn extend_queues<C: Cell>(
     }
 }
 
+/// The only one of these replies.
+fn only(replies: Vec<JobReply>) -> JobReply
+    requires { length replies.items ≡ 1 }
+    ensures { result ∷ [] ≡ replies.items }
+{
+    let mut left = replies;
+    let Some(reply) = left.pop() else {
+        unreachable!()
+    };
+    reply
+}
+
 impl<C: Cell + Drop> Publisher<C> {
-    ghost use Rattle.std.specs.Prelude.{◌≡◌, ◌<◌, ◌≤◌, ◌-◌, ◌^◌, All, length, map, max, slice_index_or, slice_set, IfOk, IfSome, OnOk, OnErr};
+    ghost use Rattle.std.specs.Prelude.{[], ◌∷◌, ◌≡◌, ◌<◌, ◌≤◌, ◌-◌, ◌^◌, All, length, map, max, slice_index_or, slice_set, IfOk, IfSome, OnOk, OnErr};
     ghost use Rattle.std.specs.List.{AllByRecursion};
     ghost use Rattle.ndc_cluster.specs.Homes.{desk_of};
     ghost use Rattle.ndc_model_cells.specs.Jobs.{cell_for, cells_after, replies_to};
@@ -371,5 +383,56 @@ impl<C: Cell + Drop> Publisher<C> {
         self.cluster = cluster;
         self.queues = queues;
         Ok(replies)
+    }
+
+    /// The cell of its shard does one job in a round, as [`Cluster::round`] says; without lists where one worker does it or
+    /// the gate holds nobody. What was written stands in the queues. After want of memory it has neither records nor cells.
+    pub fn do_one<R: Threads + Sync, G: Gate>(
+        &mut self,
+        rt: &R,
+        alloc: Global,
+        gate: &G,
+        workers: u32,
+        home: &Home,
+        asked: &ShardJob,
+    ) -> Result<JobReply, OutOfMemory>
+    where
+        C: Send,
+        requires workers { 0 < workers }
+        requires shard { asked.now.shard < length self.old.cluster.cells }
+        requires allowed { C.allows (desk_of home.now self.old.cluster.table) asked.now.job (cell_for asked.now.shard self.old.cluster.cells) }
+        ensures cells { OnOk result (self.new ≡ with_publisher_cells (cells_after (desk_of home.now self.old.cluster.table) (asked.now ∷ []) self.old.cluster.cells) self.old) }
+        ensures reply { IfOk result (λ reply. reply ∷ [] ≡ replies_to (desk_of home.now self.old.cluster.table) (asked.now ∷ []) self.old.cluster.cells) }
+    {
+        if 1 < workers && !gate.is_open() {
+            let replies = self.round(rt, alloc, gate, workers, home, slice::from_ref(asked))?;
+            return Ok(only(replies));
+        }
+        gate.enter(0);
+        let reply = self.do_alone(alloc, home, asked)?;
+        Ok(reply)
+    }
+
+    /// The same, without a gate.
+    fn do_alone(
+        &mut self,
+        alloc: Global,
+        home: &Home,
+        asked: &ShardJob,
+    ) -> Result<JobReply, OutOfMemory>
+        requires shard { asked.now.shard < length self.old.cluster.cells }
+        requires allowed { C.allows (desk_of home.now self.old.cluster.table) asked.now.job (cell_for asked.now.shard self.old.cluster.cells) }
+        ensures cells { OnOk result (self.new ≡ with_publisher_cells (cells_after (desk_of home.now self.old.cluster.table) (asked.now ∷ []) self.old.cluster.cells) self.old) }
+        ensures reply { IfOk result (λ reply. reply ∷ [] ≡ replies_to (desk_of home.now self.old.cluster.table) (asked.now ∷ []) self.old.cluster.cells) }
+    {
+        let no_cluster = Cluster::new(alloc, home, 0)?;
+        let no_queues = Queues::none(alloc);
+        let mut cluster = mem::replace(&mut self.cluster, no_cluster);
+        let mut queues = mem::replace(&mut self.queues, no_queues);
+        let reply = cluster.do_one(alloc, home, asked)?;
+        extend_asked(&mut queues, cluster.cells(), slice::from_ref(asked))?;
+        self.cluster = cluster;
+        self.queues = queues;
+        Ok(reply)
     }
 }

@@ -4,6 +4,7 @@ ghost use Rattle.ndc_model.specs.Moves.{renewed, renewed_link};
 ghost use Rattle.ndc_model.specs.World.{World};
 ghost use Rattle.ndc_world_replication.specs.Orderly.{IsOrderly};
 
+use crate::own::own_places;
 use crate::publisher::Publisher;
 use crate::replication::Replication;
 use ndc_cluster::Cell;
@@ -12,13 +13,14 @@ use ndc_domain::ClusterNo;
 use ndc_script_types::Header;
 
 impl<C: Cell + Drop> Replication<C> {
-    /// Renews the levels of a reader, of each source and shard. Takes no memory.
+    /// Renews the levels of a reader, of each source and shard. Links of other readers are not looked at. Takes no memory.
     pub fn renew(&mut self, header: &Header, reader: ClusterNo)
         requires reader { IsCluster header.now reader }
         requires orderly { IsOrderly header.now self.old }
         ensures { self.new ≡ renewed self.old reader }
     {
-        for place in 0..self.links.len() {
+        let (first, last) = own_places(header, reader);
+        for place in first..last {
             let link = &mut self.links[place];
             if link.reader().number == reader.number {
                 let source = &self.publishers[link.source().number as usize];

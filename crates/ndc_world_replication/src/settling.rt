@@ -10,6 +10,7 @@ ghost use Rattle.ndc_world_replication.specs.Orderly.{IsOrderly};
 ghost use Rattle.ndc_world_replication.specs.Publishers.{PublisherValue};
 ghost use Rattle.ndc_world_replication.specs.Tables.{HaveAll, HaveOneTable};
 
+use crate::own::own_places;
 use crate::publisher::Publisher;
 use crate::replication::Replication;
 use crate::working::Done;
@@ -226,7 +227,8 @@ impl<C: Cell + Drop> Replication<C> {
         ensures bootstrapped { OnOk result (trace_of self.new dones.new.items ≡ reader_bootstrapped header.now (trace_of self.old dones.old.items) reader) }
         ensures orderly { OnOk result (IsOrderly header.now self.new) }
     {
-        if !may_be_late(self.links.as_slice(), reader) {
+        let (first, last) = own_places(header, reader);
+        if !may_be_late(&self.links.as_slice()[first..last], reader) {
             if !sources.is_empty() {
                 self.renew(header, reader);
             }

@@ -1,7 +1,7 @@
-ghost use Rattle.std.specs.Prelude.{◌≡◌, ◌<◌, ◌++◌, length, map, IfOk, OnOk};
+ghost use Rattle.std.specs.Prelude.{◌≡◌, ◌<◌, [], ◌∷◌, ◌++◌, length, map, IfOk, OnOk};
 ghost use Rattle.std.specs.List.{AllByRecursion};
 ghost use Rattle.ndc_script_types.specs.WellFormed.{IsCluster};
-ghost use Rattle.ndc_model_cells.specs.Jobs.{cells_after, replies_to};
+ghost use Rattle.ndc_model_cells.specs.Jobs.{cell_for, cells_after, replies_to};
 ghost use Rattle.ndc_model.specs.Fair.{IsShaped};
 ghost use Rattle.ndc_model.specs.Moves.{all_reapply, flights_arrived, from_world, jobs_done, reapplied_all, without_flights_to, worked};
 ghost use Rattle.ndc_model.specs.World.{cluster_at, home_at, with_cells};
@@ -75,6 +75,32 @@ impl<C: Cell + Drop> Replication<C> {
         let publisher = &mut self.publishers[cluster.number as usize];
         let home = home_in(header, cluster);
         publisher.round(rt, alloc, gate, workers, &home, jobs)
+    }
+
+    /// A cell of a cluster does one job, behind the gate, as [`Replication::do_jobs`] says. After want of memory the cluster has no
+    /// cells.
+    pub fn do_one<R: Threads + Sync, G: Gate>(
+        &mut self,
+        rt: &R,
+        alloc: Global,
+        gate: &G,
+        workers: u32,
+        header: &Header,
+        cluster: ClusterNo,
+        asked: &ShardJob,
+    ) -> Result<JobReply, OutOfMemory>
+    where
+        C: Send,
+        requires workers { 0 < workers }
+        requires cluster { cluster.number < length self.old.clusters }
+        requires shard { asked.now.shard < length (cluster_at cluster self.old).cells }
+        requires allowed { C.allows (home_at header.now cluster self.old) asked.now.job (cell_for asked.now.shard (cluster_at cluster self.old).cells) }
+        ensures done { OnOk result (self.new ≡ with_cells cluster (cells_after (home_at header.now cluster self.old) (asked.now ∷ []) (cluster_at cluster self.old).cells) self.old) }
+        ensures reply { IfOk result (λ reply. reply ∷ [] ≡ replies_to (home_at header.now cluster self.old) (asked.now ∷ []) (cluster_at cluster self.old).cells) }
+    {
+        let publisher = &mut self.publishers[cluster.number as usize];
+        let home = home_in(header, cluster);
+        publisher.do_one(rt, alloc, gate, workers, &home, asked)
     }
 
     /// The same, of jobs that are given back with the replies.

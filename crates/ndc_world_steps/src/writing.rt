@@ -5,30 +5,20 @@ ghost use Rattle.ndc_model_cells.specs.declared.job.Job.TheVariants as job;
 ghost use Rattle.ndc_model.specs.Fair.{IsShaped};
 ghost use Rattle.ndc_model.specs.Steps.{command_step, reset_step, writing_step};
 ghost use Rattle.ndc_model.specs.Conditions.{MayDoAll};
-ghost use Rattle.ndc_world_steps.specs.Told.{first_answer, leaving};
+ghost use Rattle.ndc_world_steps.specs.Told.{leaving};
 
 use crate::told::Told;
 use ndc_cluster::Cell;
 use ndc_command::Command;
 use ndc_domain::ClusterNo;
 use ndc_event::{Name, OutOfMemory};
-use ndc_model_cells::{Job, JobReply, ShardJob, shard_of};
+use ndc_model_cells::{Job, ShardJob, shard_of};
 use ndc_port::Gate;
 use ndc_script_types::Header;
-use ndc_world_answers::{AnswerText, add_seen};
+use ndc_world_answers::add_reply;
 use ndc_world_replication::Replication;
 use std::alloc::Global;
 use std::thread::Threads;
-
-/// What the first of replies answers.
-fn first_answer(alloc: Global, replies: &[JobReply]) -> Result<AnswerText, OutOfMemory>
-    ensures { IfOk result (λ text. text ≡ first_answer replies.now) }
-{
-    match replies {
-        [reply, ..] => ndc_world_answers::outcome(alloc, &reply.outcome),
-        [] => Ok(AnswerText::empty(alloc)),
-    }
-}
 
 /// A cluster does one job that writes.
 fn ask<R: Threads + Sync, G: Gate, C: Cell + Drop + Send>(
@@ -48,13 +38,10 @@ fn ask<R: Threads + Sync, G: Gate, C: Cell + Drop + Send>(
     requires allowed { MayDoAll C.allows header.now cluster (asked ∷ []) replication.old }
     ensures { IfOk result (λ answer. leaving replication.new answer ≡ writing_step header.now cluster asked replication.old) }
 {
-    let mut jobs = Vec::new(alloc);
-    jobs.push(asked)?;
-    let jobs = jobs.as_slice();
-    let replies = replication.do_jobs(rt, alloc, gate, workers, header, cluster, jobs)?;
-    let answer = first_answer(alloc, replies.as_slice())?;
+    let reply = replication.do_one(rt, alloc, gate, workers, header, cluster, &asked)?;
+    let answer = ndc_world_answers::outcome(alloc, &reply.outcome)?;
     let mut seen = Vec::new(alloc);
-    add_seen(&mut seen, cluster, jobs, replies)?;
+    add_reply(&mut seen, cluster, reply)?;
     Ok(Told { text: answer, seen })
 }
 

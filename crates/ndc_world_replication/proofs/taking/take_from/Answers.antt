@@ -1,4 +1,4 @@
-use Rattle.std.proofs.Common.{◌≡◌, true, false, ap, refl, sym, ◌∙◌, eq-eqb, ne_eqb}
+use Rattle.std.proofs.Common.{◌≡◌, true, ap, refl, sym, ◌∙◌, eq-eqb, ne_eqb}
 use Rattle.ndc_domain.specs.declared.clusters.ClusterNo.{ClusterNo}
 use Rattle.ndc_model.specs.Moves.{in_flight}
 use Rattle.ndc_model_cells.specs.Writing.{same_cluster}

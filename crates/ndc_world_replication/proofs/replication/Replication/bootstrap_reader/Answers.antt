@@ -1,8 +1,9 @@
-use Rattle.std.proofs.Common.{refl, sym, subst, ap, ◌≡◌, ◌∙◌, arith}
-use Rattle.ndc_model.specs.World.{World}
+use Rattle.std.proofs.Common.{List, refl, sym, subst, ap, ◌≡◌, ◌∙◌, arith}
+use Rattle.ndc_model.specs.World.{Link, World}
+use Rattle.ndc_world_replication.proofs.OwnLemmas.{own_on_time}
 use Rattle.ndc_world_replication.proofs.OnTimeLemmas.{on_time_some}
 use Rattle.ndc_world_replication.specs.OnTime.{IsOnTime}
-use Rattle.std.specs.List.{fold}
+use Rattle.std.specs.List.{fold, slice_range}
 use Rattle.ndc_model.specs.Moves.{bootstrapped, from_world}
 use Rattle.ndc_world_replication.proofs.OrderlyLemmas.{orderly_bootstrapped, orderly_renewed}
 use Rattle.ndc_world_replication.proofs.TraceLemmas.{other_in, each_here, each_more, bootstrapped_more, step_all, step_more, nth_cluster}
@@ -48,7 +49,10 @@ returns-then-not-is_empty-clause-bootstrapped g c =
     let start = trace_of c.args.self.now c.args.dones.now.items in
     ap (λ (w : World). trace_of w c.args.dones.now.items) c.renew.ensures
     ∙ sym (on_time_some c.args.reader c.args.header.now start c.args.sources.now c.if-not-is_empty.ensures
-    (subst (IsOnTime c.args.reader) (c.as_slice.ensures.value ∙ ap (λ (w : World). w.links) c.self.view_is) (c.if-not-may_be_late.ensures refl)))
+    (own_on_time c.args.reader c.own_places-first.result.0 c.own_places-first.result.1 c.args.self.now.links c.own_places-first.ensures.rising
+    (c.own_places-first.ensures.front c.args.self.now c.requires.orderly.shaped) (c.own_places-first.ensures.back c.args.self.now c.requires.orderly.shaped)
+    (subst (λ (links : List Link). IsOnTime c.args.reader (slice_range links c.own_places-first.result.0 c.own_places-first.result.1))
+    (c.as_slice.ensures.value ∙ ap (λ (w : World). w.links) c.self.view_is) (c.if-not-may_be_late.ensures refl))))
     ∙ ap (fold (bootstrapped c.args.header.now c.args.reader) start) c.requires.sources
 
 pub returns-then-not-is_empty-clause-orderly : goal.returns-then-not-is_empty-clause-orderly
