@@ -1,0 +1,5 @@
+pub mod KindNames
+pub mod MemberLists
+pub mod Whole
+pub mod FrameLaws
+pub mod BackToFrames

@@ -1,0 +1,4 @@
+pub mod Items
+pub mod BatchEnds
+pub mod Visible
+pub mod MessageLaws

@@ -1,0 +1,12 @@
+pub mod Steps
+pub mod Pieces
+pub mod Digits
+pub mod Numbers
+pub mod Quoted
+pub mod Lists
+pub mod Both
+pub mod AllShapes
+pub mod OneByte
+pub mod Closing
+pub mod Onto
+pub mod PlainTexts
