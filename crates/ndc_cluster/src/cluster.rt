@@ -158,13 +158,6 @@ impl<C: Cell + Drop> Cluster<C> {
         }
     }
 
-    /// It has no cells any more; its domain records stay. Takes no memory.
-    pub fn clear(&mut self, alloc: Global)
-        ensures { self.new ≡ with_cells [] self.old }
-    {
-        self.cells = Cells::new(Vec::new(alloc), None);
-    }
-
     /// For each cell messages that it has written, from some place on, where the last round was done in pieces: they are at
     /// hand until they are taken. Takes no memory. `None` tells nothing of what was written, since the way in which a round is
     /// done is told by nothing else: who wants the messages reads them from the cells then.

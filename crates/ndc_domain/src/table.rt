@@ -77,12 +77,12 @@ fn are_same(ours: &[DomainRecord], theirs: &[DomainRecord]) -> bool
 }
 
 impl DomainTable {
-    ghost use Rattle.std.specs.Prelude.{false, true, ◌≡◌, ◌≢◌, ◌↔◌, ◌<◌, ◌^◌, [], All, IfOk, IfSome, IsTrue, OnErr, OnOk, option_copied};
+    ghost use Rattle.std.specs.Prelude.{false, true, ◌≡◌, ◌≢◌, ◌↔◌, ◌<◌, ◌≤◌, ◌^◌, [], All, IfOk, IfSome, IsTrue, OnErr, OnOk, option_copied};
     ghost use Rattle.ndc_domain.specs.Merge.{merged, merge_count};
     ghost use Rattle.ndc_event.specs.Outcome.{Gives};
     ghost use Rattle.ndc_domain.specs.declared.record.DomainError.TheVariants.{Memory};
     ghost use Rattle.ndc_domain.specs.Clusters.{count_of};
-    ghost use Rattle.ndc_domain.specs.Records.{IsTable, record_of, register_of, retain_of, failover_of, join_of, names_of, only_of};
+    ghost use Rattle.ndc_domain.specs.Records.{IsTable, put_record, record_of, register_of, retain_of, failover_of, join_of, names_of, only_of};
     ghost use Rattle.ndc_domain.specs.Outcome.{Answers};
 
     /// A table without a record. Takes no memory.
@@ -164,6 +164,26 @@ impl DomainTable {
         };
         self.records.insert(place, record)?;
         Ok(version)
+    }
+
+    /// Puts a record at its place, instead of the one of its name where there is one. Where memory runs out, the table stays
+    /// as it was. The record's version is at most 10^13.
+    pub fn put(&mut self, new: DomainRecord) -> Result<(), OutOfMemory>
+        requires { new.version ≤ 10 ^ 13 }
+        ensures put { OnOk result (self.new ≡ put_record new self.old) }
+        ensures unchanged { OnErr result (self.new ≡ self.old) }
+    {
+        // That its members are in order is told by each of their calls.
+        new.members.has(ClusterNo { number: 0 });
+        match place_of(self.records.as_slice(), &new.name) {
+            Ok(place) => {
+                self.records[place] = new;
+            }
+            Err(place) => {
+                self.records.insert(place, new)?;
+            }
+        }
+        Ok(())
     }
 
     /// Replaces the days of a domain at cluster `at`, and answers the record's config version,

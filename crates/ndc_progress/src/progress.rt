@@ -123,7 +123,7 @@ fn put_all(reports: &mut IndexMap<ActivityRef, Report>, taken: Vec<(ActivityRef,
 }
 
 impl Progress {
-    ghost use Rattle.std.specs.Prelude.{◌≡◌, ◌≤◌, ◌<◌, ◌^◌, ◌++◌, [], option_copied, IfOk, IfSome, OnOk, OnErr};
+    ghost use Rattle.std.specs.Prelude.{◌≡◌, ◌≤◌, ◌<◌, ◌^◌, ◌++◌, [], map, option_copied, IfOk, IfSome, OnOk, OnErr};
     ghost use Rattle.ndc_progress.specs.Keyed.{AreOnce, news};
     ghost use Rattle.ndc_progress.specs.Reports.{greatest_of, held, next_beat, next_report, with_report, merged, merge_count};
 
@@ -205,8 +205,9 @@ impl Progress {
         Ok(count)
     }
 
-    /// A report joins what is held. Where memory runs out, all stays as it was.
-    pub(crate) fn take(&mut self, report: &Report) -> Result<(), OutOfMemory>
+    /// A report joins what is held: it takes the place of the one of its activity where it is greater. Where memory runs out,
+    /// all stays as it was.
+    pub fn take(&mut self, report: &Report) -> Result<(), OutOfMemory>
         ensures taken { OnOk result (self.new ≡ with_report self.old report.now) }
         ensures unchanged { OnErr result (self.new ≡ self.old) }
     {
@@ -217,6 +218,13 @@ impl Progress {
         let copy = report.try_copy()?;
         self.reports.insert(key, copy)?;
         Ok(())
+    }
+
+    /// The reports that are held, in the order in which their activities came first.
+    pub fn list(&self, alloc: Global) -> Result<Vec<&Report>, OutOfMemory>
+        ensures { IfOk result (λ list. map (λ report. report.now) list.items ≡ self.now) }
+    {
+        self.reports.values().collect(alloc)
     }
 
     /// The greatest report of each activity among these.

@@ -110,7 +110,7 @@ fn copies(alloc: Global, entries: &[Message]) -> Result<Vec<Message>, OutOfMemor
 }
 
 impl Queue {
-    ghost use Rattle.std.specs.Prelude.{◌≡◌, ◌≤◌, ◌^◌, Err, IfOk, IsErr, OnErr, OnOk, take};
+    ghost use Rattle.std.specs.Prelude.{◌≡◌, ◌≤◌, ◌^◌, [], Err, IfOk, IsErr, OnErr, OnOk, take};
     ghost use Rattle.ndc_queue.specs.Lists.{kept_from};
     ghost use Rattle.ndc_queue.specs.Queues.{IsFull, new_queue, pushed, queue_len, trimmed};
 
@@ -122,6 +122,19 @@ impl Queue {
             entries: Vec::new(alloc),
             idle: 0,
             first: 0,
+        }
+    }
+
+    /// The queue of which so many entries were dropped, and none is kept. Takes no memory. They are at most
+    /// [`MAX_ENTRIES`].
+    pub fn trimmed_to(alloc: Global, first: u64) -> Queue
+        requires { first ≤ 10 ^ 12 }
+        ensures { result ≡ record { first = first; kept = [] } }
+    {
+        Queue {
+            entries: Vec::new(alloc),
+            idle: 0,
+            first,
         }
     }
 
