@@ -1,0 +1,210 @@
+use crate::error::{CallError, HandError};
+use crate::node::Node;
+use crate::peer::has_name;
+use crate::records::put_record;
+use ndc_domain::{ClusterNo, DomainTable};
+use ndc_event::{Name, OutOfMemory};
+use ndc_graceful::{BeginError, Handover, ReadyError};
+use ndc_node_frames::{Offer, Promised, PromisedList, ToldRecord};
+
+impl Node {
+    /// Whether a handover of a domain was begun here and is open.
+    pub(crate) fn hands_over(&self, domain: &Name) -> bool {
+        self.open.iter().any(|one| one.domain == *domain)
+    }
+
+    /// Begins to hand a domain over: this node writes nothing more to it, and the version that the target is to have. The
+    /// target becomes active by its own `complete`. Refused where a handover of the domain is open, and as
+    /// [`Handover::begin`] refuses it.
+    pub fn handover(
+        &mut self,
+        domain: &Name,
+        target: ClusterNo,
+    ) -> Result<u64, CallError<HandError>> {
+        self.begin_writing()?;
+        let version = self.handed(domain, target);
+        self.end(version)
+    }
+
+    /// The handover is begun.
+    fn handed(&mut self, domain: &Name, target: ClusterNo) -> Result<u64, CallError<HandError>> {
+        if self.hands_over(domain) {
+            return Err(CallError::Refused(HandError::StillOpen));
+        }
+        let places = self.queue_ends()?;
+        self.open.reserve(1)?;
+        let (me, clusters) = (self.me, &self.clusters);
+        match Handover::begin(&mut self.table, clusters, me, domain, target, places) {
+            Ok(handover) => {
+                let version = handover.new;
+                self.open.push_reserved(handover);
+                self.records_changed();
+                Ok(version)
+            }
+            Err(BeginError::Memory) => Err(CallError::Memory),
+            Err(error) => Err(CallError::Refused(HandError::Begin(error))),
+        }
+    }
+
+    /// How many entries each queue has, by shard.
+    fn queue_ends(&self) -> Result<Vec<u64>, OutOfMemory> {
+        let mut ends = Vec::new(self.alloc);
+        for seat in self.seats.as_slice() {
+            ends.push(seat.queue.len())?;
+        }
+        Ok(ends)
+    }
+
+    /// The handovers end that were begun here of a domain whose record has come to a greater version.
+    pub(crate) fn end_handovers_below(&mut self, domain: &Name, version: u64) {
+        self.open
+            .retain(|one| one.domain != *domain || version <= one.new);
+    }
+
+    /// The handovers end of which another node's records tell the new version: whether there is one.
+    pub(crate) fn end_handovers_heard(&mut self, theirs: &DomainTable) -> bool {
+        let before = self.open.len();
+        self.open.retain(|one| match theirs.find(&one.domain) {
+            Some(record) => record.version < one.new,
+            None => true,
+        });
+        self.open.len() < before
+    }
+
+    /// What this node tells the target of a handover that it has begun.
+    pub(crate) fn offer_of(&self, handover: &Handover) -> Result<Option<Offer>, OutOfMemory> {
+        let Some(record) = self.table.find(&handover.domain) else {
+            return Ok(None);
+        };
+        let late = match self.peers.get(handover.to.number as usize) {
+            Some(peer) => has_name(peer.owes.as_slice(), &handover.domain),
+            None => false,
+        };
+        Ok(Some(Offer {
+            domain: handover.domain.try_copy()?,
+            old: handover.old,
+            new: handover.new,
+            places: self.promised(handover.places.as_slice())?,
+            late,
+            record: ToldRecord {
+                record: record.try_copy()?,
+            },
+        }))
+    }
+
+    /// Places in the queues of the shards, each with the epoch of its queue.
+    fn promised(&self, places: &[u64]) -> Result<PromisedList, OutOfMemory> {
+        let mut promised = Vec::new(self.alloc);
+        for (seat, place) in self.seats.as_slice().iter().zip(places.iter()) {
+            promised.push(Promised {
+                epoch: seat.levels.epoch(),
+                place: *place,
+            })?;
+        }
+        Ok(PromisedList::new(promised))
+    }
+
+    /// A handover to this node is heard: it is kept until it is completed, where the record has not come to its version. Of
+    /// two of one domain the greater is kept.
+    pub(crate) fn hear_offer(&mut self, offer: Offer) -> Result<bool, OutOfMemory> {
+        if let Some(record) = self.table.find(&offer.domain) {
+            if offer.new <= record.version {
+                return Ok(false);
+            }
+        }
+        let known = self
+            .offers
+            .iter()
+            .any(|one| one.domain == offer.domain && offer.new < one.new);
+        if known {
+            return Ok(false);
+        }
+        let before = self.offers.len();
+        self.offers.retain(|one| one.domain != offer.domain);
+        let is_new = self.offers.len() == before;
+        self.offers.push(offer)?;
+        Ok(is_new)
+    }
+
+    /// Completes a handover that was told to this node: it becomes the active cluster of the domain, with the version that
+    /// is answered. Refused with [`HandError::NoHandover`] where none was told, and with [`HandError::Ready`]: its record
+    /// has come to the version already, which ends the handover; it is late in the domain; it has not learned all that was
+    /// written with the old version.
+    pub fn complete(&mut self, domain: &Name) -> Result<u64, CallError<HandError>> {
+        self.begin_writing()?;
+        let version = self.completed(domain);
+        self.end(version)
+    }
+
+    /// The handover is completed.
+    fn completed(&mut self, domain: &Name) -> Result<u64, CallError<HandError>> {
+        let Some(place) = self.offers.iter().position(|one| one.domain == *domain) else {
+            return Err(CallError::Refused(HandError::NoHandover));
+        };
+        let ready = self.is_ready(place);
+        if let Err(ReadyError::Overtaken { version }) = ready {
+            self.offers.retain(|one| one.domain != *domain);
+            let overtaken = ReadyError::Overtaken { version };
+            return Err(CallError::Refused(HandError::Ready(overtaken)));
+        }
+        if let Err(error) = ready {
+            return Err(CallError::Refused(HandError::Ready(error)));
+        }
+        let mut theirs = DomainTable::new(self.alloc);
+        if let Some(offer) = self.offers.get(place) {
+            put_record(&mut theirs, offer.record.record.try_copy()?)?;
+        }
+        self.merge_records(&theirs)?;
+        self.offers.retain(|one| one.domain != *domain);
+        match self.table.find(domain) {
+            Some(record) => Ok(record.version),
+            None => Ok(0),
+        }
+    }
+
+    /// Whether the handover at a place can be completed.
+    fn is_ready(&self, place: usize) -> Result<(), ReadyError> {
+        let Some(offer) = self.offers.get(place) else {
+            return Ok(());
+        };
+        if let Some(record) = self.table.find(&offer.domain) {
+            if offer.new <= record.version {
+                return Err(ReadyError::Overtaken {
+                    version: record.version,
+                });
+            }
+        }
+        let Some(source) = self.clusters.writer_of(offer.old) else {
+            return Err(ReadyError::BootstrapDue);
+        };
+        let Some(peer) = self.peers.get(source.number as usize) else {
+            return Err(ReadyError::BootstrapDue);
+        };
+        let has_all = has_name(peer.has_all.as_slice(), &offer.domain);
+        if peer.lack(&offer.domain).is_some() || offer.late && !has_all {
+            return Err(ReadyError::BootstrapDue);
+        }
+        self.has_read(source, offer)
+    }
+
+    /// Whether the node is done with each queue of a source up to what a handover promises.
+    fn has_read(&self, source: ClusterNo, offer: &Offer) -> Result<(), ReadyError> {
+        let Some(peer) = self.peers.get(source.number as usize) else {
+            return Ok(());
+        };
+        let mut shard: u64 = 0;
+        for (promised, lane) in offer.places.as_slice().iter().zip(peer.lanes.iter()) {
+            let done = lane.read().done();
+            let is_there = lane.read().epoch() == promised.epoch && promised.place <= done;
+            if !is_there && lane.read().epoch() <= promised.epoch {
+                return Err(ReadyError::NotYet {
+                    shard,
+                    done,
+                    place: promised.place,
+                });
+            }
+            shard += 1;
+        }
+        Ok(())
+    }
+}

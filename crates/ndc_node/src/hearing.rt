@@ -1,0 +1,114 @@
+use crate::error::{CallError, FrameError};
+use crate::framing::is_same_header;
+use crate::heard::Heard;
+use crate::node::Node;
+use crate::records::{record_fault, records_fault};
+use ndc_domain::ClusterNo;
+use ndc_event::OutOfMemory;
+use ndc_node_frames::{Body, Frame, read_frame};
+
+impl Node {
+    /// Hears a frame: what came of it, and what is to be answered to who sent it. Nothing is asked of the bytes. But for want
+    /// of memory nothing has changed after an error.
+    pub fn hear(&mut self, bytes: &[u8]) -> Result<Heard, FrameError> {
+        if self.is_spent {
+            return Err(FrameError::Spent);
+        }
+        let (from, body) = self.read(bytes)?;
+        self.begin_hearing()?;
+        let heard = self.hear_body(from, body)?;
+        self.is_spent = false;
+        Ok(heard)
+    }
+
+    /// Begins to hear a frame: until it is heard, the node counts as spent.
+    fn begin_hearing(&mut self) -> Result<(), FrameError> {
+        match self.begin::<()>() {
+            Ok(()) => Ok(()),
+            Err(_) => Err(FrameError::Spent),
+        }
+    }
+
+    /// Reads a frame, and tests that it is for this node, of its network, and speaks of its shards.
+    fn read(&self, bytes: &[u8]) -> Result<(ClusterNo, Body), FrameError> {
+        if self.bounds.frame < bytes.len() {
+            return Err(FrameError::TooLong);
+        }
+        let frame = read_frame(self.alloc, bytes)?;
+        let from = self.sender(&frame)?;
+        self.fits(&frame.body)?;
+        Ok((from, frame.body))
+    }
+
+    /// Who sends a frame that is for this node, and of its network.
+    fn sender(&self, frame: &Frame) -> Result<ClusterNo, FrameError> {
+        match self.clusters.find(frame.to.as_bytes()) {
+            Some(to) if to.number == self.me.number => {}
+            _ => return Err(FrameError::OtherNode),
+        }
+        let Some(from) = self.clusters.find(frame.from.as_bytes()) else {
+            return Err(FrameError::UnknownSender);
+        };
+        if from.number == self.me.number {
+            return Err(FrameError::UnknownSender);
+        }
+        if !is_same_header(&self.clusters, self.shards, self.limit, &frame.header) {
+            return Err(FrameError::OtherHeader);
+        }
+        Ok(from)
+    }
+
+    /// Tests what a frame says of shards, and the records in it.
+    fn fits(&self, body: &Body) -> Result<(), FrameError> {
+        match body {
+            Body::Poll(poll) => self.has_each_shard(poll.shards.as_slice().len()),
+            Body::Entries(piece) if self.shards <= piece.shard => Err(FrameError::Shards),
+            Body::Handover(offer) => {
+                self.has_each_shard(offer.places.as_slice().len())?;
+                match record_fault(&self.clusters, &offer.record.record) {
+                    Some(fault) => Err(FrameError::Record(fault)),
+                    None => Ok(()),
+                }
+            }
+            Body::Records(records) => {
+                match records_fault(&self.clusters, records.records.as_slice()) {
+                    Some(fault) => Err(FrameError::Record(fault)),
+                    None => Ok(()),
+                }
+            }
+            _ => Ok(()),
+        }
+    }
+
+    /// Tests that there is one thing for each shard.
+    fn has_each_shard(&self, count: usize) -> Result<(), FrameError> {
+        if count == self.shards as usize {
+            Ok(())
+        } else {
+            Err(FrameError::Shards)
+        }
+    }
+
+    /// Hears what a peer says.
+    fn hear_body(&mut self, from: ClusterNo, body: Body) -> Result<Heard, OutOfMemory> {
+        let mut heard = Heard::nothing(self.alloc);
+        match body {
+            Body::Poll(poll) => self.hear_poll(from, poll, &mut heard)?,
+            Body::Entries(piece) => self.hear_entries(from, piece, &mut heard)?,
+            Body::Records(records) => self.hear_records(from, records.records, &mut heard)?,
+            Body::Handover(offer) => {
+                heard.changed = self.hear_offer(offer)?;
+            }
+            Body::Gap(asked) => self.hear_gap(from, &asked, &mut heard)?,
+            Body::Served(served) => {
+                self.hear_served(from, served.messages.as_slice(), &mut heard)?;
+            }
+            Body::Bootstrap(piece) => self.hear_bootstrap(from, piece, &mut heard)?,
+            Body::Progress(held) => {
+                heard.changed = self.hear_reports(from, held.reports.as_slice())?;
+            }
+            Body::Recall(_) | Body::Recalled(_) => {}
+        }
+        Ok(heard)
+    }
+}

@@ -1,0 +1,35 @@
+//! A node: one data centre of the layer, driven by bytes. It holds one cluster of a world: its cells, its domain records,
+//! the queues of what it has written, how far it has read those of others, and what it set aside. What it sends and hears
+//! are frames. It needs no network, no clock and no thread, and asks nothing of what it hears.
+#![tactic(auto)]
+
+mod admitting;
+mod asking;
+mod bounds;
+mod domains;
+mod entries;
+mod error;
+mod framing;
+mod handing;
+mod hearing;
+mod heard;
+mod lane;
+mod late;
+mod letter;
+mod node;
+mod peer;
+mod polling;
+mod records;
+mod reports;
+mod seat;
+mod serving;
+mod status;
+mod writing;
+
+pub use bounds::Bounds;
+pub use error::{CallError, FrameError, HandError, NodeError, ReportError};
+pub use heard::Heard;
+pub use letter::{Letter, LetterCause};
+pub use node::Node;
+pub use records::RecordFault;
+pub use status::{PeerStatus, ShardStatus};

@@ -1,0 +1,91 @@
+use crate::admitting::Came;
+use crate::heard::Heard;
+use crate::letter::Letter;
+use crate::node::Node;
+use ndc_domain::ClusterNo;
+use ndc_event::OutOfMemory;
+use std::mem;
+
+/// How far a shard of a node has come.
+#[derive(Clone, Copy, Debug)]
+pub struct ShardStatus {
+    /// How many entries its queue has, with those that were dropped.
+    pub entries: u64,
+    /// How many of them were dropped.
+    pub dropped: u64,
+    /// The least level that a reader has told: what may be dropped. None where there is no other node.
+    pub least: Option<u64>,
+    /// How many batches are put off.
+    pub put_off: usize,
+}
+
+/// How far a node has come with a source.
+#[derive(Clone, Copy, Debug)]
+pub struct PeerStatus {
+    /// How many entries of a shard's queue were told.
+    pub read: u64,
+    /// How many of them are done.
+    pub done: u64,
+    /// How many that were told are not learned.
+    pub held: usize,
+    /// In how many domains this node is late there.
+    pub lacks: usize,
+    /// In how many domains the other one is late here.
+    pub owes: usize,
+}
+
+impl Node {
+    /// How far a shard has come. None where there is no such shard.
+    pub fn shard_status(&self, shard: u32) -> Result<Option<ShardStatus>, OutOfMemory> {
+        let Some(seat) = self.seats.get(shard as usize) else {
+            return Ok(None);
+        };
+        Ok(Some(ShardStatus {
+            entries: seat.queue.len(),
+            dropped: seat.queue.first(),
+            least: seat.levels.trim_level(),
+            put_off: seat.cell.gaps()?.len(),
+        }))
+    }
+
+    /// How far the node has come with a shard of a source. None where there is no such cluster or shard. Takes no memory.
+    pub fn peer_status(&self, source: ClusterNo, shard: u32) -> Option<PeerStatus> {
+        let peer = self.peers.get(source.number as usize)?;
+        let lane = peer.lanes.get(shard as usize)?;
+        Some(PeerStatus {
+            read: lane.read().read(),
+            done: lane.read().done(),
+            held: lane.read().held().len(),
+            lacks: peer.lacks.len(),
+            owes: peer.owes.len(),
+        })
+    }
+
+    /// The messages that were set aside, in order.
+    pub fn letters(&self) -> &[Letter] {
+        self.letters.as_slice()
+    }
+
+    /// Takes up all letters again, in order: those that are not admitted now are letters again.
+    pub fn retry(&mut self) -> Result<Heard, OutOfMemory> {
+        let mut heard = Heard::nothing(self.alloc);
+        let letters = mem::replace(&mut self.letters, Vec::new(self.alloc));
+        for letter in letters {
+            let came = self.take_text(letter.source, letter.text.as_slice(), &mut heard)?;
+            if came == Came::In {
+                heard.changed = true;
+            }
+        }
+        Ok(heard)
+    }
+
+    /// Lets go of a letter, by its place. What was told with it stays held, so that its source drops nothing from there on.
+    /// Whether there was one.
+    pub fn drop_letter(&mut self, place: usize) -> bool {
+        if self.letters.len() <= place {
+            return false;
+        }
+        self.letters.remove(place);
+        true
+    }
+}

@@ -1,0 +1,248 @@
+use crate::answer::Answer;
+use ndc_domain::ClusterNo;
+use ndc_event::{Batch, Items, OutOfMemory};
+use ndc_node::{FrameError, Heard, Node};
+use ndc_script_types::Header;
+use ndc_script_words::number_of;
+use ndc_text::print_batch;
+use std::alloc::{AllocError, Global};
+
+/// Answers a line for the node itself: whether it is one.
+pub(crate) fn tell_node(
+    node: &mut Node,
+    header: &Header,
+    word: &[u8],
+    rest: &[u8],
+    answer: &mut Answer,
+) -> Result<bool, OutOfMemory> {
+    if word == b"hear".as_slice() {
+        hear(node, rest, answer)?;
+    } else if word == b"ask".as_slice() {
+        ask(node, header, rest, answer)?;
+    } else if word == b"trim".as_slice() {
+        let dropped = node.trim();
+        count(answer, dropped)?;
+    } else if word == b"rewind".as_slice() {
+        rewind(node, header, rest, answer)?;
+    } else {
+        return tell_aside(node, word, rest, answer);
+    }
+    Ok(true)
+}
+
+/// Answers a line on letters, or on how far the node has come: whether it is one.
+fn tell_aside(
+    node: &mut Node,
+    word: &[u8],
+    rest: &[u8],
+    answer: &mut Answer,
+) -> Result<bool, OutOfMemory> {
+    if word == b"letters".as_slice() {
+        letters(node, answer)?;
+    } else if word == b"retry".as_slice() {
+        let heard = node.retry()?;
+        tell_heard(&heard, answer)?;
+    } else if word == b"drop".as_slice() {
+        drop_letter(node, rest, answer)?;
+    } else if word == b"status".as_slice() {
+        status(node, answer)?;
+    } else {
+        return Ok(false);
+    }
+    Ok(true)
+}
+
+/// `ok`, and a number.
+fn count(answer: &mut Answer, number: u64) -> Result<(), OutOfMemory> {
+    answer.begin(b"ok")?;
+    answer.push_number(number)?;
+    answer.end()
+}
+
+/// The cluster of a name, where there is one.
+fn cluster(header: &Header, name: &[u8]) -> Option<ClusterNo> {
+    header.clusters.find(name)
+}
+
+/// `hear FRAME`: what became learned, frames to be sent, and what came of it in numbers.
+fn hear(node: &mut Node, frame: &[u8], answer: &mut Answer) -> Result<(), OutOfMemory> {
+    match node.hear(frame) {
+        Ok(heard) => tell_heard(&heard, answer),
+        Err(FrameError::Memory) => Err(AllocError),
+        Err(error) => answer.say(word_of(error)),
+    }
+}
+
+/// The answer of a frame that is not heard.
+fn word_of(error: FrameError) -> &'static [u8] {
+    match error {
+        FrameError::Spent => b"refused Spent",
+        FrameError::TooLong => b"refused TooLong",
+        FrameError::Text { .. } => b"refused NoFrame",
+        FrameError::OtherNode => b"refused OtherNode",
+        FrameError::UnknownSender => b"refused UnknownSender",
+        FrameError::OtherHeader => b"refused OtherHeader",
+        FrameError::Shards => b"refused Shards",
+        FrameError::Record(_) => b"refused Record",
+        FrameError::Memory => b"refused Memory",
+    }
+}
+
+/// What was heard: each batch that became learned, each frame that is to be sent, and the numbers.
+fn tell_heard(heard: &Heard, answer: &mut Answer) -> Result<(), OutOfMemory> {
+    for batch in heard.learned.as_slice() {
+        tell_learned(batch, answer)?;
+    }
+    tell_frames(heard.answers.as_slice(), answer)?;
+    answer.begin(b"ok")?;
+    answer.push_number(heard.learned.len() as u64)?;
+    answer.push_number(heard.put_off)?;
+    answer.push_number(heard.letters)?;
+    if heard.is_full {
+        answer.push(b" full")?;
+    }
+    answer.end()
+}
+
+/// A batch that became learned.
+fn tell_learned(batch: &Batch, answer: &mut Answer) -> Result<(), OutOfMemory> {
+    let text = print_batch(answer.alloc(), batch)?;
+    answer.push(b"learned ")?;
+    answer.push(batch.domain.as_bytes())?;
+    answer.push(b" ")?;
+    answer.push(batch.workflow.as_bytes())?;
+    answer.push(b" ")?;
+    answer.push(text.as_slice())?;
+    answer.end()
+}
+
+/// Frames, each with its text.
+fn tell_frames(frames: &[Items<u8>], answer: &mut Answer) -> Result<(), OutOfMemory> {
+    for frame in frames {
+        answer.push(b"frame ")?;
+        answer.push(frame.as_slice())?;
+        answer.end()?;
+    }
+    Ok(())
+}
+
+/// `ask NAME`: what the node would say to another one.
+fn ask(
+    node: &Node,
+    header: &Header,
+    name: &[u8],
+    answer: &mut Answer,
+) -> Result<(), OutOfMemory> {
+    let Some(to) = cluster(header, name) else {
+        return answer.say(b"refused UnknownName");
+    };
+    let frames = node.ask(to)?;
+    tell_frames(frames.as_slice(), answer)?;
+    count(answer, frames.len() as u64)
+}
+
+/// `rewind NAME`: all that a source has told and that is not done is asked for again.
+fn rewind(
+    node: &mut Node,
+    header: &Header,
+    name: &[u8],
+    answer: &mut Answer,
+) -> Result<(), OutOfMemory> {
+    let Some(source) = cluster(header, name) else {
+        return answer.say(b"refused UnknownName");
+    };
+    node.rewind(source);
+    answer.say(b"ok")
+}
+
+/// `letters`: how many there are, and a line for each.
+fn letters(node: &Node, answer: &mut Answer) -> Result<(), OutOfMemory> {
+    count(answer, node.letters().len() as u64)?;
+    for letter in node.letters() {
+        let cause = format!(in answer.alloc(); "{:?}", letter.cause)?;
+        answer.push(b"letter from")?;
+        answer.push_number(u64::from(letter.source.number))?;
+        answer.push(b" ")?;
+        answer.push(cause.as_bytes())?;
+        answer.end()?;
+    }
+    Ok(())
+}
+
+/// `drop N`: lets go of a letter, counted from 0.
+fn drop_letter(node: &mut Node, rest: &[u8], answer: &mut Answer) -> Result<(), OutOfMemory> {
+    let Some(number) = number_of(rest) else {
+        return answer.say(b"refused NoNumber");
+    };
+    if node.drop_letter(number as usize) {
+        answer.say(b"ok")
+    } else {
+        answer.say(b"refused NoLetter")
+    }
+}
+
+/// `status`: how far the node has come.
+fn status(node: &Node, answer: &mut Answer) -> Result<(), OutOfMemory> {
+    answer.begin(b"ok")?;
+    answer.push_number(node.letters().len() as u64)?;
+    if node.is_behind_its_past() {
+        answer.push(b" behind")?;
+    }
+    if node.is_spent() {
+        answer.push(b" spent")?;
+    }
+    answer.end()?;
+    for shard in 0..node.shards() {
+        shard_status(node, shard, answer)?;
+    }
+    Ok(())
+}
+
+/// How far a shard has come: its queue, and each source's.
+fn shard_status(node: &Node, shard: u32, answer: &mut Answer) -> Result<(), OutOfMemory> {
+    if let Some(status) = node.shard_status(shard)? {
+        answer.push(b"shard")?;
+        answer.push_number(u64::from(shard))?;
+        answer.push(b" entries")?;
+        answer.push_number(status.entries)?;
+        answer.push(b" dropped")?;
+        answer.push_number(status.dropped)?;
+        answer.push(b" put_off")?;
+        answer.push_number(status.put_off as u64)?;
+        answer.end()?;
+    }
+    for number in 0..node.clusters().count() {
+        source_status(node, ClusterNo { number }, shard, answer)?;
+    }
+    Ok(())
+}
+
+/// How far the node has come with a shard of a source.
+fn source_status(
+    node: &Node,
+    source: ClusterNo,
+    shard: u32,
+    answer: &mut Answer,
+) -> Result<(), OutOfMemory> {
+    if source.number == node.me().number {
+        return Ok(());
+    }
+    let Some(status) = node.peer_status(source, shard) else {
+        return Ok(());
+    };
+    answer.push(b"source")?;
+    answer.push_number(u64::from(source.number))?;
+    answer.push(b" shard")?;
+    answer.push_number(u64::from(shard))?;
+    answer.push(b" read")?;
+    answer.push_number(status.read)?;
+    answer.push(b" done")?;
+    answer.push_number(status.done)?;
+    answer.push(b" held")?;
+    answer.push_number(status.held as u64)?;
+    answer.push(b" lacks")?;
+    answer.push_number(status.lacks as u64)?;
+    answer.push(b" owes")?;
+    answer.push_number(status.owes as u64)?;
+    answer.end()
+}
