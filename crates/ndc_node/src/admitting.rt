@@ -159,10 +159,7 @@ impl Node {
                 .letters
                 .iter()
                 .any(|one| one.is_of(source, &at.domain, &at.workflow, at.key)),
-            None => self
-                .letters
-                .iter()
-                .any(|one| one.is_text_of(source, text)),
+            None => self.letters.iter().any(|one| one.is_text_of(source, text)),
         }
     }
 

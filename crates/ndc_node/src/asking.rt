@@ -27,11 +27,7 @@ impl Node {
     }
 
     /// Asks for the gaps before what is put off, where the other node is a member of the domain.
-    fn ask_for_gaps(
-        &self,
-        to: ClusterNo,
-        frames: &mut Vec<Items<u8>>,
-    ) -> Result<(), OutOfMemory> {
+    fn ask_for_gaps(&self, to: ClusterNo, frames: &mut Vec<Items<u8>>) -> Result<(), OutOfMemory> {
         let mut left = MAX_GAPS;
         for seat in self.seats.as_slice() {
             for gap in seat.cell.gaps()? {
@@ -53,11 +49,7 @@ impl Node {
     }
 
     /// Tells the records, where the other node was not heard to have the same.
-    fn tell_records(
-        &self,
-        to: ClusterNo,
-        frames: &mut Vec<Items<u8>>,
-    ) -> Result<(), OutOfMemory> {
+    fn tell_records(&self, to: ClusterNo, frames: &mut Vec<Items<u8>>) -> Result<(), OutOfMemory> {
         let is_same = match self.peers.get(to.number as usize) {
             Some(peer) => peer.same_records,
             None => true,
@@ -71,11 +63,7 @@ impl Node {
     }
 
     /// Tells the reports, where the other node was not heard to hold the same.
-    fn tell_reports(
-        &self,
-        to: ClusterNo,
-        frames: &mut Vec<Items<u8>>,
-    ) -> Result<(), OutOfMemory> {
+    fn tell_reports(&self, to: ClusterNo, frames: &mut Vec<Items<u8>>) -> Result<(), OutOfMemory> {
         let is_same = match self.peers.get(to.number as usize) {
             Some(peer) => peer.same_reports,
             None => true,

@@ -32,15 +32,14 @@ impl Node {
         members: Members,
     ) -> Result<u64, CallError<DomainError>> {
         let members = self.known_members(members)?;
-        let version =
-            match self
-                .table
-                .register(&self.clusters, self.me, domain, target, days, members)
-            {
-                Ok(version) => version,
-                Err(DomainError::Memory) => return Err(CallError::Memory),
-                Err(error) => return Err(CallError::Refused(error)),
-            };
+        let version = match self
+            .table
+            .register(&self.clusters, self.me, domain, target, days, members)
+        {
+            Ok(version) => version,
+            Err(DomainError::Memory) => return Err(CallError::Memory),
+            Err(error) => return Err(CallError::Refused(error)),
+        };
         self.records_changed();
         Ok(version)
     }

@@ -5,7 +5,12 @@ use ndc_node_frames::{Body, Frame, Header, Seat, Seats, frame_text};
 use std::alloc::AllocError;
 
 /// Whether a header is that of a network of these clusters.
-pub(crate) fn is_same_header(clusters: &Clusters, shards: u32, limit: u64, header: &Header) -> bool {
+pub(crate) fn is_same_header(
+    clusters: &Clusters,
+    shards: u32,
+    limit: u64,
+    header: &Header,
+) -> bool {
     header.increment == clusters.increment()
         && header.shards == shards
         && header.limit == limit

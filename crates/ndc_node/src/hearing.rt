@@ -5,7 +5,7 @@ use crate::node::Node;
 use crate::records::{record_fault, records_fault};
 use ndc_domain::ClusterNo;
 use ndc_event::OutOfMemory;
-use ndc_node_frames::{Body, Frame, read_frame};
+use ndc_node_frames::{Body, Frame, Records, read_frame};
 
 impl Node {
     /// Hears a frame: what came of it, and what is to be answered to who sent it. Nothing is asked of the bytes. But for want
@@ -37,7 +37,8 @@ impl Node {
         let frame = read_frame(self.alloc, bytes)?;
         let from = self.sender(&frame)?;
         self.fits(&frame.body)?;
-        Ok((from, frame.body))
+        let Frame { body, .. } = frame;
+        Ok((from, body))
     }
 
     /// Who sends a frame that is for this node, and of its network.
@@ -95,7 +96,7 @@ impl Node {
         match body {
             Body::Poll(poll) => self.hear_poll(from, poll, &mut heard)?,
             Body::Entries(piece) => self.hear_entries(from, piece, &mut heard)?,
-            Body::Records(records) => self.hear_records(from, records.records, &mut heard)?,
+            Body::Records(Records { records }) => self.hear_records(from, records, &mut heard)?,
             Body::Handover(offer) => {
                 heard.changed = self.hear_offer(offer)?;
             }

@@ -5,7 +5,7 @@ use crate::polling::copy_place;
 use ndc_domain::ClusterNo;
 use ndc_event::{BatchKey, Items, Name, OutOfMemory};
 use ndc_model_cells::Message;
-use ndc_node_frames::{Body, Bootstrap, Late, Messages, Place, Text, frame_text};
+use ndc_node_frames::{Body, Bootstrap, Frame, Late, Messages, Place, Text, frame_text};
 use ndc_node_messages::{MessageError, message_text, read_message};
 use std::alloc::AllocError;
 
@@ -128,7 +128,8 @@ impl Node {
             if text.len() as u64 <= largest || count < 2 {
                 return Ok(Items::new(text));
             }
-            match frame.body {
+            let Frame { body, .. } = frame;
+            match body {
                 Body::Bootstrap(whole) => {
                     piece = front_of(whole, count / 2);
                 }

@@ -65,6 +65,7 @@ const MAX_SHARDS: u32 = 64;
 
 /// The least and the greatest limit of histories.
 const MIN_LIMIT: u64 = 10;
+
 const MAX_LIMIT: u64 = 204_800;
 
 /// The shards of a node, in which nothing has happened.

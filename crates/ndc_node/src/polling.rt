@@ -4,7 +4,8 @@ use crate::peer::{drop_name, has_name};
 use ndc_domain::ClusterNo;
 use ndc_event::{Items, Name, OutOfMemory};
 use ndc_node_frames::{
-    Body, Domains, Entries, Entry, EntryList, Late, Lates, Place, Poll, Polled, Polls, frame_text,
+    Body, Domains, Entries, Entry, EntryList, Frame, Late, Lates, Place, Poll, Polled, Polls,
+    frame_text,
 };
 use ndc_node_lanes::Telling;
 use ndc_node_messages::message_text;
@@ -259,7 +260,8 @@ impl Node {
             if text.len() as u64 <= largest || count < 2 {
                 return Ok(Items::new(text));
             }
-            match frame.body {
+            let Frame { body, .. } = frame;
+            match body {
                 Body::Entries(whole) => {
                     piece = front_of(whole, count / 2);
                 }

@@ -24,6 +24,7 @@ pub enum RecordFault {
 
 /// The greatest version of a record, and the greatest number of its changes.
 const MAX_VERSION: u64 = 10_000_000_000_000;
+
 const MAX_CONFIG: u64 = 100_000;
 
 /// Whether a record names a number that is no cluster's.

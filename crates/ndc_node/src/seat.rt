@@ -1,10 +1,16 @@
 use ndc_cluster::Home;
+use ndc_domain::DomainTable;
 use ndc_event::{BatchKey, Name, OutOfMemory};
+use ndc_model_cells::Written;
 use ndc_node_frames::Polled;
 use ndc_node_lanes::{Telling, ToldLevels};
 use ndc_queue::Queue;
-use ndc_shard::Shard;
+use ndc_shard::{Reapplied, Shard};
+use ndc_state::Steps;
 use std::alloc::Global;
+
+/// Counts the steps of applying again.
+struct Applying;
 
 /// One shard of a node: its cell, the queue of what it has written, and how far readers have told to be done with it.
 pub(crate) struct Seat {
@@ -44,6 +50,36 @@ impl Seat {
             Some(message) => self.queue.push(message),
             None => Ok(()),
         }
+    }
+
+    /// Puts the messages of what one call has written at the end of the queue: of its batch, and of the other one where
+    /// that is not carried.
+    pub(crate) fn queue_up_both(
+        &mut self,
+        domain: &Name,
+        workflow: &Name,
+        written: Written,
+    ) -> Result<(), OutOfMemory> {
+        self.queue_up(domain, workflow, written.key)?;
+        match written.second {
+            Some(second) => self.queue_up(domain, workflow, second),
+            None => Ok(()),
+        }
+    }
+
+    /// Applies again what current runs have not seen, and puts the messages of what is written at the end of the queue:
+    /// where the batches stand.
+    pub(crate) fn apply_again(
+        &mut self,
+        home: &Home,
+        table: &DomainTable,
+    ) -> Result<Vec<(Name, Name, BatchKey)>, OutOfMemory> {
+        let mut steps: Steps<Applying> = Steps::new();
+        let Reapplied { written, .. } = self.cell.try_reapply(home, table, &mut steps)?;
+        for (domain, workflow, key) in written.as_slice() {
+            self.queue_up(domain, workflow, *key)?;
+        }
+        Ok(written)
     }
 
     /// A reader tells how far it is done. [`Telling::Ahead`] also where it knows another key before that level than the

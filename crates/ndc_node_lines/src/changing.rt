@@ -23,6 +23,15 @@ pub(crate) fn change(
             command,
             ..
         } => tell_command(node, &domain, &workflow, &command, answer),
+        Act::Reset {
+            domain,
+            workflow,
+            event,
+            ..
+        } => {
+            let written = node.reset(&domain, &workflow, event);
+            tell_written(written, answer)
+        }
         Act::Register {
             domain,
             target,
@@ -77,7 +86,8 @@ fn tell_written(
         Err(CallError::Refused(TryError::Refused(refusal))) => {
             answer.tell(ndc_world_answers::refusal(alloc, refusal)?)
         }
-        Err(CallError::Refused(_)) => answer.say(b"refused NotWritten"),
+        Err(CallError::Refused(TryError::NotWritten(_))) => answer.say(b"refused NotWritten"),
+        Err(CallError::Refused(TryError::Full)) => answer.say(b"refused Full"),
         Err(error) => {
             answer.tell_other(&error)?;
             Ok(())

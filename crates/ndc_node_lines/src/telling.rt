@@ -1,6 +1,7 @@
 use crate::answer::Answer;
 use ndc_domain::ClusterNo;
-use ndc_event::{Batch, Items, OutOfMemory};
+use crate::words::split_word;
+use ndc_event::{Batch, BatchKey, Items, Name, OutOfMemory};
 use ndc_node::{FrameError, Heard, Node};
 use ndc_script_types::Header;
 use ndc_script_words::number_of;
@@ -22,10 +23,10 @@ pub(crate) fn tell_node(
     } else if word == b"trim".as_slice() {
         let dropped = node.trim();
         count(answer, dropped)?;
-    } else if word == b"rewind".as_slice() {
-        rewind(node, header, rest, answer)?;
+    } else if word == b"reapply".as_slice() {
+        reapply(node, answer)?;
     } else {
-        return tell_aside(node, word, rest, answer);
+        return tell_aside(node, header, word, rest, answer);
     }
     Ok(true)
 }
@@ -33,11 +34,16 @@ pub(crate) fn tell_node(
 /// Answers a line on letters, or on how far the node has come: whether it is one.
 fn tell_aside(
     node: &mut Node,
+    header: &Header,
     word: &[u8],
     rest: &[u8],
     answer: &mut Answer,
 ) -> Result<bool, OutOfMemory> {
-    if word == b"letters".as_slice() {
+    if word == b"rewind".as_slice() {
+        rewind(node, header, rest, answer)?;
+    } else if word == b"forget".as_slice() {
+        forget(node, rest, answer)?;
+    } else if word == b"letters".as_slice() {
         letters(node, answer)?;
     } else if word == b"retry".as_slice() {
         let heard = node.retry()?;
@@ -153,6 +159,52 @@ fn rewind(
     };
     node.rewind(source);
     answer.say(b"ok")
+}
+
+/// `reapply`: how many batches were written.
+fn reapply(node: &mut Node, answer: &mut Answer) -> Result<(), OutOfMemory> {
+    match node.reapply() {
+        Ok(written) => count(answer, written.len() as u64),
+        Err(error) => {
+            answer.tell_other(&error)?;
+            Ok(())
+        }
+    }
+}
+
+/// `forget DOMAIN WORKFLOW VERSION.TASK`: drops the message of a batch that is put off.
+fn forget(node: &mut Node, rest: &[u8], answer: &mut Answer) -> Result<(), OutOfMemory> {
+    let (domain, after) = split_word(rest);
+    let (workflow, key) = split_word(after);
+    let alloc = answer.alloc();
+    let (Ok(domain), Ok(workflow), Some(key)) = (
+        Name::new(alloc, domain),
+        Name::new(alloc, workflow),
+        key_of(key),
+    ) else {
+        return answer.say(b"refused NoLine");
+    };
+    match node.forget(&domain, &workflow, key) {
+        Ok(true) => answer.say(b"ok"),
+        Ok(false) => answer.say(b"refused NotPutOff"),
+        Err(error) => {
+            answer.tell_other(&error)?;
+            Ok(())
+        }
+    }
+}
+
+/// The key that `VERSION.TASK` is.
+fn key_of(text: &[u8]) -> Option<BatchKey> {
+    let place = text.iter().position(|byte| *byte == b'.')?;
+    let (version, task) = text.split_at(place);
+    match task {
+        [_, task @ ..] => Some(BatchKey {
+            version: number_of(version)?,
+            task: number_of(task)?,
+        }),
+        [] => None,
+    }
 }
 
 /// `letters`: how many there are, and a line for each.

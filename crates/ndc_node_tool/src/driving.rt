@@ -70,7 +70,7 @@ fn run<S: Source, O: Sink>(alloc: Global, source: &mut S, out: &mut O) -> Result
     let mut session = open(alloc, &mut lines, source)?;
     while let Some(line) = lines.next(source)? {
         let mut text = session.line(line.as_slice())?;
-        text.extend_from_slice(b"end\n")?;
+        text.extend_from_slice(b".\n")?;
         if write_all(out, text.as_slice()).is_err() {
             return Err(Stop::NotWritten);
         }

@@ -1,5 +1,5 @@
 //! A data centre as a process: lines in, lines out. The first lines are a script's header and `node NAME`; each further one
-//! is answered by lines, the last of which is `end`.
+//! is answered by lines, the last of which is a dot.
 #![tactic(auto)]
 
 mod driving;

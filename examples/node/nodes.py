@@ -1,0 +1,120 @@
+"""Data centres as processes: each is the program of ndc_node_tool, driven by lines."""
+
+import random
+import subprocess
+
+
+
+class Node:
+    """One process, and the name of its cluster."""
+
+    def __init__(self, program, header, name):
+        self.name = name
+        self.frames = []
+        self.learned = []
+        self.process = subprocess.Popen([program], stdin=subprocess.PIPE, stdout=subprocess.PIPE)
+        self.process.stdin.write(f"{header}node {name}\n".encode())
+
+    def line(self, text):
+        """The lines that answer a line, without the last one, a dot. Frames to be sent and batches that became learned are kept aside."""
+        self.process.stdin.write(text.encode() + b"\n")
+        self.process.stdin.flush()
+        answer = []
+        while True:
+            line = self.process.stdout.readline().decode()
+            if not line:
+                raise SystemExit(f"{self.name} ended, after: {text[:300]}")
+            line = line.rstrip("\n")
+            if line == ".":
+                return answer
+            if line.startswith("frame "):
+                self.frames.append(line[6:])
+            elif line.startswith("learned "):
+                self.learned.append(line[8:])
+            else:
+                answer.append(line)
+
+    def say(self, text):
+        """The words of the first line of an answer, without the number of the line."""
+        return self.line(text)[0].split(" ", 1)[1]
+
+    def take_frames(self):
+        frames, self.frames = self.frames, []
+        return frames
+
+    def close(self):
+        self.process.stdin.close()
+        return self.process.wait()
+
+
+class Network:
+    """Nodes, and the frames that are on their way between them."""
+
+    def __init__(self, program, names, shards=2, limit=1000, increment=10, seed=1):
+        self.random = random.Random(seed)
+        self.program = program
+        clusters = "".join(f"cluster {name} {number + 1}\n" for number, name in enumerate(names))
+        self.header = f"ndc 1\nincrement {increment}\nshards {shards}\nlimit {limit}\n{clusters}"
+        self.nodes = {name: Node(program, self.header, name) for name in names}
+        self.flight = []
+
+    def names(self):
+        return list(self.nodes)
+
+    def ask(self, name, to):
+        """A node says what it would say to another one: the frames are on their way."""
+        node = self.nodes[name]
+        node.line(f"ask {to}")
+        self.flight += [(to, frame, name) for frame in node.take_frames()]
+
+    def hear(self, to, frame, sender):
+        """A node hears a frame: its answers are on their way to who sent it."""
+        node = self.nodes[to]
+        answer = node.say(f"hear {frame}")
+        self.flight += [(sender, text, to) for text in node.take_frames()]
+        return answer
+
+    def deliver(self, loss=0.0, repeat=0.0, shuffled=False):
+        """All that is on its way comes, or is lost, or comes twice, in turn or in any order. What is answered is on its way then."""
+        flight, self.flight = self.flight, []
+        if shuffled:
+            self.random.shuffle(flight)
+        answers = []
+        for to, frame, sender in flight:
+            if self.random.random() < loss:
+                continue
+            answers.append(self.hear(to, frame, sender))
+            if self.random.random() < repeat:
+                answers.append(self.hear(to, frame, sender))
+        return answers
+
+    def round(self, **faults):
+        """Each node asks each other one, and what is on its way comes, three times over."""
+        for name in self.nodes:
+            for to in self.nodes:
+                if to != name:
+                    self.ask(name, to)
+        answers = []
+        for _ in range(3):
+            answers += self.deliver(**faults)
+        return answers
+
+    def settle(self, rounds=40):
+        """Rounds without faults, with reapplication, until nothing is said that changes anything."""
+        for _ in range(rounds):
+            before = [self.status(name) for name in self.nodes]
+            self.round()
+            for name in self.nodes:
+                self.nodes[name].line("reapply")
+            if before == [self.status(name) for name in self.nodes] and not self.flight:
+                return True
+        return False
+
+    def status(self, name):
+        return self.nodes[name].line("status")[1:]
+
+    def dump(self, name, domain, workflow):
+        return self.nodes[name].line(f"dump {domain} {workflow}")[1:]
+
+    def close(self):
+        return [node.close() for node in self.nodes.values()]

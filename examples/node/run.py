@@ -1,0 +1,103 @@
+#!/usr/bin/env python3
+"""examples/node/run.py PROGRAM
+
+Three data centres joined by pipes: losses, repeats, any order, a failover on both sides of a partition, a graceful handover,
+a member that joins after all readers have let go, and frames that are none. It ends with equal dumps, or says where it does not."""
+
+import sys
+
+from nodes import Network
+
+DOMAIN, WORKFLOW = "D", "order-1"
+
+
+def expect(what, is_so):
+    print(f"{'ok  ' if is_so else 'FAIL'} {what}")
+    if not is_so:
+        raise SystemExit(1)
+
+
+def same(network, names, workflow=WORKFLOW):
+    dumps = [network.dump(name, DOMAIN, workflow) for name in names]
+    return dumps[0] and all(dump == dumps[0] for dump in dumps)
+
+
+def losses(network):
+    a = network.nodes["A"]
+    expect("a domain of two members is registered", a.say(f"register {DOMAIN} A 7 A B") == "ok 1")
+    expect("a workflow is started", a.say(f"start {DOMAIN} {WORKFLOW} order").startswith("ok"))
+    for number in range(20):
+        a.line(f"signal {DOMAIN} {WORKFLOW} s{number} x")
+        network.round(loss=0.4, repeat=0.3, shuffled=True)
+    expect("frames were lost, came twice and in any order: both members have the same", network.settle() and same(network, ["A", "B"]))
+    expect("what was told was not told to who is no member", not network.dump("C", DOMAIN, WORKFLOW))
+
+
+def partition(network):
+    a, b = network.nodes["A"], network.nodes["B"]
+    expect("B takes over while A is cut off", b.say(f"failover {DOMAIN} B") == "ok 2")
+    expect("A goes on", a.say(f"signal {DOMAIN} {WORKFLOW} lost x").startswith("ok"))
+    expect("B goes on beside it", b.say(f"signal {DOMAIN} {WORKFLOW} kept y").startswith("ok"))
+    network.settle()
+    expect("after the partition both show the same", same(network, ["A", "B"]))
+    branches = a.line(f"branches {DOMAIN} {WORKFLOW}")
+    tips = [line.split() for line in branches if line.startswith("branch ")]
+    current = [words[1] for words in tips if words[-1] == "current"]
+    expect("there are two branches, and that of B is current", len(tips) == 2 and len(current) == 1 and current[0].startswith("2."))
+    expect("A writes no more", a.say(f"signal {DOMAIN} {WORKFLOW} late x").startswith("refused NotActive"))
+
+
+def handover(network):
+    a, b = network.nodes["A"], network.nodes["B"]
+    answer = b.say(f"handover {DOMAIN} A")
+    expect("B begins to hand the domain over", answer.startswith("ok"))
+    expect("B writes no more", b.say(f"signal {DOMAIN} {WORKFLOW} late x").startswith("refused NotActive"))
+    expect("A knows of no handover yet", a.say(f"complete {DOMAIN}").startswith("refused NoHandover"))
+    network.round()
+    network.round()
+    expect("A completes it", a.say(f"complete {DOMAIN}") == answer)
+    expect("A writes", a.say(f"signal {DOMAIN} {WORKFLOW} again z").startswith("ok"))
+    expect("all members have the same", network.settle() and same(network, ["A", "B"]))
+
+
+def late_member(network):
+    a = network.nodes["A"]
+    dropped = [network.nodes[name].say("trim") for name in network.names()]
+    expect("the queues are trimmed", any(answer != "ok 0" for answer in dropped))
+    expect("C becomes a member", a.say(f"join {DOMAIN} C") == "ok")
+    network.settle()
+    expect("it is brought what was written before", same(network, ["A", "B", "C"]))
+
+
+def strangers(network):
+    a = network.nodes["A"]
+    network.ask("B", "A")
+    frames = [frame for _, frame, _ in network.flight]
+    network.flight = []
+    poll = frames[0]
+    cases = {
+        "no frame": "{}",
+        "a frame that is cut": poll[:-1],
+        "a frame for another node": poll.replace('"to":"A"', '"to":"C"'),
+        "a frame of the node itself": poll.replace('"from":"B"', '"from":"A"'),
+        "a frame of another network": poll.replace('"increment":10', '"increment":20'),
+        "a frame with other shards": poll.replace('"shards":[{', '"shards":[{"done":0,"epoch":0,"key":null,"read":0},{'),
+    }
+    before = network.status("A")
+    for what, frame in cases.items():
+        expect(f"{what} is refused", a.say(f"hear {frame}").startswith("refused"))
+    expect("and nothing has changed", network.status("A") == before)
+
+
+def main():
+    network = Network(sys.argv[1], ["A", "B", "C"])
+    losses(network)
+    partition(network)
+    handover(network)
+    late_member(network)
+    strangers(network)
+    expect("all nodes end", network.close() == [0, 0, 0])
+
+
+if __name__ == "__main__":
+    main()
