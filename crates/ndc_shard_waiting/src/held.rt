@@ -91,10 +91,9 @@ fn note(ends: &mut Shortcuts, found: &mut Vec<PutOff>, batch: &Batch) -> Result<
 }
 
 impl Held {
-    ghost use Rattle.std.specs.Prelude.{◌≡◌, ◌==◌, [], ◌∷◌, true, false, length, map, is_some, option_to_list, Some, IfOk, IfSome, IfNone, OnOk, OnErr};
+    ghost use Rattle.std.specs.Prelude.{◌≡◌, [], ◌∷◌, true, false, length, map, is_some, option_to_list, Some, IfOk, IfSome, IfNone, OnOk, OnErr};
     ghost use Rattle.std.specs.List.{AllByRecursion};
     ghost use Rattle.std.specs.Option.{option_copied};
-    ghost use Rattle.ndc_model_sets.specs.Learned.{has_key};
     ghost use Rattle.ndc_model_sets.specs.Sets.{batch_at};
     ghost use Rattle.ndc_shard_waiting.specs.Finding.{message_with};
     ghost use Rattle.ndc_shard_waiting.specs.Shortcuts.{GoesUp, LeadsUp};
