@@ -2,3 +2,4 @@ pub mod Learning
 pub mod Leading
 pub mod Run
 pub mod RunFields
+pub mod CopiesFields

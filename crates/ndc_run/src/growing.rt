@@ -9,15 +9,15 @@ ghost use Rattle.ndc_state.specs.Replay.{replay, CountsWithin};
 ghost use Rattle.ndc_tree.specs.Tree.{Joins};
 
 use crate::answer::RunError;
+use crate::copies::Copies;
 use ndc_event::{Batch, OutOfMemory};
-use ndc_rebuild::Checkpoints;
 use ndc_state::{State, Steps, Tracked};
 use ndc_tree::Tree;
 
 /// Keeps what is to be kept of the state, which is that of the batch's path, and takes the batch in; for want of
 /// memory both are as they were.
 fn take_in(
-    kept: &mut Checkpoints,
+    kept: &mut Copies,
     tree: &mut Tree,
     state: &Tracked,
     batch: &Batch,
@@ -45,7 +45,7 @@ fn take_in(
 /// want of memory, and where an event is forbidden, all is as it was.
 pub(crate) fn grow<L>(
     state: &mut State,
-    kept: &mut Checkpoints,
+    kept: &mut Copies,
     tree: &mut Tree,
     batch: &Batch,
     steps: &mut Steps<L>,

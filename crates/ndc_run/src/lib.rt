@@ -2,6 +2,7 @@
 #![tactic(auto)]
 
 mod answer;
+mod copies;
 mod growing;
 pub mod laws;
 mod run;

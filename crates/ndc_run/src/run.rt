@@ -3,10 +3,10 @@ ghost use Rattle.ndc_run.specs.Learning.{is_known, leads_over};
 ghost use Rattle.ndc_run.specs.Leading.{leading_of, beside_of};
 
 use crate::answer::{Learned, RunError};
+use crate::copies::Copies;
 use crate::growing::grow;
 use ndc_event::{Batch, BatchKey, OutOfMemory, RunId};
 use ndc_model_sets::is_key;
-use ndc_rebuild::Checkpoints;
 use ndc_state::{State, Steps};
 use ndc_tree::{Inserted, Tree};
 use std::alloc::{AllocError, Global};
@@ -27,7 +27,7 @@ pub struct Run {
     tree: Tree,
     state: State,
     beside: Option<Box<Branch>>,
-    kept: Checkpoints,
+    kept: Copies,
 }
 
 impl Model for Run {
@@ -81,7 +81,7 @@ impl Run {
             tree: Tree::new(alloc, run),
             state: State::new(alloc, run),
             beside: None,
-            kept: Checkpoints::new(alloc, run),
+            kept: Copies::new(alloc, run),
         }
     }
 

@@ -6,3 +6,4 @@ pub mod MessageFields
 pub mod ShelfFields
 pub mod Shortcuts
 pub mod WaitingFields
+pub mod HeldFields

@@ -1,12 +1,12 @@
--- The fields of what waits in a workflow.
-use Rattle.std.specs.Prelude.{◌≡◌, Some}
-use Rattle.ndc_event.specs.declared.key.BatchKey.{BatchKey}
-use Rattle.ndc_shard_waiting.specs.Shortcuts.{shortcut_at, LeadsUp}
-use Rattle.ndc_shard_waiting.specs.Waiting.{AreWaiting}
-use Rattle.ndc_model_cells.specs.Messages.{batches_of}
+-- The fields of what waits in a workflow, in a box where something does.
+use Rattle.std.specs.Prelude.{Box, List, [], Option, Some, None}
+use Rattle.ndc_model_cells.specs.declared.message.Message.{Message}
 use Rattle.ndc_shard_waiting.specs.declared.waiting.Waiting.TheInside.{Inside}
 
--- the messages wait, and each shortcut leads upwards through them
-pub record IsInside (w : Inside) : Type 0 where
-  pub are : AreWaiting w.shelf
-  pub lead : (key to : BatchKey) → shortcut_at key w.shortcuts ≡ Some to → LeadsUp (batches_of w.shelf) key to
+-- the messages in a box, and none where there is no box
+abbrev pub messages_in : {Z : Type 0} → Option (Box (List Message) Z) → List Message
+messages_in None = []
+messages_in (Some box) = box.value
+
+abbrev pub waiting_of : Inside → List Message
+waiting_of w = messages_in w.held

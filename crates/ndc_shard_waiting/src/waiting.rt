@@ -1,65 +1,11 @@
-ghost use Rattle.std.specs.Prelude.{◌≡◌, [], ◌∷◌, ◌++◌, Some, None, OnOk, if◌then◌else◌};
-ghost use Rattle.ndc_event.specs.Key.{key_eq};
-ghost use Rattle.ndc_model_cells.specs.Cells.{both};
-ghost use Rattle.ndc_event.specs.declared.key.BatchKey.{BatchKey as Key};
-ghost use Rattle.ndc_model_sets.specs.Sets.{batch_at};
-ghost use Rattle.ndc_shard_waiting.specs.Shortcuts.{shortcut_at, missed_by};
-ghost use Rattle.ndc_model_cells.specs.Messages.{batches_of};
+ghost use Rattle.std.specs.Prelude.{◌≡◌, [], IfOk};
+ghost use Rattle.ndc_shard_waiting.specs.Waiting.{freed, still_put_off};
 
-use crate::shelf::Shelf;
-use crate::shortcuts::Shortcuts;
+use crate::held::Held;
 use ndc_event::{Batch, BatchKey, OutOfMemory};
 use ndc_model_cells::Message;
-use ndc_model_sets::earlier_key;
 use std::alloc::Global;
 use std::marker::Model;
-
-/// The messages of one workflow that are put off. Seen as their list in the order of their batches' keys.
-pub struct Waiting {
-    shelf: Shelf,
-    shortcuts: Shortcuts,
-}
-
-impl Model for Waiting {
-    ghost use Rattle.std.specs.Prelude.{List};
-    ghost use Rattle.ndc_model_cells.specs.declared.message.Message.{Message};
-
-    ghost Value = { List Message };
-
-    ghost use Rattle.ndc_shard_waiting.specs.WaitingFields.{IsInside};
-
-    ghost view = { λ waiting. waiting.shelf };
-
-    ghost invariant = { IsInside };
-}
-
-impl Drop for Waiting {
-    fn drop(self) {
-        let Waiting {
-            shelf: _shelf,
-            shortcuts: _shortcuts,
-        } = self;
-    }
-}
-
-/// Takes out the shortcuts of the message's batches.
-fn forget(shortcuts: &mut Shortcuts, sent: &Message)
-    ensures { (one to : Key) → shortcut_at one shortcuts.new ≡ Some to → (shortcut_at one shortcuts.old ≡ Some to) × (batch_at one (both sent.now) ≡ None) }
-{
-    shortcuts.forget(sent.batch.key);
-    if let Some(second) = sent.second.as_ref() {
-        shortcuts.forget(second.key);
-    }
-}
-
-/// Takes out the shortcuts of the messages' batches.
-fn forget_all(shortcuts: &mut Shortcuts, messages: &[Message])
-    ensures { (one to : Key) → shortcut_at one shortcuts.new ≡ Some to → (shortcut_at one shortcuts.old ≡ Some to) × (batch_at one (batches_of messages.now) ≡ None) }
-{
-    for sent in messages {
-        forget(shortcuts, sent);
-    }
-}
 
 /// A batch that is put off, and what it misses.
 #[derive(Clone, Copy, Debug, PartialEq, Eq)]
@@ -70,31 +16,42 @@ pub struct PutOff {
     pub missing: BatchKey,
 }
 
-/// What a batch misses, where it is told what those before it miss.
-fn missed(ends: &Shortcuts, batch: &Batch) -> BatchKey
-    ensures { result ≡ missed_by ends.now batch.now }
-{
-    match earlier_key(batch) {
-        None => batch.key,
-        Some(earlier) => match ends.get(earlier) {
-            None => earlier,
-            Some(end) => end,
-        },
+/// The messages of one workflow that are put off, in a box that is there only while some are: of most workflows none is.
+/// Seen as their list in the order of their batches' keys.
+pub struct Waiting {
+    alloc: Global,
+    held: Option<Box<Held>>,
+}
+
+impl Model for Waiting {
+    ghost use Rattle.std.specs.Prelude.{List};
+    ghost use Rattle.ndc_model_cells.specs.declared.message.Message.{Message};
+
+    ghost Value = { List Message };
+
+    ghost use Rattle.ndc_shard_waiting.specs.WaitingFields.{waiting_of};
+
+    ghost view = { waiting_of };
+}
+
+impl Drop for Waiting {
+    fn drop(self) {
+        let Waiting {
+            alloc: _alloc,
+            held: _held,
+        } = self;
     }
 }
 
-/// Notes what a batch misses, for those behind it too.
-fn note(ends: &mut Shortcuts, found: &mut Vec<PutOff>, batch: &Batch) -> Result<(), OutOfMemory>
-    ensures ends { OnOk result ((one : Key) → shortcut_at one ends.new ≡ (if key_eq batch.now.key one then Some (missed_by ends.old batch.now) else shortcut_at one ends.old)) }
-    ensures found { OnOk result (found.new.items ≡ found.old.items ++ record { key = batch.now.key; missing = missed_by ends.old batch.now } ∷ []) }
+/// The message alone, which frees nothing where none waits.
+#[tactic(auto, unfolding(crate::specs::Waiting::freed, crate::specs::Waiting::still_put_off))]
+fn alone(alloc: Global, message: Message) -> Result<Vec<Message>, OutOfMemory>
+    ensures freed { IfOk result (λ list. list.items ≡ freed message []) }
+    ensures rest { still_put_off message [] ≡ [] }
 {
-    let missing = missed(ends, batch);
-    ends.set(batch.key, missing)?;
-    found.push(PutOff {
-        key: batch.key,
-        missing,
-    })?;
-    Ok(())
+    let mut freed = Vec::new(alloc);
+    freed.push(message)?;
+    Ok(freed)
 }
 
 impl Waiting {
@@ -104,7 +61,6 @@ impl Waiting {
     ghost use Rattle.ndc_model_sets.specs.Learned.{has_key};
     ghost use Rattle.ndc_model_sets.specs.Sets.{batch_at};
     ghost use Rattle.ndc_shard_waiting.specs.Finding.{message_with};
-    ghost use Rattle.ndc_shard_waiting.specs.Shortcuts.{GoesUp, LeadsUp};
     ghost use Rattle.ndc_model_cells.specs.Messages.{batches_of, waits_for, IsNewTo};
     ghost use Rattle.ndc_shard_waiting.specs.Linking.{is_woken};
     ghost use Rattle.ndc_shard_waiting.specs.Waiting.{put_off, freed, still_put_off, missing_from, all_missing, AreWaiting, CanWait};
@@ -113,10 +69,7 @@ impl Waiting {
     pub fn new(alloc: Global) -> Waiting
         ensures { result ≡ [] }
     {
-        Waiting {
-            shelf: Shelf::new(alloc),
-            shortcuts: Shortcuts::new(alloc),
-        }
+        Waiting { alloc, held: None }
     }
 
     /// How many messages wait; their batches are a set, and each has an earlier key.
@@ -124,14 +77,17 @@ impl Waiting {
         ensures len { result ≡ length self.now }
         ensures waiting { AreWaiting self.now }
     {
-        self.shelf.len()
+        match &self.held {
+            None => 0,
+            Some(held) => held.len(),
+        }
     }
 
     /// Whether no message waits.
     pub fn is_empty(&self) -> bool
         ensures { result ≡ (length self.now == 0) }
     {
-        self.shelf.len() == 0
+        self.len() == 0
     }
 
     /// The batch of this key, that of a message or the one that it carries. In time of the logarithm of the messages,
@@ -139,7 +95,10 @@ impl Waiting {
     pub fn get(&self, key: BatchKey) -> Option<&Batch>
         ensures { option_copied result ≡ batch_at key (batches_of self.now) }
     {
-        self.shelf.get(key)
+        match &self.held {
+            None => None,
+            Some(held) => held.get(key),
+        }
     }
 
     /// The message that has a batch of this key, its own or the one that it carries. In time of the logarithm of the
@@ -147,21 +106,27 @@ impl Waiting {
     pub fn message(&self, key: BatchKey) -> Option<&Message>
         ensures { option_copied result ≡ message_with key self.now }
     {
-        self.shelf.message(key)
+        match &self.held {
+            None => None,
+            Some(held) => held.message(key),
+        }
     }
 
     /// Whether a batch has this key, that of a message or the one that it carries.
     pub fn has(&self, key: BatchKey) -> bool
         ensures { result ≡ has_key (Some key) (batches_of self.now) }
     {
-        self.shelf.get(key).is_some()
+        self.get(key).is_some()
     }
 
     /// The batches of the messages, those that are carried too, in key order.
     pub fn batches(&self, alloc: Global) -> Result<Vec<&Batch>, OutOfMemory>
         ensures { IfOk result (λ list. map (λ b. b.now) list.items ≡ batches_of self.now) }
     {
-        self.shelf.batches(alloc)
+        match &self.held {
+            None => Ok(Vec::new(alloc)),
+            Some(held) => held.batches(alloc),
+        }
     }
 
     /// Puts a message off: it goes to its place. Its batch has an earlier key, which comes before its own, and what it
@@ -173,7 +138,13 @@ impl Waiting {
         ensures ok { OnOk result (self.new ≡ put_off message self.old) }
         ensures err { OnErr result (self.new ≡ self.old) }
     {
-        self.shelf.put(message)
+        if let Some(held) = &mut self.held {
+            return held.put(message);
+        }
+        let mut held = Held::new(self.alloc);
+        held.put(message)?;
+        self.held = Some(Box::new(self.alloc, held)?);
+        Ok(())
     }
 
     /// Takes out what waits for the message, which becomes learned, directly or not: the message, and behind it what
@@ -184,16 +155,12 @@ impl Waiting {
         ensures freed { IfOk result (λ list. list.items ≡ freed message self.old) }
         ensures rest { OnOk result (self.new ≡ still_put_off message self.old) }
     {
-        match self.shelf.free(alloc, message) {
-            Ok(freed) => {
-                forget_all(&mut self.shortcuts, freed.as_slice());
-                Ok(freed)
-            }
-            Err(error) => {
-                self.shortcuts = Shortcuts::new(alloc);
-                Err(error)
-            }
-        }
+        let freed = match &mut self.held {
+            None => return alone(alloc, message),
+            Some(held) => held.free(alloc, message),
+        };
+        self.let_go();
+        freed
     }
 
     /// The least key of a message that waits for the batch, or for the one that goes right after it, where there is one. In the
@@ -207,7 +174,10 @@ impl Waiting {
         ensures some { IfOk result (λ found. IfSome found (λ key. is_woken (batch.now ∷ option_to_list (option_copied second.entry)) key self.now ≡ true)) }
         ensures none { IfOk result (λ found. IfNone found (AllByRecursion (λ sent. waits_for (batch.now ∷ option_to_list (option_copied second.entry)) sent ≡ false) self.now)) }
     {
-        self.shelf.first_waiter(alloc, batch, second)
+        match &self.held {
+            None => Ok(None),
+            Some(held) => held.first_waiter(alloc, batch, second),
+        }
     }
 
     /// The nearest key upwards from this one that is not there: for a batch that is put off what it misses. Each key
@@ -217,9 +187,10 @@ impl Waiting {
         ensures missing { Some result ≡ missing_from (Some key) (batches_of self.old) }
         ensures same { self.new ≡ self.old }
     {
-        let end = self.end_of(key);
-        self.shorten(key, end);
-        end
+        match &mut self.held {
+            None => key,
+            Some(held) => held.missing(key),
+        }
     }
 
     /// Of each batch that is put off, those that are carried too, in key order, what it misses. In time of the
@@ -227,56 +198,18 @@ impl Waiting {
     pub fn all_missing(&self, alloc: Global) -> Result<Vec<PutOff>, OutOfMemory>
         ensures { IfOk result (λ list. map (λ one. (one.key, Some one.missing)) list.items ≡ all_missing (batches_of self.now)) }
     {
-        let mut ends = Shortcuts::new(alloc);
-        let mut found = Vec::new(alloc);
-        let batches = self.shelf.batches(alloc)?;
-        for batch in batches.as_slice() {
-            note(&mut ends, &mut found, batch)?;
-        }
-        Ok(found)
-    }
-
-    /// One step upwards from the key of a batch.
-    fn above(&self, key: BatchKey) -> Option<BatchKey>
-        ensures goes { GoesUp (batches_of self.now) key result }
-        ensures waiting { AreWaiting self.now }
-    {
-        match self.shortcuts.get(key) {
-            Some(to) => Some(to),
-            None => earlier_key(self.shelf.get(key)?),
+        match &self.held {
+            None => Ok(Vec::new(alloc)),
+            Some(held) => held.all_missing(alloc),
         }
     }
 
-    /// Goes upwards from the key to the first that is not there.
-    fn end_of(&self, key: BatchKey) -> BatchKey
-        ensures { Some result ≡ missing_from (Some key) (batches_of self.now) }
-    {
-        let mut at = key;
-        while let Some(up) = self.above(at) {
-            at = up;
-        }
-        at
-    }
-
-    /// From each key on the way from this one to the end it is one step from then on.
-    fn shorten(&mut self, key: BatchKey, end: BatchKey)
-        requires { missing_from (Some key) (batches_of self.old) ≡ Some end }
+    /// Gives the memory back where no message waits.
+    fn let_go(&mut self)
         ensures { self.new ≡ self.old }
     {
-        let mut at = key;
-        while let Some(up) = self.above(at) {
-            if up != end {
-                self.lead(at, end);
-            }
-            at = up;
+        if self.is_empty() {
+            self.held = None;
         }
-    }
-
-    /// Gives the key a shortcut, where memory allows.
-    fn lead(&mut self, key: BatchKey, to: BatchKey)
-        requires { LeadsUp (batches_of self.old) key to }
-        ensures { self.new ≡ self.old }
-    {
-        let _ = self.shortcuts.set(key, to);
     }
 }

@@ -1,7 +1,7 @@
 use Rattle.std.proofs.Common.{subst, arith}
 use Rattle.ndc_shard_waiting.specs.Waiting.{AreWaiting}
 use Rattle.ndc_shard_waiting.proofs.NoteLemmas.{noted-next}
-use Rattle.ndc_shard_waiting.proofs.waiting.Waiting.all_missing.Goals as goal
+use Rattle.ndc_shard_waiting.proofs.held.Held.all_missing.Goals as goal
 
 pub loop-batch-preserved : goal.loop-batch-preserved
 loop-batch-preserved c = (

@@ -3,7 +3,7 @@ use Rattle.ndc_model_cells.specs.declared.message.Message.{Message}
 use Rattle.ndc_shard_waiting.specs.Shortcuts.{LeadsUp}
 use Rattle.ndc_model_cells.specs.Messages.{batches_of}
 use Rattle.ndc_shard_waiting.proofs.ShortcutLemmas.{set-all-lead}
-use Rattle.ndc_shard_waiting.proofs.waiting.Waiting.lead.Goals as goal
+use Rattle.ndc_shard_waiting.proofs.held.Held.lead.Goals as goal
 
 pub invariant_of-self : goal.invariant_of-self
 invariant_of-self c = record {

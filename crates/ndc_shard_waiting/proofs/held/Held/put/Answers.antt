@@ -2,7 +2,7 @@ use Rattle.std.proofs.Common.{List, sym, subst}
 use Rattle.ndc_model_cells.specs.declared.message.Message.{Message}
 use Rattle.ndc_model_cells.specs.Messages.{batches_of, IsNewTo}
 use Rattle.ndc_shard_waiting.proofs.ShortcutLemmas.{put-all-lead}
-use Rattle.ndc_shard_waiting.proofs.waiting.Waiting.put.Goals as goal
+use Rattle.ndc_shard_waiting.proofs.held.Held.put.Goals as goal
 
 pub invariant_of-self : goal.invariant_of-self
 invariant_of-self c =

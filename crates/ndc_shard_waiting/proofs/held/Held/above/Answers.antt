@@ -6,7 +6,7 @@ use Rattle.ndc_model_sets.specs.Sets.{earlier}
 use Rattle.ndc_shard_waiting.specs.Shortcuts.{GoesUp, LeadsUp}
 use Rattle.ndc_model_cells.specs.Messages.{batches_of}
 use Rattle.ndc_shard_waiting.proofs.ShortcutLemmas.{goes-earlier}
-use Rattle.ndc_shard_waiting.proofs.waiting.Waiting.above.Goals as goal
+use Rattle.ndc_shard_waiting.proofs.held.Held.above.Goals as goal
 
 pub returns-in-Some-clause-goes : goal.returns-in-Some-clause-goes
 returns-in-Some-clause-goes c =

@@ -4,7 +4,7 @@ use Rattle.ndc_model_sets.specs.Sets.{batch_at}
 use Rattle.ndc_shard_waiting.specs.Shortcuts.{LeadsUp}
 use Rattle.ndc_model_cells.specs.Messages.{batches_of, IsNewTo}
 use Rattle.ndc_shard_waiting.proofs.KeptUpLemmas.{kept-leads}
-use Rattle.ndc_shard_waiting.proofs.waiting.Waiting.free.Goals as goal
+use Rattle.ndc_shard_waiting.proofs.held.Held.free.Goals as goal
 
 pub invariant_of-self : goal.invariant_of-self
 invariant_of-self c = record {

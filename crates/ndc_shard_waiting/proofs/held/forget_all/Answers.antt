@@ -2,7 +2,7 @@ use Rattle.std.proofs.Common.{◌+◌, ◌∷◌, sym, ◌∙◌, ap, drop, arit
 use Rattle.std.proofs.lemmas.List.{drop_more}
 use Rattle.ndc_model_cells.specs.declared.message.Message.{Message}
 use Rattle.ndc_shard_waiting.proofs.ShortcutLemmas.{leaving-more}
-use Rattle.ndc_shard_waiting.proofs.waiting.forget_all.Goals as goal
+use Rattle.ndc_shard_waiting.proofs.held.forget_all.Goals as goal
 
 pub loop-sent-preserved : goal.loop-sent-preserved
 loop-sent-preserved c =
