@@ -43,6 +43,7 @@ impl Node {
             late,
             entries,
         } = piece;
+        let late = self.known_late(late.as_slice())?;
         if let Some(peer) = self.peers.get_mut(from.number as usize) {
             peer.hold_late(late.as_slice())?;
         }
@@ -52,6 +53,17 @@ impl Node {
         let taken = self.take_entries(from, shard, next, entries.into_vec(), heard)?;
         let left = self.not_learned(taken.told)?;
         self.note_told(from, shard, first, taken.next, left, taken.last, heard)
+    }
+
+    /// Those of these domains whose records name this node.
+    fn known_late(&self, domains: &[Name]) -> Result<Vec<Name>, OutOfMemory> {
+        let mut known = Vec::new(self.alloc);
+        for domain in domains {
+            if self.names(self.me, domain) {
+                known.push(domain.try_copy()?)?;
+            }
+        }
+        Ok(known)
     }
 
     /// Whether entries of this epoch may be heard.

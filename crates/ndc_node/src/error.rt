@@ -42,6 +42,9 @@ pub enum FrameError {
     /// It names a shard that there is not, or has not one place for each.
     #[error("the frame has other shards")]
     Shards,
+    /// The handover in it is none from its sender to this node.
+    #[error("the handover is none from the sender to this node")]
+    Handover,
     /// A record in it breaks a rule.
     #[error("{0}")]
     Record(RecordFault),

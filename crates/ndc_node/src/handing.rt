@@ -1,4 +1,5 @@
 use crate::error::{CallError, HandError};
+use crate::heard::Heard;
 use crate::node::Node;
 use crate::peer::has_name;
 use crate::records::put_record;
@@ -6,6 +7,9 @@ use ndc_domain::{ClusterNo, DomainTable};
 use ndc_event::{Name, OutOfMemory};
 use ndc_graceful::{BeginError, Handover, ReadyError};
 use ndc_node_frames::{Offer, Promised, PromisedList, ToldRecord};
+
+/// How many handovers to a node may be open at once.
+const MAX_OFFERS: usize = 10_000;
 
 impl Node {
     /// Whether a handover of a domain was begun here and is open.
@@ -106,24 +110,47 @@ impl Node {
 
     /// A handover to this node is heard: it is kept until it is completed, where the record has not come to its version. Of
     /// two of one domain the greater is kept.
-    pub(crate) fn hear_offer(&mut self, offer: Offer) -> Result<bool, OutOfMemory> {
-        if let Some(record) = self.table.find(&offer.domain) {
-            if offer.new <= record.version {
-                return Ok(false);
-            }
-        }
-        let known = self
-            .offers
-            .iter()
-            .any(|one| one.domain == offer.domain && offer.new < one.new);
-        if known {
-            return Ok(false);
+    pub(crate) fn hear_offer(
+        &mut self,
+        offer: Offer,
+        heard: &mut Heard,
+    ) -> Result<(), OutOfMemory> {
+        if !self.is_open(&offer) {
+            return Ok(());
         }
         let before = self.offers.len();
         self.offers.retain(|one| one.domain != offer.domain);
-        let is_new = self.offers.len() == before;
+        if self.offers.len() == before {
+            heard.changed = true;
+        }
+        if MAX_OFFERS <= self.offers.len() {
+            heard.is_full = true;
+            return Ok(());
+        }
         self.offers.push(offer)?;
-        Ok(is_new)
+        Ok(())
+    }
+
+    /// Whether a handover is one from this cluster to this node, with the record of its domain and version.
+    pub(crate) fn is_offer_to_me(&self, from: ClusterNo, offer: &Offer) -> bool {
+        let record = &offer.record.record;
+        self.clusters.writer_of(offer.old) == Some(from)
+            && self.clusters.writer_of(offer.new) == Some(self.me)
+            && record.version == offer.new
+            && record.name == offer.domain
+    }
+
+    /// Whether the record of the domain has not come to the version of a handover, and no greater one of the domain is kept.
+    fn is_open(&self, offer: &Offer) -> bool {
+        let has_come = match self.table.find(&offer.domain) {
+            Some(record) => offer.new <= record.version,
+            None => false,
+        };
+        let is_less = self
+            .offers
+            .iter()
+            .any(|one| one.domain == offer.domain && offer.new < one.new);
+        !has_come && !is_less
     }
 
     /// Completes a handover that was told to this node: it becomes the active cluster of the domain, with the version that

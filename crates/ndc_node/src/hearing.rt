@@ -5,7 +5,7 @@ use crate::node::Node;
 use crate::records::{record_fault, records_fault};
 use ndc_domain::ClusterNo;
 use ndc_event::OutOfMemory;
-use ndc_node_frames::{Body, Frame, Records, read_frame};
+use ndc_node_frames::{Body, Frame, read_frame};
 
 impl Node {
     /// Hears a frame: what came of it, and what is to be answered to who sent it. Nothing is asked of the bytes. But for want
@@ -36,7 +36,7 @@ impl Node {
         }
         let frame = read_frame(self.alloc, bytes)?;
         let from = self.sender(&frame)?;
-        self.fits(&frame.body)?;
+        self.fits(from, &frame.body)?;
         let Frame { body, .. } = frame;
         Ok((from, body))
     }
@@ -59,13 +59,16 @@ impl Node {
         Ok(from)
     }
 
-    /// Tests what a frame says of shards, and the records in it.
-    fn fits(&self, body: &Body) -> Result<(), FrameError> {
+    /// Tests what a frame says of shards, the handover in it, and the records.
+    fn fits(&self, from: ClusterNo, body: &Body) -> Result<(), FrameError> {
         match body {
             Body::Poll(poll) => self.has_each_shard(poll.shards.as_slice().len()),
             Body::Entries(piece) if self.shards <= piece.shard => Err(FrameError::Shards),
             Body::Handover(offer) => {
                 self.has_each_shard(offer.places.as_slice().len())?;
+                if !self.is_offer_to_me(from, offer) {
+                    return Err(FrameError::Handover);
+                }
                 match record_fault(&self.clusters, &offer.record.record) {
                     Some(fault) => Err(FrameError::Record(fault)),
                     None => Ok(()),
@@ -96,19 +99,14 @@ impl Node {
         match body {
             Body::Poll(poll) => self.hear_poll(from, poll, &mut heard)?,
             Body::Entries(piece) => self.hear_entries(from, piece, &mut heard)?,
-            Body::Records(Records { records }) => self.hear_records(from, records, &mut heard)?,
-            Body::Handover(offer) => {
-                heard.changed = self.hear_offer(offer)?;
-            }
-            Body::Gap(asked) => self.hear_gap(from, &asked, &mut heard)?,
-            Body::Served(served) => {
-                self.hear_served(from, served.messages.as_slice(), &mut heard)?;
-            }
+            Body::Records(told) => self.hear_records(from, told, &mut heard)?,
+            Body::Handover(offer) => self.hear_offer(offer, &mut heard)?,
+            Body::Gap(asked) => self.hear_gap(from, asked, &mut heard)?,
+            Body::Served(served) => self.hear_served(from, served, &mut heard)?,
             Body::Bootstrap(piece) => self.hear_bootstrap(from, piece, &mut heard)?,
-            Body::Progress(held) => {
-                heard.changed = self.hear_reports(from, held.reports.as_slice())?;
-            }
-            Body::Recall(_) | Body::Recalled(_) => {}
+            Body::Progress(held) => self.hear_reports(from, held, &mut heard)?,
+            Body::Recall(_recall) => {}
+            Body::Recalled(_piece) => {}
         }
         Ok(heard)
     }

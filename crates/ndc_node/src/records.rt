@@ -3,7 +3,7 @@ use crate::heard::Heard;
 use crate::node::Node;
 use ndc_domain::{ClusterNo, Clusters, DomainRecord, DomainTable};
 use ndc_event::OutOfMemory;
-use ndc_node_frames::{ToldRecord, ToldRecords};
+use ndc_node_frames::{Records, ToldRecord, ToldRecords};
 use std::alloc::{AllocError, AllocFailed};
 use thiserror::Error;
 
@@ -78,11 +78,12 @@ impl Node {
     pub(crate) fn hear_records(
         &mut self,
         from: ClusterNo,
-        told: ToldRecords,
+        told: Records,
         heard: &mut Heard,
     ) -> Result<(), OutOfMemory> {
+        let Records { records } = told;
         let mut theirs = DomainTable::new(self.alloc);
-        for one in told.into_vec() {
+        for one in records.into_vec() {
             let ToldRecord { record } = one;
             put_record(&mut theirs, record)?;
         }

@@ -1,11 +1,12 @@
 use crate::error::{CallError, ReportError};
+use crate::heard::Heard;
 use crate::node::Node;
 use ndc_cluster::Home;
 use ndc_command::{CommandError, Refusal};
 use ndc_domain::ClusterNo;
 use ndc_event::{Name, OutOfMemory, RunId};
 use ndc_history::Item;
-use ndc_node_frames::{ToldReport, ToldReports};
+use ndc_node_frames::{Held, ToldReport, ToldReports};
 use ndc_progress::{ActivityRef, Report};
 use ndc_shard_runs::Runs;
 use std::alloc::Global;
@@ -157,15 +158,16 @@ impl Node {
         }
     }
 
-    /// Reports are heard of a peer: each joins what is held where it is greater. Whether one did.
+    /// Reports are heard of a peer: each joins what is held where it is greater.
     pub(crate) fn hear_reports(
         &mut self,
         from: ClusterNo,
-        told: &[ToldReport],
-    ) -> Result<bool, OutOfMemory> {
+        told: Held,
+        heard: &mut Heard,
+    ) -> Result<(), OutOfMemory> {
         let mut changed = false;
         let mut held: usize = 0;
-        for one in told {
+        for one in told.reports.as_slice() {
             if self.is_news(&one.report) {
                 self.progress.take(&one.report)?;
                 changed = true;
@@ -176,12 +178,13 @@ impl Node {
         }
         if changed {
             self.reports_changed();
+            heard.changed = true;
         }
         let count = self.progress.list(self.alloc)?.len();
         if let Some(peer) = self.peers.get_mut(from.number as usize) {
-            peer.same_reports = held == count && told.len() == count;
+            peer.same_reports = held == count && told.reports.as_slice().len() == count;
         }
-        Ok(changed)
+        Ok(())
     }
 
     /// The reports that are held, to be told.

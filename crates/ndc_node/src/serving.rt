@@ -12,7 +12,7 @@ impl Node {
     pub(crate) fn hear_gap(
         &mut self,
         from: ClusterNo,
-        asked: &AskedGap,
+        asked: AskedGap,
         heard: &mut Heard,
     ) -> Result<(), OutOfMemory> {
         let Some(cell) = self.cell_of(&asked.gap.domain, &asked.gap.workflow) else {
@@ -64,10 +64,10 @@ impl Node {
     pub(crate) fn hear_served(
         &mut self,
         from: ClusterNo,
-        messages: &[Text],
+        served: Served,
         heard: &mut Heard,
     ) -> Result<(), OutOfMemory> {
-        for text in messages {
+        for text in served.messages.as_slice() {
             self.take_text(from, text.as_slice(), heard)?;
         }
         Ok(())

@@ -1,4 +1,5 @@
 use crate::admitting::Came;
+use crate::error::{CallError, NoRefusal};
 use crate::heard::Heard;
 use crate::letter::Letter;
 use crate::node::Node;
@@ -67,7 +68,14 @@ impl Node {
     }
 
     /// Takes up all letters again, in order: those that are not admitted now are letters again.
-    pub fn retry(&mut self) -> Result<Heard, OutOfMemory> {
+    pub fn retry(&mut self) -> Result<Heard, CallError<NoRefusal>> {
+        self.begin()?;
+        let heard = self.taken_again();
+        self.end(heard)
+    }
+
+    /// All letters are taken up again.
+    fn taken_again(&mut self) -> Result<Heard, CallError<NoRefusal>> {
         let mut heard = Heard::nothing(self.alloc);
         let letters = mem::replace(&mut self.letters, Vec::new(self.alloc));
         for letter in letters {
@@ -77,6 +85,11 @@ impl Node {
             }
         }
         Ok(heard)
+    }
+
+    /// The caller vouches that the node has all that it has given out, whatever readers tell: it writes again.
+    pub fn force(&mut self) {
+        self.is_behind = false;
     }
 
     /// Lets go of a letter, by its place. What was told with it stays held, so that its source drops nothing from there on.

@@ -83,14 +83,13 @@ impl Node {
             return Err(CallError::Full);
         };
         let mut steps: Steps<Writing> = Steps::new();
-        let written =
-            match seat
-                .cell
-                .try_reset(&home, &self.table, domain, workflow, event, &mut steps)
-            {
-                Ok(written) => written,
-                Err(error) => return Err(of_try(error)),
-            };
+        let written = match seat
+            .cell
+            .try_reset(&home, &self.table, domain, workflow, event, &mut steps)
+        {
+            Ok(written) => written,
+            Err(error) => return Err(of_try(error)),
+        };
         seat.queue_up_both(domain, workflow, written)?;
         Ok(written)
     }

@@ -194,11 +194,7 @@ fn tell_hand(
 }
 
 /// Why a handover does not begin, or is not completed.
-fn hand_refused(
-    alloc: Global,
-    error: HandError,
-    answer: &mut Answer,
-) -> Result<(), OutOfMemory> {
+fn hand_refused(alloc: Global, error: HandError, answer: &mut Answer) -> Result<(), OutOfMemory> {
     let text = match error {
         HandError::StillOpen => ndc_world_answers::still_open(alloc)?,
         HandError::NoHandover => ndc_world_answers::no_handover(alloc)?,

@@ -27,19 +27,29 @@ pub(crate) fn read(
         Act::MembersOf { domain, .. } => members(node, domain, answer),
         Act::Gaps { .. } => gaps(node, answer),
         Act::History {
-            domain, workflow, ..
+            domain,
+            workflow,
+            ..
         } => tell_runs(node, domain, workflow, Shown::History, answer),
         Act::Branches {
-            domain, workflow, ..
+            domain,
+            workflow,
+            ..
         } => tell_runs(node, domain, workflow, Shown::Branches, answer),
         Act::Current {
-            domain, workflow, ..
+            domain,
+            workflow,
+            ..
         } => tell_runs(node, domain, workflow, Shown::Current, answer),
         Act::StateOf {
-            domain, workflow, ..
+            domain,
+            workflow,
+            ..
         } => tell_runs(node, domain, workflow, Shown::State, answer),
         Act::Dump {
-            domain, workflow, ..
+            domain,
+            workflow,
+            ..
         } => tell_runs(node, domain, workflow, Shown::Dump, answer),
         _ => answer.say(b"refused NotOfANode"),
     }

@@ -1,6 +1,6 @@
 use crate::answer::Answer;
-use ndc_domain::ClusterNo;
 use crate::words::split_word;
+use ndc_domain::ClusterNo;
 use ndc_event::{Batch, BatchKey, Items, Name, OutOfMemory};
 use ndc_node::{FrameError, Heard, Node};
 use ndc_script_types::Header;
@@ -46,16 +46,29 @@ fn tell_aside(
     } else if word == b"letters".as_slice() {
         letters(node, answer)?;
     } else if word == b"retry".as_slice() {
-        let heard = node.retry()?;
-        tell_heard(&heard, answer)?;
+        retry(node, answer)?;
     } else if word == b"drop".as_slice() {
         drop_letter(node, rest, answer)?;
+    } else if word == b"force".as_slice() {
+        node.force();
+        answer.say(b"ok")?;
     } else if word == b"status".as_slice() {
         status(node, answer)?;
     } else {
         return Ok(false);
     }
     Ok(true)
+}
+
+/// `retry`: all letters are taken up again.
+fn retry(node: &mut Node, answer: &mut Answer) -> Result<(), OutOfMemory> {
+    match node.retry() {
+        Ok(heard) => tell_heard(&heard, answer),
+        Err(error) => {
+            answer.tell_other(&error)?;
+            Ok(())
+        }
+    }
 }
 
 /// `ok`, and a number.
@@ -89,6 +102,7 @@ fn word_of(error: FrameError) -> &'static [u8] {
         FrameError::UnknownSender => b"refused UnknownSender",
         FrameError::OtherHeader => b"refused OtherHeader",
         FrameError::Shards => b"refused Shards",
+        FrameError::Handover => b"refused Handover",
         FrameError::Record(_) => b"refused Record",
         FrameError::Memory => b"refused Memory",
     }
@@ -133,12 +147,7 @@ fn tell_frames(frames: &[Items<u8>], answer: &mut Answer) -> Result<(), OutOfMem
 }
 
 /// `ask NAME`: what the node would say to another one.
-fn ask(
-    node: &Node,
-    header: &Header,
-    name: &[u8],
-    answer: &mut Answer,
-) -> Result<(), OutOfMemory> {
+fn ask(node: &Node, header: &Header, name: &[u8], answer: &mut Answer) -> Result<(), OutOfMemory> {
     let Some(to) = cluster(header, name) else {
         return answer.say(b"refused UnknownName");
     };

@@ -15,9 +15,13 @@ const BOUNDS: Bounds = Bounds {
 
 /// The statuses that the program ends with.
 const OK: u8 = 0;
+
 const NO_NODE: u8 = 2;
+
 const NOT_WRITTEN: u8 = 4;
+
 const NOT_READ: u8 = 5;
+
 const MEMORY: u8 = 8;
 
 /// Why the program ends before its lines do.
@@ -79,11 +83,7 @@ fn run<S: Source, O: Sink>(alloc: Global, source: &mut S, out: &mut O) -> Result
 }
 
 /// Reads the header and which node it is, and makes it.
-fn open<S: Source>(
-    alloc: Global,
-    lines: &mut Lines,
-    source: &mut S,
-) -> Result<Session, Stop> {
+fn open<S: Source>(alloc: Global, lines: &mut Lines, source: &mut S) -> Result<Session, Stop> {
     let mut header = Vec::new(alloc);
     while let Some(line) = lines.next(source)? {
         if let Some(name) = line.as_slice().strip_prefix(b"node ") {
