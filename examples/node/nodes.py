@@ -8,11 +8,12 @@ import subprocess
 class Node:
     """One process, and the name of its cluster."""
 
-    def __init__(self, program, header, name):
+    def __init__(self, program, header, name, store=None):
         self.name = name
         self.frames = []
         self.learned = []
-        self.process = subprocess.Popen([program], stdin=subprocess.PIPE, stdout=subprocess.PIPE)
+        words = [program, store] if store else [program]
+        self.process = subprocess.Popen(words, stdin=subprocess.PIPE, stdout=subprocess.PIPE, stderr=subprocess.DEVNULL)
         self.process.stdin.write(f"{header}node {name}\n".encode())
 
     def line(self, text):
@@ -50,13 +51,28 @@ class Node:
 class Network:
     """Nodes, and the frames that are on their way between them."""
 
-    def __init__(self, program, names, shards=2, limit=1000, increment=10, seed=1):
+    def __init__(self, program, names, shards=2, limit=1000, increment=10, seed=1, stores=None):
         self.random = random.Random(seed)
         self.program = program
+        self.stores = stores
         clusters = "".join(f"cluster {name} {number + 1}\n" for number, name in enumerate(names))
         self.header = f"ndc 1\nincrement {increment}\nshards {shards}\nlimit {limit}\n{clusters}"
-        self.nodes = {name: Node(program, self.header, name) for name in names}
+        self.nodes = {}
+        for name in names:
+            self.start(name)
         self.flight = []
+
+    def store(self, name):
+        """The file in which a node keeps what it is told."""
+        return f"{self.stores}/{name}" if self.stores else None
+
+    def start(self, name):
+        """A node begins, from its file where it has one. Frames that were on their way may still come."""
+        self.nodes[name] = Node(self.program, self.header, name, self.store(name))
+
+    def stop(self, name):
+        """A node ends."""
+        return self.nodes[name].close()
 
     def names(self):
         return list(self.nodes)

@@ -2,9 +2,13 @@
 """examples/node/run.py PROGRAM
 
 Three data centres joined by pipes: losses, repeats, any order, a failover on both sides of a partition, a graceful handover,
-a member that joins after all readers have let go, and frames that are none. It ends with equal dumps, or says where it does not."""
+a member that joins after all readers have let go, a stop and a start from what was kept, with a last line that was not kept
+whole, a start from what was kept earlier, and frames that are none. It ends with equal dumps, or says where it does not."""
 
+import os
+import shutil
 import sys
+import tempfile
 
 from nodes import Network
 
@@ -69,6 +73,36 @@ def late_member(network):
     expect("it is brought what was written before", same(network, ["A", "B", "C"]))
 
 
+def restart(network):
+    before = {name: network.dump(name, DOMAIN, WORKFLOW) for name in network.names()}
+    a = network.store("A")
+    shutil.copy(a, a + ".earlier")
+    network.nodes["A"].line(f"signal {DOMAIN} {WORKFLOW} kept z")
+    network.settle()
+    later = network.dump("A", DOMAIN, WORKFLOW)
+    expect("a node ends", network.stop("A") == 0)
+    with open(a, "ab") as store:
+        store.write(b"signal D order-1 torn")
+    network.start("A")
+    expect("it begins as it was, without a line that was not kept whole", network.dump("A", DOMAIN, WORKFLOW) == later)
+    expect("it writes nothing before all others have polled", network.nodes["A"].say(f"signal {DOMAIN} {WORKFLOW} early z") == "refused Awaiting")
+    network.settle()
+    expect("then it writes", network.nodes["A"].say(f"signal {DOMAIN} {WORKFLOW} more z").startswith("ok"))
+    network.settle()
+    expect("all members have the same", same(network, ["A", "B", "C"]) and network.dump("A", DOMAIN, WORKFLOW) != before["A"])
+    network.stop("A")
+    shutil.copy(a, a + ".last")
+    shutil.copy(a + ".earlier", a)
+    network.start("A")
+    network.settle()
+    expect("from what was kept earlier it writes nothing: others know more of it than itself", network.nodes["A"].say(f"signal {DOMAIN} {WORKFLOW} old z") == "refused BehindItsPast")
+    network.stop("A")
+    shutil.copy(a + ".last", a)
+    network.start("A")
+    expect("the caller may vouch for what was kept", network.nodes["A"].say("force") == "ok" and network.nodes["A"].say(f"signal {DOMAIN} {WORKFLOW} last z").startswith("ok"))
+    expect("and all members have the same again", network.settle() and same(network, ["A", "B", "C"]))
+
+
 def strangers(network):
     a = network.nodes["A"]
     network.ask("B", "A")
@@ -90,13 +124,15 @@ def strangers(network):
 
 
 def main():
-    network = Network(sys.argv[1], ["A", "B", "C"])
-    losses(network)
-    partition(network)
-    handover(network)
-    late_member(network)
-    strangers(network)
-    expect("all nodes end", network.close() == [0, 0, 0])
+    with tempfile.TemporaryDirectory() as stores:
+        network = Network(os.path.abspath(sys.argv[1]), ["A", "B", "C"], stores=stores)
+        losses(network)
+        partition(network)
+        handover(network)
+        late_member(network)
+        restart(network)
+        strangers(network)
+        expect("all nodes end", network.close() == [0, 0, 0])
 
 
 if __name__ == "__main__":

@@ -1,12 +1,47 @@
+ghost use Rattle.std.specs.Prelude.{◌<◌, All, IfOk};
+ghost use Rattle.ndc_domain.specs.Clusters.{count_of};
+
 use crate::error::CallError;
 use crate::node::Node;
 use ndc_domain::{
-    ClusterNo, DomainError, DomainTable, FailoverError, JoinError, Members, RetainError,
+    ClusterNo, Clusters, DomainError, DomainTable, FailoverError, JoinError, Members, RetainError,
 };
 use ndc_event::{Name, OutOfMemory};
+use std::alloc::Global;
 
 /// How often the configuration of a domain may change.
 const MAX_CONFIG: u64 = 100_000;
+
+/// Those of these members that are clusters, in order.
+fn clusters_among(
+    alloc: Global,
+    clusters: &Clusters,
+    members: Members,
+) -> Result<Vec<ClusterNo>, OutOfMemory>
+    ensures { IfOk result (λ list. All (λ one. one.number < count_of clusters.now) list.items) }
+{
+    let mut known = Vec::new(alloc);
+    for number in 0..clusters.count() {
+        let cluster = ClusterNo { number };
+        if members.has(cluster) {
+            known.push(cluster)?;
+        }
+    }
+    Ok(known)
+}
+
+/// Those of these members that are clusters.
+fn known_members(
+    alloc: Global,
+    clusters: &Clusters,
+    members: Members,
+) -> Result<Members, OutOfMemory>
+    ensures { IfOk result (λ known. All (λ member. member < count_of clusters.now) known) }
+{
+    let list = clusters_among(alloc, clusters, members)?;
+    let _count = clusters.count();
+    Ok(Members::of(list.as_slice()))
+}
 
 impl Node {
     /// Registers a domain, as [`DomainTable::register`] does, at this cluster: the version of its record. Members that are
@@ -31,7 +66,7 @@ impl Node {
         days: u32,
         members: Members,
     ) -> Result<u64, CallError<DomainError>> {
-        let members = self.known_members(members)?;
+        let members = known_members(self.alloc, &self.clusters, members)?;
         let version = match self
             .table
             .register(&self.clusters, self.me, domain, target, days, members)
@@ -42,18 +77,6 @@ impl Node {
         };
         self.records_changed();
         Ok(version)
-    }
-
-    /// Those of these members that are clusters.
-    fn known_members(&self, members: Members) -> Result<Members, OutOfMemory> {
-        let mut known = Vec::new(self.alloc);
-        for number in 0..self.clusters.count() {
-            let cluster = ClusterNo { number };
-            if members.has(cluster) {
-                known.push(cluster)?;
-            }
-        }
-        Ok(Members::of(known.as_slice()))
     }
 
     /// Changes a domain's retention in days at the primary cluster: the new config version of its record.

@@ -81,6 +81,8 @@ pub enum CallError<E> {
     Spent,
     /// A reader knows more of what this node has given out than the node itself: it writes nothing.
     BehindItsPast,
+    /// The node was loaded, and not all other nodes have polled since: they would tell what it lacks of its own past.
+    Awaiting,
     /// There is no room for more.
     Full,
     /// The call is refused.

@@ -230,7 +230,7 @@ impl Node {
                     place: promised.place,
                 });
             }
-            shard += 1;
+            shard = shard.saturating_add(1);
         }
         Ok(())
     }

@@ -243,6 +243,9 @@ impl Node {
         if self.is_behind {
             return Err(CallError::BehindItsPast);
         }
+        if self.peers.iter().any(|peer| peer.is_awaited) {
+            return Err(CallError::Awaiting);
+        }
         self.is_spent = true;
         Ok(())
     }

@@ -19,6 +19,8 @@ pub(crate) struct Peer {
     pub(crate) same_reports: bool,
     /// The greatest frame that the other node takes.
     pub(crate) largest: u64,
+    /// Whether the other node has not polled since this one was loaded.
+    pub(crate) is_awaited: bool,
 }
 
 /// The greatest frame that is sent to a node that has not said yet what it takes.
@@ -34,6 +36,7 @@ impl Drop for Peer {
             same_records: _same_records,
             same_reports: _same_reports,
             largest: _largest,
+            is_awaited: _is_awaited,
         } = self;
     }
 }
@@ -63,6 +66,7 @@ impl Peer {
             same_records: false,
             same_reports: false,
             largest: FIRST_LARGEST,
+            is_awaited: false,
         })
     }
 

@@ -104,6 +104,7 @@ impl Node {
             return Ok(());
         };
         peer.largest = poll.largest;
+        peer.is_awaited = false;
         for domain in poll.all.as_slice() {
             if has_name(peer.owes.as_slice(), domain) {
                 drop_name(&mut peer.owes, domain);

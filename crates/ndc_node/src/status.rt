@@ -90,6 +90,22 @@ impl Node {
     /// The caller vouches that the node has all that it has given out, whatever readers tell: it writes again.
     pub fn force(&mut self) {
         self.is_behind = false;
+        for peer in self.peers.as_mut_slice() {
+            peer.is_awaited = false;
+        }
+    }
+
+    /// The node was made again as it was once: it writes when all other nodes have polled, since each of them tells where it
+    /// knows more of this node than the node itself; or when the caller vouches for it ([`Node::force`]).
+    pub fn loaded(&mut self) {
+        let me = self.me.number as usize;
+        for place in 0..self.peers.len() {
+            if place != me {
+                if let Some(peer) = self.peers.get_mut(place) {
+                    peer.is_awaited = true;
+                }
+            }
+        }
     }
 
     /// Lets go of a letter, by its place. What was told with it stays held, so that its source drops nothing from there on.

@@ -85,6 +85,7 @@ impl Answer {
         match error {
             CallError::Spent => self.say(b"refused Spent")?,
             CallError::BehindItsPast => self.say(b"refused BehindItsPast")?,
+            CallError::Awaiting => self.say(b"refused Awaiting")?,
             CallError::Full => self.say(b"refused Full")?,
             CallError::Memory => self.say(b"refused Memory")?,
             CallError::Refused(_) => return Ok(false),

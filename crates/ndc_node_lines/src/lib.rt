@@ -10,3 +10,4 @@ mod telling;
 mod words;
 
 pub use session::{OpenError, Session};
+pub use words::may_change;

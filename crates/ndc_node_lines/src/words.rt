@@ -31,3 +31,25 @@ pub(crate) fn with_cluster(
     text.extend_from_slice(b"\n")?;
     Ok(text)
 }
+
+/// The first words of lines that change nothing.
+const READING: [&[u8]; 12] = [
+    b"ask",
+    b"branches",
+    b"current",
+    b"domain",
+    b"dump",
+    b"gaps",
+    b"history",
+    b"letters",
+    b"members",
+    b"progress",
+    b"state",
+    b"status",
+];
+
+/// Whether a line may change the node that it is given to.
+pub fn may_change(line: &[u8]) -> bool {
+    let (word, _) = split_word(line);
+    !READING.iter().any(|one| *one == word)
+}
