@@ -22,6 +22,7 @@ pub use ndc_model_sets::{Batches, BranchView, BranchViews, RunStatus, RunView, R
 pub use ndc_resend::GapOf;
 pub use ndc_shard_workflows::{Admission, AdmitError, NotAdmitted, NotWritten, SetAside, Terms};
 pub use shard::Shard;
+pub use showing::Waits;
 pub use trying::{Reapplied, Skipped};
 
 /// A cluster whose cells are shards.

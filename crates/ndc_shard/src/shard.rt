@@ -6,7 +6,7 @@ ghost use Rattle.ndc_shard.specs.Again.{AreReappliedOf};
 use crate::asking::{as_command_error, batches_of, place_of, push_batches, refuses, version_of};
 use ndc_cluster::{Desk, Home};
 use ndc_command::{Command, CommandError, Refusal};
-use ndc_event::{Batch, Name, OutOfMemory};
+use ndc_event::{Batch, BatchKey, Name, OutOfMemory};
 use ndc_model_cells::{Message, Place};
 use ndc_model_sets::Batches;
 use ndc_shard_entries::{Entry, command_entry, reapplication_entry, reset_entries, unless_behind};
@@ -75,6 +75,7 @@ impl Shard {
     ghost use Rattle.ndc_model_cells.specs.Cells.{IsCell};
     ghost use Rattle.ndc_shard.specs.Sent.{HasCarrier};
     ghost use Rattle.ndc_shard_workflows.specs.Workflow.{IsWorkflow};
+    ghost use Rattle.ndc_shard_workflows.specs.Forgetting.{is_put_off, IsForgotten};
     ghost use Rattle.ndc_shard_workflows.specs.Workflows.{IsAdmittedTo};
     ghost use Rattle.ndc_shard_workflows.specs.declared.admission.AdmitError.TheVariants.{Memory as OutOfMemory, Spent};
     ghost use Rattle.ndc_model_sets.specs.Sound.{IsSound};
@@ -234,6 +235,27 @@ impl Shard {
                 Err(AdmitError::Spent)
             }
         }
+    }
+
+    /// Drops the message of a workflow that has a batch of this key, its own or the one that it carries, where it is put off:
+    /// whether there was one. What waits for it waits on. What is learned and what was written stays, and all other workflows
+    /// stay as they are. In time of what is put off of the workflow. For want of memory nothing changes.
+    pub fn forget(
+        &mut self,
+        domain: &Name,
+        workflow: &Name,
+        key: BatchKey,
+    ) -> Result<bool, OutOfMemory>
+        ensures dropped { IfOk result (λ dropped. dropped ≡ is_put_off key (workflow_of domain.now workflow.now self.old)) }
+        ensures forgotten { OnOk result (IsForgotten domain.now workflow.now key self.old self.new) }
+        ensures learned { (d w : Text) → learned_of d w self.new ≡ learned_of d w self.old }
+        ensures written { self.new.written ≡ self.old.written }
+        ensures unchanged { OnErr result (self.new ≡ self.old) }
+    {
+        self.workflows.is_in_order();
+        let dropped = self.workflows.forget(self.alloc, domain, workflow, key)?;
+        self.workflows.is_in_order();
+        Ok(dropped)
     }
 
     /// Writes an entry: its batches are learned in their workflow, and its message goes last among those written. For want of
