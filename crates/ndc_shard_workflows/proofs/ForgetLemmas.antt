@@ -349,3 +349,29 @@ kept-last key all left kept e so = so.kept_are ∙ ap (but_for key) (by so.carri
     by (Some x) back split f = absurd (cc)
     by None [] split f = sym (append-nil so.front) ∙ sym split
     by None (sent ∷ back) split f = absurd (cc)
+
+-- ---- what comes of the call
+
+-- a message was dropped in a workflow, or for want of memory it is as it was
+pub own-forgotten : {A E : Type 0} (r : Result A E) (domain workflow : Name) (key : BatchKey) (old new : WorkflowValue) → OnOk r (new ≡ without key old) → OnErr r (new ≡ old) → IsOwn domain workflow old
+    → IsOwn domain workflow new
+own-forgotten (Ok x) domain workflow key old new ok err own = subst (IsOwn domain workflow) (sym ok) (own-without key domain workflow old own)
+own-forgotten (Err x) domain workflow key old new ok err own = subst (IsOwn domain workflow) (sym err) own
+
+pub due-left : {A E : Type 0} (r : Result A E) (domain workflow : Name) (key : BatchKey) (old new : Cell) (list : List (Name × Name)) → OnOk r (IsForgotten domain workflow key old new)
+    → OnErr r (new ≡ old) → IsWorkflow (workflow_of domain workflow old) → HoldDue list old → HoldDue list new
+due-left (Ok x) domain workflow key old new list ok err is hold = hold-forgotten domain workflow key old new ok is list hold
+due-left (Err x) domain workflow key old new list ok err is hold = subst (HoldDue list) (sym err) hold
+
+pub behind-left : {A E : Type 0} (r : Result A E) (domain workflow : Name) (key : BatchKey) (old new : Cell) (list : List (Name × Name)) → OnOk r (IsForgotten domain workflow key old new)
+    → OnErr r (new ≡ old) → IsWorkflow (workflow_of domain workflow old) → HoldBehind list old → HoldBehind list new
+behind-left (Ok x) domain workflow key old new list ok err is hold = behind-forgotten domain workflow key old new ok is list hold
+behind-left (Err x) domain workflow key old new list ok err is hold = subst (HoldBehind list) (sym err) hold
+
+pub ok-then : {A E : Type 0} (r : Result A E) (P Q : Type 0) → (P → Q) → OnOk r P → OnOk r Q
+ok-then (Ok x) P Q f p = f p
+ok-then (Err x) P Q f p = tt
+
+pub err-then : {A E : Type 0} (r : Result A E) (P Q : Type 0) → (P → Q) → OnErr r P → OnErr r Q
+err-then (Ok x) P Q f p = tt
+err-then (Err x) P Q f p = f p

@@ -1,0 +1,26 @@
+use Rattle.std.proofs.Common.{◌≡◌, ◌++◌, [], ◌∷◌, List, Some, refl, sym, ◌∙◌, subst, ap}
+use Rattle.ndc_event.specs.declared.batch.Batch.{Batch}
+use Rattle.ndc_model_cells.specs.Writing.{Entry, reapplication_of}
+use Rattle.ndc_shard.proofs.LoneLemmas.{again_lone}
+use Rattle.ndc_shard.proofs.TriedLemmas.{again-all, again-alone, again-done, again-full, again-large, again-passed, again-placed, again-planned, none-applied, none-placed}
+use Rattle.ndc_shard.proofs.TryLemmas.{entry-made, entry-message}
+use Rattle.ndc_shard.specs.Answers.{names_of}
+use Rattle.ndc_shard.specs.Trying.{Standing}
+use Rattle.ndc_shard.proofs.shard.Shard.try_reapply_in.Goals as goal
+
+pub try_write-requires-clause-message : goal.try_write-requires-clause-message
+try_write-requires-clause-message g c =
+    entry-message _ c.args.domain.now c.args.workflow.now c.in-Some.entry
+    (again-planned c.args.desk.now c.args.domain.now c.args.workflow.now c.may_apply.new.self c.reapplication.new.self c.in_ok-entry.field-0 c.in-Some.entry c.in_ok-entry.ensures.same c.in-Some.is
+    c.in_ok-entry.ensures.entry c.in_ok-entry.ensures.fit)
+
+pub try_write-requires-clause-made : goal.try_write-requires-clause-made
+try_write-requires-clause-made g c =
+    entry-made _ c.args.domain.now c.args.workflow.now c.in-Some.entry
+    (again-planned c.args.desk.now c.args.domain.now c.args.workflow.now c.may_apply.new.self c.reapplication.new.self c.in_ok-entry.field-0 c.in-Some.entry c.in_ok-entry.ensures.same c.in-Some.is
+    c.in_ok-entry.ensures.entry c.in_ok-entry.ensures.fit)
+    (c.has_small_ids.ensures.small c.if-not-has_small_ids.false)
+
+pub try_write-requires-clause-lone : goal.try_write-requires-clause-lone
+try_write-requires-clause-lone g c =
+    again_lone c.args.desk.now c.args.domain.now c.args.workflow.now c.may_apply.new.self c.in_ok-entry.field-0 c.in-Some.entry c.in-Some.is c.in_ok-entry.ensures.entry
