@@ -82,12 +82,14 @@ module _ (key : BatchKey) where
   -- none has the key
   pub but-none : (messages : List Message) → has_key (Some key) (batches_of messages) ≡ false → but_for key messages ≡ messages
   but-none [] e = refl
-  but-none (sent ∷ messages) e = by (Has sent) (has_key (Some key) (batches_of messages)) refl (sym (has-append key (both sent) (batches_of messages)) ∙ e)
+  but-none (sent ∷ messages) e =
+      by (Has sent) (has_key (Some key) (batches_of messages)) refl (sym (has-append key (both sent) (batches_of messages)) ∙ e) (λ f. but-none messages f)
     where
-      by : (t u : Bool) → has_key (Some key) (batches_of messages) ≡ u → (t || u) ≡ false → cond (not t) (sent ∷ but_for key messages) (but_for key messages) ≡ sent ∷ messages
-      by true u f h = absurd (true≢false h)
-      by false true f h = absurd (true≢false h)
-      by false false f h = ap (λ (l : List Message). sent ∷ l) (but-none messages f)
+      by : (t u : Bool) → has_key (Some key) (batches_of messages) ≡ u → (t || u) ≡ false → (has_key (Some key) (batches_of messages) ≡ false → but_for key messages ≡ messages)
+          → cond (not t) (sent ∷ but_for key messages) (but_for key messages) ≡ sent ∷ messages
+      by true u f h rest = absurd (true≢false h)
+      by false true f h rest = absurd (true≢false h)
+      by false false f h rest = ap (λ (l : List Message). sent ∷ l) (rest f)
 
   -- ---- a workflow
 
