@@ -225,7 +225,7 @@ module _ (b : Batch) (old new : Cell) (grows : ComesFrom (learned_of b.domain b.
     where
       by : (t : Bool) → is_of d w b ≡ t → P (workflow_of d w old) (workflow_of d w new)
       by true e =
-          let names = names-of d w sent.batch e in
+          let names = names-of d w b e in
           subst (λ (n : Name). P (workflow_of n w old) (workflow_of n w new)) names.0 (subst (λ (n : Name). P (workflow_of b.domain n old) (workflow_of b.domain n new)) names.1 own)
       by false e = subst (P (workflow_of d w old)) (sym (others d w e)) (other (workflow_of d w old) refl)
 

@@ -1,5 +1,7 @@
 // Reapplication in a shard of which nobody vouches.
-ghost use Rattle.std.specs.Prelude.{◌≡◌, true, false, IfOk};
+ghost use Rattle.std.specs.Prelude.{◌≡◌, ◌≢◌, true, false, IfOk};
+ghost use Rattle.ndc_shard.specs.declared.error.TryError.TheVariants.{NotWritten as Passed};
+ghost use Rattle.ndc_shard_workflows.specs.declared.admission.NotWritten.TheVariants.{Memory};
 ghost use Rattle.ndc_shard.specs.Answers.{names_of};
 ghost use Rattle.ndc_shard.specs.Trying.{LeavesRoom};
 
@@ -53,6 +55,19 @@ fn have_room(runs: &Runs) -> bool
     match runs.state() {
         Some(state) => state.next() <= MOST_ID,
         None => true,
+    }
+}
+
+/// Why a workflow is passed over to which nothing is written; for want of memory it is not.
+fn passed_over(cause: NotWritten) -> Result<TryError, OutOfMemory>
+    ensures told { IfOk result (λ why. why ≡ Passed cause) }
+    ensures calm { IfOk result (λ _. cause ≢ Memory) }
+{
+    match cause {
+        NotWritten::Rival { .. } | NotWritten::Awaited { .. } | NotWritten::Misfit(_) => {
+            Ok(TryError::NotWritten(cause))
+        }
+        NotWritten::Memory => Err(AllocError),
     }
 }
 
@@ -127,8 +142,10 @@ impl Shard {
         written.reserve(1)?;
         match self.try_write(&entry, steps) {
             Ok(()) => {}
-            Err(NotWritten::Memory) => return Err(AllocError),
-            Err(cause) => return Ok(Some(TryError::NotWritten(cause))),
+            Err(cause) => {
+                let why = passed_over(cause)?;
+                return Ok(Some(why));
+            }
         }
         written.push_reserved(place);
         Ok(None)
