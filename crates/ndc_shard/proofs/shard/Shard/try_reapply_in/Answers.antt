@@ -36,20 +36,13 @@ returns-clause-places g c =
     (c.push_reserved.ensures.items ∙ ap (λ (l : List Standing). l ++ c.in_ok-place.place ∷ []) c.in_ok-reserve.ensures.items
     ∙ ap (λ (p : Standing). c.args.written.now.items ++ p ∷ []) (c.in_ok-place.ensures ∙ ap names_of c.batch.ensures))
 
-pub returns-in_ok-why-in-Err : goal.returns-in_ok-why-in-Err
-returns-in_ok-why-in-Err g c =
+pub returns-in-Err-clause-why : goal.returns-in-Err-clause-why
+returns-in-Err-clause-why g c =
     let all : reapplication_of c.args.desk.now c.args.domain.now c.args.workflow.now c.args.self.now ≡ c.in-Some.entry ∷ [] =
     again-all c.args.desk.now c.args.domain.now c.args.workflow.now c.args.self.now c.in_ok-entry.field-0 c.in-Some.entry c.in-Some.is
     (c.in_ok-entry.ensures.entry ∙ ap (reapplication_of c.args.desk.now c.args.domain.now c.args.workflow.now) c.in_ok-may_apply.ensures.same) in
-    record {
-      cell = tt;
-      places = tt;
-      why = subst (λ (why : TryError). IsPassedOver why c.args.desk.now (c.args.domain.now, c.args.workflow.now) c.args.self.now) (sym c.in_ok-why.ensures.told)
-          (again-passed c.in-Err.cause c.args.desk.now c.args.domain.now c.args.workflow.now c.args.self.now c.reapplication.new.self c.in-Some.entry c.in_ok-why.ensures.calm
-          (c.in_ok-entry.ensures.same ∙ c.in_ok-may_apply.ensures.same)
-          (again-planned c.args.desk.now c.args.domain.now c.args.workflow.now c.may_apply.new.self c.reapplication.new.self c.in_ok-entry.field-0 c.in-Some.entry c.in_ok-entry.ensures.same c.in-Some.is
-          c.in_ok-entry.ensures.entry c.in_ok-entry.ensures.fit) all c.in-Err.ensures.refused);
-      none = c.in_ok-reserve.ensures.items;
-      same = c.in-Err.ensures.err ∙ c.in_ok-entry.ensures.same ∙ c.in_ok-may_apply.ensures.same;
-      err = tt;
-    }
+    subst (λ (why : TryError). IsPassedOver why c.args.desk.now (c.args.domain.now, c.args.workflow.now) c.args.self.now) (sym c.in_ok-why-in-Err.ensures.told)
+    (again-passed c.in-Err.cause c.args.desk.now c.args.domain.now c.args.workflow.now c.args.self.now c.reapplication.new.self c.in-Some.entry c.in_ok-why-in-Err.ensures.calm
+    (c.in_ok-entry.ensures.same ∙ c.in_ok-may_apply.ensures.same)
+    (again-planned c.args.desk.now c.args.domain.now c.args.workflow.now c.may_apply.new.self c.reapplication.new.self c.in_ok-entry.field-0 c.in-Some.entry c.in_ok-entry.ensures.same c.in-Some.is
+    c.in_ok-entry.ensures.entry c.in_ok-entry.ensures.fit) all c.in-Err.ensures.refused)
