@@ -3,6 +3,8 @@
 #![tactic(auto)]
 
 #[cfg(test)]
+mod dropped;
+#[cfg(test)]
 mod faults;
 #[cfg(test)]
 mod misfits;

@@ -4,7 +4,7 @@ ghost use Rattle.ndc_domain.specs.Clusters.{count_of};
 
 use crate::texts::{key, signaled};
 use ndc_admission::MessageFault;
-use ndc_command::Command;
+use ndc_command::{Actions, Command};
 use ndc_domain::{ClusterNo, Clusters, DomainTable, Members};
 use ndc_event::{BatchKey, Name, OutOfMemory};
 use ndc_model_cells::Message;
@@ -265,6 +265,81 @@ impl Scene {
             push_key(&mut text, "", waits)?;
             push_key(&mut text, " for ", missing)?;
             text.push_str(";")?;
+        }
+        Ok(text)
+    }
+
+    /// The decision that the cell has started is completed with nothing.
+    pub(crate) fn complete(&mut self) -> Result<Written, Fail> {
+        let actions = Actions::new(Vec::new(self.alloc));
+        let written = self.ask(&Command::Respond { actions })?;
+        Ok(written)
+    }
+
+    /// A new run repeats the current one up to an event: the keys of what is written, or why nothing is.
+    pub(crate) fn reset(&mut self, event: u64) -> Result<Written, TryError> {
+        let home = Home {
+            clusters: &self.clusters,
+            me: A,
+            limit: 100,
+        };
+        let mut steps: Steps<Counted> = Steps::new();
+        self.shard.try_reset(
+            &home,
+            &self.records,
+            &self.domain,
+            &self.workflow,
+            event,
+            &mut steps,
+        )
+    }
+
+    /// Strays are applied again: the keys of what is written, and then why a workflow is passed over.
+    pub(crate) fn reapplied(&mut self) -> Result<String, Fail> {
+        let home = Home {
+            clusters: &self.clusters,
+            me: A,
+            limit: 100,
+        };
+        let mut steps: Steps<Counted> = Steps::new();
+        let told = self.shard.try_reapply(&home, &self.records, &mut steps)?;
+        let mut text = String::new(self.alloc);
+        for (_, _, key) in told.written.as_slice() {
+            push_key(&mut text, "written ", *key)?;
+        }
+        for one in told.skipped.as_slice() {
+            let cause = one.cause;
+            write!(text, "passed over: {cause:?}")?;
+        }
+        Ok(text)
+    }
+
+    /// Whether a message that waits was dropped by the key of one of its batches.
+    pub(crate) fn forget(&mut self, key: BatchKey) -> Result<bool, Fail> {
+        let dropped = self.shard.forget(&self.domain, &self.workflow, key)?;
+        Ok(dropped)
+    }
+
+    /// Whether the workflow tells of a batch of A that the cell has not learned.
+    pub(crate) fn lacks_own(&self) -> Result<bool, Fail> {
+        let terms = Terms {
+            clusters: &self.clusters,
+            me: A,
+            recall: false,
+            may_wait: true,
+        };
+        let lacks = self.shard.lacks_own(&terms, &self.domain, &self.workflow)?;
+        Ok(lacks)
+    }
+
+    /// How many messages wait, and since which batch, workflow by workflow.
+    pub(crate) fn counted(&self) -> Result<String, Fail> {
+        let mut text = String::new(self.alloc);
+        let list = self.shard.waiting()?;
+        for one in list.as_slice() {
+            let count = one.count;
+            write!(text, "{count}")?;
+            push_key(&mut text, " since ", one.since.key)?;
         }
         Ok(text)
     }
