@@ -84,7 +84,7 @@ impl Node {
             clusters: &self.clusters,
             me: self.me,
             recall: false,
-            may_wait: true,
+            may_wait: seat.waiting < self.bounds.waiting,
         };
         let mut steps: Steps<Learning> = Steps::new();
         match seat.cell.admit(&terms, message, &mut steps) {
@@ -92,12 +92,16 @@ impl Node {
             Ok(Admission::Refused { cause }) => Ok(Some(cause)),
             Ok(Admission::Known) => Ok(None),
             Ok(Admission::PutOff { .. }) => {
+                seat.waiting = seat.waiting.saturating_add(1);
                 heard.put_off = heard.put_off.saturating_add(1);
                 heard.changed = true;
                 Ok(None)
             }
             Ok(Admission::Learned { batches, aside }) => {
                 heard.changed = true;
+                if batches.as_slice().len() > 1 || !aside.is_empty() {
+                    seat.count_waiting()?;
+                }
                 self.let_go(shard, batches.as_slice());
                 let mut batches = batches.into_vec();
                 heard.learned.append(&mut batches)?;

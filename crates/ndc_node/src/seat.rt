@@ -17,6 +17,8 @@ pub(crate) struct Seat {
     pub(crate) cell: Shard,
     pub(crate) queue: Queue,
     pub(crate) levels: ToldLevels,
+    /// How many messages are put off in the cell.
+    pub(crate) waiting: u64,
 }
 
 impl Drop for Seat {
@@ -25,6 +27,7 @@ impl Drop for Seat {
             cell: _cell,
             queue: _queue,
             levels: _levels,
+            waiting: _waiting,
         } = self;
     }
 }
@@ -36,7 +39,21 @@ impl Seat {
             cell: Shard::new(alloc, home)?,
             queue: Queue::new(alloc),
             levels: ToldLevels::new(alloc, 0, readers)?,
+            waiting: 0,
         })
+    }
+
+    /// Counts the messages that are put off anew, where some of those that were may not be any more.
+    pub(crate) fn count_waiting(&mut self) -> Result<(), OutOfMemory> {
+        if self.waiting == 0 {
+            return Ok(());
+        }
+        let mut count: u64 = 0;
+        for one in self.cell.waiting()? {
+            count = count.saturating_add(one.count as u64);
+        }
+        self.waiting = count;
+        Ok(())
     }
 
     /// Puts the message of a batch that was written at the end of the queue.

@@ -4,7 +4,6 @@ use crate::heard::Heard;
 use crate::letter::Letter;
 use crate::node::Node;
 use ndc_domain::ClusterNo;
-use ndc_event::OutOfMemory;
 use std::mem;
 
 /// How far a shard of a node has come.
@@ -16,8 +15,8 @@ pub struct ShardStatus {
     pub dropped: u64,
     /// The least level that a reader has told: what may be dropped. None where there is no other node.
     pub least: Option<u64>,
-    /// How many batches are put off.
-    pub put_off: usize,
+    /// How many messages are put off.
+    pub put_off: u64,
 }
 
 /// How far a node has come with a source.
@@ -36,17 +35,15 @@ pub struct PeerStatus {
 }
 
 impl Node {
-    /// How far a shard has come. None where there is no such shard.
-    pub fn shard_status(&self, shard: u32) -> Result<Option<ShardStatus>, OutOfMemory> {
-        let Some(seat) = self.seats.get(shard as usize) else {
-            return Ok(None);
-        };
-        Ok(Some(ShardStatus {
+    /// How far a shard has come. None where there is no such shard. Takes no memory.
+    pub fn shard_status(&self, shard: u32) -> Option<ShardStatus> {
+        let seat = self.seats.get(shard as usize)?;
+        Some(ShardStatus {
             entries: seat.queue.len(),
             dropped: seat.queue.first(),
             least: seat.levels.trim_level(),
-            put_off: seat.cell.gaps()?.len(),
-        }))
+            put_off: seat.waiting,
+        })
     }
 
     /// How far the node has come with a shard of a source. None where there is no such cluster or shard. Takes no memory.

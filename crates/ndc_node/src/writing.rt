@@ -138,7 +138,11 @@ impl Node {
     ) -> Result<bool, CallError<NoRefusal>> {
         let shard = self.shard_of(domain, workflow);
         match self.seats.get_mut(shard as usize) {
-            Some(seat) => Ok(seat.cell.forget(domain, workflow, key)?),
+            Some(seat) => {
+                let dropped = seat.cell.forget(domain, workflow, key)?;
+                seat.count_waiting()?;
+                Ok(dropped)
+            }
             None => Ok(false),
         }
     }

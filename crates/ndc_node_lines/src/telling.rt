@@ -261,7 +261,7 @@ fn status(node: &Node, answer: &mut Answer) -> Result<(), OutOfMemory> {
 
 /// How far a shard has come: its queue, and each source's.
 fn shard_status(node: &Node, shard: u32, answer: &mut Answer) -> Result<(), OutOfMemory> {
-    if let Some(status) = node.shard_status(shard)? {
+    if let Some(status) = node.shard_status(shard) {
         answer.push(b"shard")?;
         answer.push_number(u64::from(shard))?;
         answer.push(b" entries")?;
@@ -269,7 +269,7 @@ fn shard_status(node: &Node, shard: u32, answer: &mut Answer) -> Result<(), OutO
         answer.push(b" dropped")?;
         answer.push_number(status.dropped)?;
         answer.push(b" put_off")?;
-        answer.push_number(status.put_off as u64)?;
+        answer.push_number(status.put_off)?;
         answer.end()?;
     }
     for number in 0..node.clusters().count() {
