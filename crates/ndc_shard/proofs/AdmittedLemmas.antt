@@ -33,13 +33,16 @@ use Rattle.ndc_shard_waiting.proofs.OrderLemmas.{all-back, all-front, all-two, r
 use Rattle.ndc_shard_waiting.specs.Learning.{ArePutOff, with_message, with_messages}
 use Rattle.ndc_shard_waiting.specs.Waiting.{CanWait}
 use Rattle.ndc_shard_workflows.proofs.AdmittedLemmas.{admitted-lone, all-known}
+use Rattle.ndc_shard_workflows.proofs.ForgetLemmas.{forgotten-learned, named_batch}
+use Rattle.ndc_shard_workflows.proofs.OwnLemmas.{all-filtered}
 use Rattle.ndc_shard_workflows.proofs.SameLemmas.{names-of}
 use Rattle.ndc_shard_workflows.specs.Admitting.{IsLone}
 use Rattle.ndc_shard_workflows.specs.Arriving.{AreArriving, ComesFrom}
+use Rattle.ndc_shard_workflows.specs.Forgetting.{IsForgotten}
 use Rattle.ndc_shard_workflows.specs.Messages.{own_message_of}
 use Rattle.ndc_shard_workflows.specs.Terms.{TermsValue}
 use Rattle.ndc_shard_workflows.specs.Workflow.{IsWorkflow, beside}
-use Rattle.ndc_shard_workflows.specs.Workflows.{IsAdmittedTo, IsHandedTo}
+use Rattle.ndc_shard_workflows.specs.Workflows.{IsAdmittedTo, IsHandedTo, OthersStay}
 use Rattle.ndc_shard_workflows.specs.declared.admission.Admission.{Admission}
 use Rattle.ndc_shard_workflows.specs.declared.admission.Admission.TheVariants as admission
 use Rattle.ndc_shard_workflows.specs.declared.admission.NotAdmitted.TheVariants as refused
@@ -204,41 +207,40 @@ module _ (before after : WorkflowValue) (is : IsWorkflow before) (then_is : IsWo
 
 -- ---- a cell, before and after
 
-module _ (terms : TermsValue) (sent : Message) (told : Admission) (old new : Cell) (admitted : IsHandedTo terms sent told old new) (is : IsCell old) (then_is : IsCell new)
-    (workflows : (d w : Name) → IsWorkflow (workflow_of d w old)) (workflows_then : (d w : Name) → IsWorkflow (workflow_of d w new)) (sound : IsSound (learned_of sent.batch.domain sent.batch.workflow old)) (places : List Place) (are : AreSent places old) where
-  abbrev Here : Name → Name → Type 0
-  Here d w = is_of d w sent.batch ≡ true
+-- what waits in a workflow is carried by none
+pub lone-of : (places : List Place) (cell : Cell) → AreSent places cell → (d w : Name) → AllByRecursion IsLone (workflow_of d w cell).waiting
+lone-of places cell are d w = all-from IsLone (workflow_of d w cell).waiting (λ m among. all-among IsLone cell.waiting m are.lone (filter-among (λ (x : Message). is_of d w x.batch) cell.waiting m among).1)
 
-  -- what waits in a workflow is carried by none
+-- in the workflow of a batch what is learned came from what was learned, what waits there is carried by none, and each other workflow is as it was
+module _ (b : Batch) (old new : Cell) (grows : ComesFrom (learned_of b.domain b.workflow old) (learned_of b.domain b.workflow new)) (others : OthersStay b old new)
+    (own_lone : AllByRecursion IsLone (workflow_of b.domain b.workflow new).waiting) (is : IsCell old) (then_is : IsCell new)
+    (workflows : (d w : Name) → IsWorkflow (workflow_of d w old)) (workflows_then : (d w : Name) → IsWorkflow (workflow_of d w new)) (sound : IsSound (learned_of b.domain b.workflow old)) (places : List Place) (are : AreSent places old) where
   lone-in : (d w : Name) → AllByRecursion IsLone (workflow_of d w old).waiting
-  lone-in d w = all-from IsLone (workflow_of d w old).waiting (λ m among. all-among IsLone old.waiting m are.lone (filter-among (λ (x : Message). is_of d w x.batch) old.waiting m among).1)
+  lone-in = lone-of places old are
 
-  own-lone : AllByRecursion IsLone (workflow_of sent.batch.domain sent.batch.workflow new).waiting
-  own-lone = admitted-lone terms sent told (workflow_of sent.batch.domain sent.batch.workflow old) (workflow_of sent.batch.domain sent.batch.workflow new) admitted.own (lone-in sent.batch.domain sent.batch.workflow)
-
-  -- of a workflow, by whether it is the message's
-  by-workflow : (P : WorkflowValue → WorkflowValue → Type 0) (d w : Name) → P (workflow_of sent.batch.domain sent.batch.workflow old) (workflow_of sent.batch.domain sent.batch.workflow new)
+  -- of a workflow, by whether it is the batch's
+  by-workflow : (P : WorkflowValue → WorkflowValue → Type 0) (d w : Name) → P (workflow_of b.domain b.workflow old) (workflow_of b.domain b.workflow new)
       → ((v : WorkflowValue) → workflow_of d w old ≡ v → P v v) → P (workflow_of d w old) (workflow_of d w new)
-  by-workflow P d w own other = by (is_of d w sent.batch) refl
+  by-workflow P d w own other = by (is_of d w b) refl
     where
-      by : (t : Bool) → is_of d w sent.batch ≡ t → P (workflow_of d w old) (workflow_of d w new)
+      by : (t : Bool) → is_of d w b ≡ t → P (workflow_of d w old) (workflow_of d w new)
       by true e =
-          let names = names-of d w sent.batch e in
-          subst (λ (n : Name). P (workflow_of n w old) (workflow_of n w new)) names.0 (subst (λ (n : Name). P (workflow_of sent.batch.domain n old) (workflow_of sent.batch.domain n new)) names.1 own)
-      by false e = subst (P (workflow_of d w old)) (sym (admitted.others d w e)) (other (workflow_of d w old) refl)
+          let names = names-of d w b e in
+          subst (λ (n : Name). P (workflow_of n w old) (workflow_of n w new)) names.0 (subst (λ (n : Name). P (workflow_of b.domain n old) (workflow_of b.domain n new)) names.1 own)
+      by false e = subst (P (workflow_of d w old)) (sym (others d w e)) (other (workflow_of d w old) refl)
 
   carried-in : (d w : Name) → Carried (arrived_of d w old)
-  carried-in d w b has =
-      let p = filter-among (is_of d w) old.arrived b (has-among (arrived_of d w old) b has) in
-      let names = names-of d w b p.0 in
-      subst (λ (n : Name). IfSome b.carrier (λ key. is_lone (batch_at key (arrived_of n w old)) ≡ true)) names.0
-      (subst (λ (n : Name). IfSome b.carrier (λ key. is_lone (batch_at key (arrived_of b.domain n old)) ≡ true)) names.1 (all-among (HasCarrier old) old.arrived b are.carried p.1))
+  carried-in d w x has =
+      let p = filter-among (is_of d w) old.arrived x (has-among (arrived_of d w old) x has) in
+      let names = names-of d w x p.0 in
+      subst (λ (n : Name). IfSome x.carrier (λ key. is_lone (batch_at key (arrived_of n w old)) ≡ true)) names.0
+      (subst (λ (n : Name). IfSome x.carrier (λ key. is_lone (batch_at key (arrived_of x.domain n old)) ≡ true)) names.1 (all-among (HasCarrier old) old.arrived x are.carried p.1))
 
   carried-new : (d w : Name) → Carried (arrived_of d w new)
   carried-new d w =
       by-workflow (λ x y. Carried x.arrived → Carried y.arrived) d w
-      (carried-then (workflow_of sent.batch.domain sent.batch.workflow old) (workflow_of sent.batch.domain sent.batch.workflow new) (workflows sent.batch.domain sent.batch.workflow)
-      (workflows_then sent.batch.domain sent.batch.workflow) sound (lone-in sent.batch.domain sent.batch.workflow) own-lone admitted.grows)
+      (carried-then (workflow_of b.domain b.workflow old) (workflow_of b.domain b.workflow new) (workflows b.domain b.workflow)
+      (workflows_then b.domain b.workflow) sound (lone-in b.domain b.workflow) own_lone grows)
       (λ v e carried. carried) (carried-in d w)
 
   place-stays : (place : Place) → IsSent old place → message_at new place ≡ message_at old place
@@ -246,35 +248,35 @@ module _ (terms : TermsValue) (sent : Message) (told : Admission) (old new : Cel
       sym (at-place new place)
       ∙ by-workflow (λ x y. is_some (own_message_of x.arrived (batch_at place.key (learned x.arrived))) ≡ true
       → own_message_of y.arrived (batch_at place.key (learned y.arrived)) ≡ own_message_of x.arrived (batch_at place.key (learned x.arrived))) place.domain place.workflow
-      (message-then (workflow_of sent.batch.domain sent.batch.workflow old) (workflow_of sent.batch.domain sent.batch.workflow new) (workflows sent.batch.domain sent.batch.workflow)
-      (workflows_then sent.batch.domain sent.batch.workflow) sound (lone-in sent.batch.domain sent.batch.workflow) own-lone admitted.grows place.key)
+      (message-then (workflow_of b.domain b.workflow old) (workflow_of b.domain b.workflow new) (workflows b.domain b.workflow)
+      (workflows_then b.domain b.workflow) sound (lone-in b.domain b.workflow) own_lone grows place.key)
       (λ v e some. refl) (ap is_some (at-place old place) ∙ is_sent)
       ∙ at-place old place
 
-  pub admitted-messages : (list : List Place) → AllByRecursion (IsSent old) list → messages_at list new ≡ messages_at list old
-  admitted-messages [] all = refl
-  admitted-messages (place ∷ list) all =
-      ap (λ (o : Option Message). cons_option o (messages_at list new)) (place-stays place all.0) ∙ ap (λ (ms : List Message). cons_option (message_at old place) ms) (admitted-messages list all.1)
+  pub others-messages : (list : List Place) → AllByRecursion (IsSent old) list → messages_at list new ≡ messages_at list old
+  others-messages [] all = refl
+  others-messages (place ∷ list) all =
+      ap (λ (o : Option Message). cons_option o (messages_at list new)) (place-stays place all.0) ∙ ap (λ (ms : List Message). cons_option (message_at old place) ms) (others-messages list all.1)
 
   sent-then : (list : List Place) → AllByRecursion (IsSent old) list → AllByRecursion (IsSent new) list
   sent-then [] all = tt
   sent-then (place ∷ list) all = (ap is_some (place-stays place all.0) ∙ all.0, sent-then list all.1)
 
-  pub admitted-sent : AreSent places new
-  admitted-sent = record {
+  pub others-sent : AreSent places new
+  others-sent = record {
     sent = sent-then places are.sent;
-    carried = all-from (HasCarrier new) new.arrived (λ b among. carried-new b.domain b.workflow b (there b among));
+    carried = all-from (HasCarrier new) new.arrived (λ x among. carried-new x.domain x.workflow x (there x among));
     lone = all-from IsLone new.waiting (λ m among. lone-there m (among-filter (λ (x : Message). is_of m.batch.domain m.batch.workflow x.batch) new.waiting m (own-names m.batch) among));
   }
     where
-      there : (b : Batch) → Among b new.arrived → Has (arrived_of b.domain b.workflow new) b
-      there b among =
-          all-among (λ (x : Batch). Has (arrived_of b.domain b.workflow new) x) (arrived_of b.domain b.workflow new) b
-          (all-there (arrived_of b.domain b.workflow new) (set_of_workflow b.domain b.workflow new then_is).ordered) (among-filter (is_of b.domain b.workflow) new.arrived b (own-names b) among)
+      there : (x : Batch) → Among x new.arrived → Has (arrived_of x.domain x.workflow new) x
+      there x among =
+          all-among (λ (y : Batch). Has (arrived_of x.domain x.workflow new) y) (arrived_of x.domain x.workflow new) x
+          (all-there (arrived_of x.domain x.workflow new) (set_of_workflow x.domain x.workflow new then_is).ordered) (among-filter (is_of x.domain x.workflow) new.arrived x (own-names x) among)
 
       lone-there : (m : Message) → Among m (workflow_of m.batch.domain m.batch.workflow new).waiting → IsLone m
       lone-there m among = all-among IsLone (workflow_of m.batch.domain m.batch.workflow new).waiting m
-          (by-workflow (λ x y. AllByRecursion IsLone x.waiting → AllByRecursion IsLone y.waiting) m.batch.domain m.batch.workflow (λ _. own-lone) (λ v e all. all) (lone-in m.batch.domain m.batch.workflow)) among
+          (by-workflow (λ x y. AllByRecursion IsLone x.waiting → AllByRecursion IsLone y.waiting) m.batch.domain m.batch.workflow (λ _. own_lone) (λ v e all. all) (lone-in m.batch.domain m.batch.workflow)) among
 
 -- nothing changed, or the message was handed to its workflow
 told-cases : (terms : TermsValue) (sent : Message) (told : Admission) (old new : Cell) → IsAdmittedTo terms sent told old new → (new ≡ old) ⊎ IsHandedTo terms sent told old new
@@ -291,19 +293,24 @@ told-cases terms sent (admission.Learned batches aside) old new it = inr it.1
 
 module _ (terms : TermsValue) (sent : Message) (told : Admission) (old new : Cell) (admitted : IsAdmittedTo terms sent told old new) (is : IsCell old) (then_is : IsCell new)
     (workflows : (d w : Name) → IsWorkflow (workflow_of d w old)) (workflows_then : (d w : Name) → IsWorkflow (workflow_of d w new)) (sound : (d w : Name) → IsSound (learned_of d w old)) (places : List Place) (are : AreSent places old) where
+  own-lone : IsHandedTo terms sent told old new → AllByRecursion IsLone (workflow_of sent.batch.domain sent.batch.workflow new).waiting
+  own-lone handed =
+      admitted-lone terms sent told (workflow_of sent.batch.domain sent.batch.workflow old) (workflow_of sent.batch.domain sent.batch.workflow new) handed.own
+      (lone-of places old are sent.batch.domain sent.batch.workflow)
+
   pub told-sent : AreSent places new
   told-sent = by (told-cases terms sent told old new admitted)
     where
       by : (new ≡ old) ⊎ IsHandedTo terms sent told old new → AreSent places new
       by (inl same) = subst (AreSent places) (sym same) are
-      by (inr handed) = admitted-sent terms sent told old new handed is then_is workflows workflows_then (sound sent.batch.domain sent.batch.workflow) places are
+      by (inr handed) = others-sent sent.batch old new handed.grows handed.others (own-lone handed) is then_is workflows workflows_then (sound sent.batch.domain sent.batch.workflow) places are
 
   pub told-messages : messages_at places new ≡ messages_at places old
   told-messages = by (told-cases terms sent told old new admitted)
     where
       by : (new ≡ old) ⊎ IsHandedTo terms sent told old new → messages_at places new ≡ messages_at places old
       by (inl same) = ap (messages_at places) same
-      by (inr handed) = admitted-messages terms sent told old new handed is then_is workflows workflows_then (sound sent.batch.domain sent.batch.workflow) places are places are.sent
+      by (inr handed) = others-messages sent.batch old new handed.grows handed.others (own-lone handed) is then_is workflows workflows_then (sound sent.batch.domain sent.batch.workflow) places are places are.sent
 
 -- what comes of a message at a shard, which is seen as its workflows with what it has written
 pub told-having : (terms : TermsValue) (sent : Message) (told : Admission) (old new : Cell) (before after : List Message) → after ≡ before → IsAdmittedTo terms sent told old new
@@ -318,3 +325,24 @@ told-having terms sent (admission.Refused refused.Full) old new before after sam
 told-having terms sent admission.Known old new before after same it = (it.0, record { own = it.1.own; grows = it.1.grows; others = it.1.others })
 told-having terms sent (admission.PutOff missing) old new before after same it = (it.0, record { own = it.1.own; grows = it.1.grows; others = it.1.others })
 told-having terms sent (admission.Learned batches aside) old new before after same it = (it.0, record { own = it.1.own; grows = it.1.grows; others = it.1.others })
+
+-- ---- a message that is put off is dropped
+
+module _ (domain workflow : Name) (key : BatchKey) (old new : Cell) (it : IsForgotten domain workflow key old new) (is : IsCell old) (then_is : IsCell new)
+    (workflows : (d w : Name) → IsWorkflow (workflow_of d w old)) (workflows_then : (d w : Name) → IsWorkflow (workflow_of d w new)) (sound : IsSound (learned_of domain workflow old)) (places : List Place) (are : AreSent places old) where
+  grows-none : ComesFrom (learned_of domain workflow old) (learned_of domain workflow new)
+  grows-none = record { messages = []; are = tt; is = forgotten-learned domain workflow key old new it (workflows domain workflow) domain workflow }
+
+  lone-then : AllByRecursion IsLone (workflow_of domain workflow new).waiting
+  lone-then = subst (λ (w : WorkflowValue). AllByRecursion IsLone w.waiting) (sym it.own) (all-filtered IsLone _ (workflow_of domain workflow old).waiting (lone-of places old are domain workflow))
+
+  pub forgotten-sent : AreSent places new
+  forgotten-sent = others-sent (named_batch domain workflow key) old new grows-none it.others lone-then is then_is workflows workflows_then sound places are
+
+  pub forgotten-messages : messages_at places new ≡ messages_at places old
+  forgotten-messages = others-messages (named_batch domain workflow key) old new grows-none it.others lone-then is then_is workflows workflows_then sound places are places are.sent
+
+-- the same of a shard, which is seen as its workflows with what it has written
+pub forgotten-having : (domain workflow : Name) (key : BatchKey) (old new : Cell) (before after : List Message) → IsForgotten domain workflow key old new
+    → IsForgotten domain workflow key (having_written before old) (having_written after new)
+forgotten-having domain workflow key old new before after it = record { own = it.own; others = it.others }

@@ -21,3 +21,5 @@ mod GapLemmas
 mod GroupLemmas
 pub mod AdmittedLemmas
 pub mod TryLemmas
+pub mod PairLemmas
+pub mod TriedLemmas

@@ -1,5 +1,5 @@
 -- What is written for which nobody vouches.
-use Rattle.std.proofs.Common.{arith, ◌≡◌, ◌&&◌, ◌^◌, Bool, true, false, true≢false, List, [], ◌∷◌, Option, Some, None, Result, Ok, Err, IfOk, IsOk, ◌≤◌, ℕ, refl, sym, ◌∙◌, subst, ap}
+use Rattle.std.proofs.Common.{arith, ◌≡◌, ◌++◌, ◌&&◌, ◌^◌, Bool, true, false, true≢false, List, [], ◌∷◌, Option, Some, None, Result, Ok, Err, IfOk, IsOk, ◌≤◌, ℕ, refl, sym, ◌∙◌, subst, ap}
 use Rattle.std.proofs.lemmas.List.{append-nil}
 use Rattle.std.specs.Prelude.{IfSome, nat_le, option_to_list}
 use Rattle.std.specs.List.{AllByRecursion, list_all}
@@ -15,18 +15,20 @@ use Rattle.ndc_command.specs.declared.refusal.Refusal.{Refusal}
 use Rattle.ndc_domain.specs.Records.{record_of}
 use Rattle.ndc_event.specs.Outcome.{◌>>=◌}
 use Rattle.ndc_model_cells.specs.Cells.{Cell, learned_of}
+use Rattle.ndc_model_cells.specs.Jobs.{all_batches}
 use Rattle.ndc_model_cells.specs.Messages.{HasSmallIds, IsCarriedBy, IsMessage, carrying}
 use Rattle.ndc_model_cells.specs.Places.{is_of}
 use Rattle.ndc_model_cells.specs.Workflow.{workflow_of}
-use Rattle.ndc_model_cells.specs.Writing.{Desk, Entry, as_command_error, batches_in, command_entries, command_of, greatest_version, may_write, may_write_by}
+use Rattle.ndc_model_cells.specs.Writing.{Desk, Entry, as_command_error, batches_in, command_entries, command_of, greatest_version, may_write, may_write_by, reset_at, reset_below}
 use Rattle.ndc_model_cells.specs.declared.job.Written.{Written}
 use Rattle.ndc_model_cells.specs.declared.message.Message.{Message}
 use Rattle.ndc_shard.specs.Answers.{answer_of, keys_of}
-use Rattle.ndc_shard.specs.Shards.{IsFit, having_written}
-use Rattle.ndc_shard.specs.Trying.{AreNotWritten, HasSmallIdsIn, IsNotTaken, together}
+use Rattle.ndc_model_sets.specs.Branches.{workflow_tip}
+use Rattle.ndc_shard.specs.Shards.{AreOneOrTwo, GoAsTwo, IsFit, having_written}
+use Rattle.ndc_shard.specs.Trying.{AreMade, AreNotWritten, HasSmallIdsIn, IsNotTaken, together}
 use Rattle.ndc_shard.specs.declared.error.TryError.TheVariants as error
 use Rattle.ndc_shard_entries.specs.Written.{AreWrittenTo, IsSecond, IsWrittenTo}
-use Rattle.ndc_shard_entries.proofs.LawProofs.{command-behind, sent-message, writes_ahead}
+use Rattle.ndc_shard_entries.proofs.LawProofs.{command-behind, reset-behind, sent-message, writes_ahead}
 use Rattle.ndc_shard_workflows.proofs.OneWriteLemmas.{message-together}
 use Rattle.ndc_shard_workflows.proofs.SameLemmas.{of-names}
 use Rattle.ndc_shard_workflows.specs.Refused.{IsNotWritten}
@@ -72,6 +74,26 @@ command-planned home domain workflow command cell entries fit =
     planned-written home domain workflow cell (command_of home domain workflow command cell) (λ version. command_entries domain workflow command home.limit version (learned_of domain workflow cell)) refl
     (λ version ahead. command-behind (learned_of domain workflow cell) version domain workflow fit.sound ahead home.limit command) entries
 
+pub reset-planned : (home : Desk) (domain workflow : Name) (event : ℕ) (cell : Cell) (entries : List Entry) → IsFit domain workflow cell
+    → reset_at home domain workflow event cell ≡ Ok entries → AreWrittenTo (learned_of domain workflow cell) domain workflow entries
+unfolding reset_at may_write
+reset-planned home domain workflow event cell entries fit =
+    planned-written home domain workflow cell (reset_at home domain workflow event cell)
+    (λ version. reset_below domain workflow event home.limit version (workflow_tip (learned_of domain workflow cell)) (learned_of domain workflow cell)) refl
+    (λ version ahead. reset-behind (learned_of domain workflow cell) version domain workflow fit.sound ahead event home.limit (workflow_tip (learned_of domain workflow cell)) refl) entries
+
+-- one entry, or two, that come after all that is learned are made as cells make them
+pub entries-made : (known : List Batch) (domain workflow : Name) (entries : List Entry) → AreWrittenTo known domain workflow entries → AreOneOrTwo entries → AllByRecursion HasSmallIdsIn entries
+    → AreMade entries
+entries-made known domain workflow [] written some small = some
+entries-made known domain workflow (entry ∷ []) written some small =
+    (entry-message known domain workflow entry written.0, entry-made known domain workflow entry written.0 small.0)
+entries-made known domain workflow (first ∷ second ∷ []) written two small = (
+  two,
+  record { together = record { back = written.0.back; second = two.behind }; own = two.own; small = (small.0.0, (small.1.0.0, tt)) },
+)
+entries-made known domain workflow (first ∷ second ∷ third ∷ entries) written some small = some
+
 -- why entries are not written, as why what was to be written is not
 pub not-taken : (why : NotWritten) (domain workflow : Name) (written : Result (List Entry) CommandError) (cell : Cell) → AreNotWritten why written (workflow_of domain workflow cell)
     → IsNotTaken (error.NotWritten why) domain workflow written cell
@@ -91,9 +113,35 @@ one-not-taken why domain workflow written cell entry to e not =
           (subst (λ (n : Name). IsNotWritten why (carrying entry.batch entry.second) (workflow_of entry.batch.domain n cell)) to.of.workflow_is not));
     })
 
+-- the same of one entry or two
+pub all-not-taken : (why : NotWritten) (domain workflow : Name) (written : Result (List Entry) CommandError) (cell : Cell) (entries : List Entry)
+    → AreWrittenTo (learned_of domain workflow cell) domain workflow entries → written ≡ Ok entries
+    → IfSome (together entries) (λ new. IsNotWritten why new (workflow_of new.batch.domain new.batch.workflow cell)) → IsNotTaken (error.NotWritten why) domain workflow written cell
+all-not-taken why domain workflow written cell entries to e not =
+    not-taken why domain workflow written cell (record {
+      planned = subst IsOk (sym e) refl;
+      entries = subst (λ r. IfOk r (λ list. IfSome (together list) (λ new. IsNotWritten why new (workflow_of domain workflow cell)))) (sym e) (by entries to not);
+    })
+  where
+    at : (new : Message) → new.batch.domain ≡ domain → new.batch.workflow ≡ workflow → IsNotWritten why new (workflow_of new.batch.domain new.batch.workflow cell)
+        → IsNotWritten why new (workflow_of domain workflow cell)
+    at new d n h =
+        subst (λ (k : Name). IsNotWritten why new (workflow_of domain k cell)) n (subst (λ (k : Name). IsNotWritten why new (workflow_of k new.batch.workflow cell)) d h)
+
+    by : (list : List Entry) → AreWrittenTo (learned_of domain workflow cell) domain workflow list
+        → IfSome (together list) (λ new. IsNotWritten why new (workflow_of new.batch.domain new.batch.workflow cell))
+        → IfSome (together list) (λ new. IsNotWritten why new (workflow_of domain workflow cell))
+    by [] to h = tt
+    by (entry ∷ []) to h = at (carrying entry.batch entry.second) to.0.of.domain_is to.0.of.workflow_is h
+    by (first ∷ second ∷ list) to h = at (carrying first.batch (Some second.batch)) to.0.of.domain_is to.0.of.workflow_is h
+
 -- the keys of what one entry writes
 pub one-answer : (written : Result (List Entry) CommandError) (entry : Entry) (keys : Written) → written ≡ Ok (entry ∷ []) → keys_of (batches_in entry) ≡ Ok keys → answer_of written ≡ Ok keys
 one-answer written entry keys e is = ap answer_of e ∙ ap keys_of (append-nil (batches_in entry)) ∙ is
+
+-- the keys of what two entries write that carry none
+pub two-keys : (first second : Entry) → GoAsTwo first second → keys_of (all_batches (first ∷ second ∷ [])) ≡ Ok (record { key = first.batch.key; second = Some second.batch.key })
+two-keys first second two = ap (λ (o : Option Batch). keys_of (first.batch ∷ (option_to_list o ++ all_batches (second ∷ [])))) two.first_alone
 
 -- ---- small ids
 

@@ -8,3 +8,4 @@ pub mod Ends
 pub mod Gaps
 pub mod Histories
 pub mod Trying
+pub mod Waits

@@ -1,6 +1,8 @@
 ghost use Rattle.std.specs.Prelude.{◌≡◌, ◌^◌, map, true, false, nat_le, Ok, IfOk};
-ghost use Rattle.std.specs.List.{list_all};
+ghost use Rattle.std.specs.List.{AllByRecursion, list_all};
 ghost use Rattle.ndc_model_cells.specs.Writing.{batches_in};
+ghost use Rattle.ndc_model_cells.specs.Jobs.{all_batches};
+ghost use Rattle.ndc_shard.specs.Shards.{AreOneOrTwo};
 ghost use Rattle.ndc_shard.specs.Trying.{HasSmallIdsIn};
 ghost use Rattle.ndc_event.specs.Outcome.{Gives};
 ghost use Rattle.ndc_shard.specs.Answers.{keys_of, names_of};
@@ -48,7 +50,7 @@ fn places_of(alloc: Global, batches: &[Batch]) -> Result<Vec<(Name, Name, BatchK
 }
 
 /// The greatest id of an event that is written.
-const MOST_ID: u64 = 1_000_000_000_000;
+pub(crate) const MOST_ID: u64 = 1_000_000_000_000;
 
 /// The keys of an entry: of its batch, and of the one that it carries.
 fn written_by(entry: &Entry) -> Written
@@ -63,8 +65,36 @@ fn written_by(entry: &Entry) -> Written
     }
 }
 
+/// The keys of what is written together: of one entry, or of two that carry none.
+fn written_together(entries: &[Entry]) -> Written
+    requires { AreOneOrTwo entries.now }
+    ensures { keys_of (all_batches entries.now) ≡ Ok result }
+{
+    match entries {
+        [entry] => written_by(entry),
+        [first, second] => Written {
+            key: first.batch().key,
+            second: Some(second.batch().key),
+        },
+        _ => unreachable!(),
+    }
+}
+
+/// Whether the ids of all events of one entry, or of two, are at most 10^12.
+fn have_small_ids(entries: &[Entry]) -> bool
+    requires { AreOneOrTwo entries.now }
+    ensures small { result ≡ true → AllByRecursion HasSmallIdsIn entries.now }
+    ensures none { result ≡ false → AllByRecursion HasSmallIdsIn entries.now → ⊥ }
+{
+    match entries {
+        [entry] => has_small_ids(entry),
+        [first, second] => has_small_ids(first) && has_small_ids(second),
+        _ => unreachable!(),
+    }
+}
+
 /// Whether the ids of all events of an entry are at most 10^12.
-fn has_small_ids(entry: &Entry) -> bool
+pub(crate) fn has_small_ids(entry: &Entry) -> bool
     ensures small { result ≡ true → HasSmallIdsIn entry.now }
     ensures none { result ≡ false → HasSmallIdsIn entry.now → ⊥ }
 {
@@ -204,6 +234,43 @@ impl Shard {
         let desk = Desk::new(home.clusters, home.me, home.limit, table);
         let batches = self.write_reset(&desk, domain, workflow, event, steps)?;
         keys_of(batches.as_slice())
+    }
+
+    /// A new run repeats the current one of a workflow of a shard of which nobody vouches, up to an event, counted from 1: of
+    /// what has arrived nothing is asked. The key of the first batch that is written, and of the other one, where an open run
+    /// is closed first; or why nothing is written, as [`Shard::try_command`] tells it. After an error the shard stays as it
+    /// was: both batches are written, or neither.
+    pub fn try_reset<L>(
+        &mut self,
+        home: &Home,
+        table: &DomainTable,
+        domain: &Name,
+        workflow: &Name,
+        event: u64,
+        steps: &mut Steps<L>,
+    ) -> Result<Written, TryError>
+        ensures written { IfOk result (λ written. answer_of (reset_at (desk_of home.now table.now) domain.now workflow.now event self.old) ≡ Ok written) }
+        ensures cell { OnOk result (self.new ≡ written_at (reset_at (desk_of home.now table.now) domain.now workflow.now event self.old) self.old) }
+        ensures refused { IfErr result (λ why. IsNotTaken why domain.now workflow.now (reset_at (desk_of home.now table.now) domain.now workflow.now event self.old) self.old) }
+        ensures unchanged { OnErr result (self.new ≡ self.old) }
+    {
+        self.is_in_order();
+        let desk = Desk::new(home.clusters, home.me, home.limit, table);
+        if !self.has_tasks_left(domain, workflow) {
+            return Err(TryError::Full);
+        }
+        let entries = match self.reset_entries(&desk, domain, workflow, event) {
+            Ok(entries) => entries,
+            Err(error) => return Err(TryError::from(error)),
+        };
+        if !have_small_ids(entries.as_slice()) {
+            return Err(TryError::Full);
+        }
+        match self.try_write_all(entries.as_slice(), steps) {
+            Ok(()) => {}
+            Err(cause) => return Err(TryError::NotWritten(cause)),
+        }
+        Ok(written_together(entries.as_slice()))
     }
 
     /// A message arrives: what comes of it. After want of memory the shard is spent: nothing is said of it.

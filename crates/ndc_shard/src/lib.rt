@@ -13,6 +13,7 @@ pub mod keeping_laws;
 mod serving;
 mod shard;
 mod showing;
+mod trying;
 
 pub use error::{ShardError, TryError};
 pub use ndc_cluster::Home;
@@ -21,6 +22,8 @@ pub use ndc_model_sets::{Batches, BranchView, BranchViews, RunStatus, RunView, R
 pub use ndc_resend::GapOf;
 pub use ndc_shard_workflows::{Admission, AdmitError, NotAdmitted, NotWritten, SetAside, Terms};
 pub use shard::Shard;
+pub use showing::Waits;
+pub use trying::{Reapplied, Skipped};
 
 /// A cluster whose cells are shards.
 pub type ShardCluster = ndc_cluster::Cluster<Shard>;

@@ -6,7 +6,7 @@ ghost use Rattle.ndc_shard.specs.Again.{AreReappliedOf};
 use crate::asking::{as_command_error, batches_of, place_of, push_batches, refuses, version_of};
 use ndc_cluster::{Desk, Home};
 use ndc_command::{Command, CommandError, Refusal};
-use ndc_event::{Batch, Name, OutOfMemory};
+use ndc_event::{Batch, BatchKey, Name, OutOfMemory};
 use ndc_model_cells::{Message, Place};
 use ndc_model_sets::Batches;
 use ndc_shard_entries::{Entry, command_entry, reapplication_entry, reset_entries, unless_behind};
@@ -17,7 +17,7 @@ use std::alloc::Global;
 use std::marker::Model;
 
 /// The greatest task of what is learned of a workflow after which more may be written.
-const MOST_TASK: u64 = 1_000_000_000_000;
+pub(crate) const MOST_TASK: u64 = 1_000_000_000_000;
 
 /// One shard of one cluster: its workflows, and where the batches stand that it has written and that none carries, in the
 /// order of writing. Seen as the cell, which has written their messages.
@@ -62,6 +62,7 @@ impl Shard {
     ghost use Rattle.ndc_model_sets.specs.Current.{strays};
     ghost use Rattle.ndc_model_sets.specs.Learned.{has_key};
     ghost use Rattle.ndc_shard.specs.Shards.{AreLone, AreOneOrTwo, AreWritable, GoAsTwo, IsFit, batches_written, having_written};
+    ghost use Rattle.ndc_shard.specs.Trying.{AreMade, LeavesRoom, together};
     ghost use Rattle.ndc_model_cells.specs.Allowed.{HasRoom, MayArrive, MayBeAsked, MayReapply, MayWriteAll};
     ghost use Rattle.ndc_model_cells.specs.Messages.{carrying};
     ghost use Rattle.ndc_model_cells.specs.Workflow.{workflow_of};
@@ -74,6 +75,7 @@ impl Shard {
     ghost use Rattle.ndc_model_cells.specs.Cells.{IsCell};
     ghost use Rattle.ndc_shard.specs.Sent.{HasCarrier};
     ghost use Rattle.ndc_shard_workflows.specs.Workflow.{IsWorkflow};
+    ghost use Rattle.ndc_shard_workflows.specs.Forgetting.{is_put_off, IsForgotten};
     ghost use Rattle.ndc_shard_workflows.specs.Workflows.{IsAdmittedTo};
     ghost use Rattle.ndc_shard_workflows.specs.declared.admission.AdmitError.TheVariants.{Memory as OutOfMemory, Spent};
     ghost use Rattle.ndc_model_sets.specs.Sound.{IsSound};
@@ -235,6 +237,27 @@ impl Shard {
         }
     }
 
+    /// Drops the message of a workflow that has a batch of this key, its own or the one that it carries, where it is put off:
+    /// whether there was one. What waits for it waits on. What is learned and what was written stays, and all other workflows
+    /// stay as they are. In time of what is put off of the workflow. For want of memory nothing changes.
+    pub fn forget(
+        &mut self,
+        domain: &Name,
+        workflow: &Name,
+        key: BatchKey,
+    ) -> Result<bool, OutOfMemory>
+        ensures dropped { IfOk result (λ dropped. dropped ≡ is_put_off key (workflow_of domain.now workflow.now self.old)) }
+        ensures forgotten { OnOk result (IsForgotten domain.now workflow.now key self.old self.new) }
+        ensures learned { (d w : Text) → learned_of d w self.new ≡ learned_of d w self.old }
+        ensures written { self.new.written ≡ self.old.written }
+        ensures unchanged { OnErr result (self.new ≡ self.old) }
+    {
+        self.workflows.is_in_order();
+        let dropped = self.workflows.forget(self.alloc, domain, workflow, key)?;
+        self.workflows.is_in_order();
+        Ok(dropped)
+    }
+
     /// Writes an entry: its batches are learned in their workflow, and its message goes last among those written. For want of
     /// memory nothing changes.
     fn write<L>(&mut self, entry: &Entry, steps: &mut Steps<L>) -> Result<(), OutOfMemory>
@@ -304,6 +327,58 @@ impl Shard {
         self.places.push_reserved(place);
         self.places.push_reserved(behind);
         Ok(())
+    }
+
+    /// Writes two entries together for which nobody vouches, of which the second goes right after the first: their batches are
+    /// learned in their workflow, and their messages go last among those written. They are not where something stands under
+    /// their keys, something waits for them, or they do not fit; after an error nothing changes.
+    fn try_write_both<L>(
+        &mut self,
+        first: &Entry,
+        second: &Entry,
+        steps: &mut Steps<L>,
+    ) -> Result<(), NotWritten>
+        requires made { IsMadeTogether (carrying first.now.batch (Some second.now.batch)) }
+        requires lone { AreLone (first.now ∷ second.now ∷ []) }
+        requires two { GoAsTwo first.now second.now }
+        ensures ok { OnOk result (self.new ≡ with_all_written (first.now ∷ second.now ∷ []) self.old) }
+        ensures refused { IfErr result (λ cause. IsNotWritten cause (carrying first.now.batch (Some second.now.batch)) (workflow_of first.now.batch.domain first.now.batch.workflow self.old)) }
+        ensures err { OnErr result (self.new ≡ self.old) }
+    {
+        self.workflows.is_in_order();
+        let place = place_of(first.batch())?;
+        let behind = place_of(second.batch())?;
+        self.places.reserve(2)?;
+        match self
+            .workflows
+            .try_write(self.alloc, first.batch(), Some(second.batch()), steps)
+        {
+            Ok(()) => {}
+            Err(cause) => return Err(cause),
+        }
+        self.places.push_reserved(place);
+        self.places.push_reserved(behind);
+        Ok(())
+    }
+
+    /// Writes one entry, or two together, for which nobody vouches. They are not where something stands under their keys,
+    /// something waits for them, or they do not fit; after an error nothing changes.
+    pub(crate) fn try_write_all<L>(
+        &mut self,
+        entries: &[Entry],
+        steps: &mut Steps<L>,
+    ) -> Result<(), NotWritten>
+        requires made { AreMade entries.now }
+        requires lone { AreLone entries.now }
+        ensures ok { OnOk result (self.new ≡ with_all_written entries.now self.old) }
+        ensures refused { IfErr result (λ cause. IfSome (together entries.now) (λ new. IsNotWritten cause new (workflow_of new.batch.domain new.batch.workflow self.old))) }
+        ensures err { OnErr result (self.new ≡ self.old) }
+    {
+        match entries {
+            [entry] => self.try_write(entry, steps),
+            [first, second] => self.try_write_both(first, second, steps),
+            _ => unreachable!(),
+        }
     }
 
     /// Writes one entry, or two together. For want of memory nothing changes.
@@ -417,7 +492,7 @@ impl Shard {
     }
 
     /// Whether reapplication is due in a workflow.
-    fn is_due(&mut self, domain: &Name, workflow: &Name) -> Result<bool, OutOfMemory>
+    pub(crate) fn is_due(&mut self, domain: &Name, workflow: &Name) -> Result<bool, OutOfMemory>
         ensures due { IfOk result (λ due. due ≡ is_due (learned_of domain.now workflow.now self.old)) }
         ensures same { self.new ≡ self.old }
     {
@@ -431,7 +506,7 @@ impl Shard {
         workflow: &Name,
         version: u64,
     ) -> Result<Option<Entry>, OutOfMemory>
-        requires { HasRoom (learned_of domain.now workflow.now self.now) }
+        requires { LeavesRoom (learned_of domain.now workflow.now self.now) }
         ensures fit { IsFit domain.now workflow.now self.now }
         ensures entry { IfOk result (λ entry. option_to_list entry ≡ reapplication_below domain.now workflow.now version (workflow_tip (learned_of domain.now workflow.now self.now)) (learned_of domain.now workflow.now self.now) (strays (learned_of domain.now workflow.now self.now))) }
     {
@@ -450,13 +525,13 @@ impl Shard {
 
     /// What reapplication writes to a workflow.
     #[tactic(auto, unfolding(ndc_model_cells::specs::Writing::reapplication_of))]
-    fn reapplication(
+    pub(crate) fn reapplication(
         &mut self,
         desk: &Desk,
         domain: &Name,
         workflow: &Name,
     ) -> Result<Option<Entry>, OutOfMemory>
-        requires { HasRoom (learned_of domain.now workflow.now self.old) }
+        requires { LeavesRoom (learned_of domain.now workflow.now self.old) }
         ensures entry { IfOk result (λ entry. option_to_list entry ≡ reapplication_of desk.now domain.now workflow.now self.old) }
         ensures same { self.new ≡ self.old }
         ensures fit { IfOk result (λ entry. IfSome entry (λ _. IsFit domain.now workflow.now self.new)) }
@@ -523,7 +598,7 @@ impl Shard {
 
     /// The workflows, in order, in which reapplication may be due, without those of domains to which the cluster's record does
     /// not let it write: such a domain costs one look, however many workflows it has.
-    fn due_again(&self, desk: &Desk) -> Result<Vec<(Name, Name)>, OutOfMemory>
+    pub(crate) fn due_again(&self, desk: &Desk) -> Result<Vec<(Name, Name)>, OutOfMemory>
         ensures { IfOk result (λ list. AreReapplied desk.now list.items self.now) }
     {
         let domains = self.workflows.due_domains(self.alloc)?;

@@ -1,15 +1,58 @@
+ghost use Rattle.std.specs.Prelude.{◌≡◌, length, map, IfOk};
+ghost use Rattle.ndc_model_cells.specs.Workflow.{workflow_of};
+ghost use Rattle.ndc_shard.specs.Waits.{waits_since};
+
 use crate::finding::gaps;
 use crate::serving::serve;
 use crate::shard::Shard;
 use ndc_event::{BatchKey, Name, OutOfMemory};
-use ndc_model_cells::Message;
+use ndc_model_cells::{Message, Place};
 use ndc_model_sets::View;
 use ndc_resend::GapOf;
-use ndc_shard_workflows::{message_there, messages_of};
+use ndc_shard_workflows::{Terms, Workflows, message_there, messages_of};
 use ndc_state::Steps;
+use std::alloc::Global;
+
+/// How much waits in a workflow, and since when.
+#[derive(Debug, Drop)]
+pub struct Waits {
+    /// Where the first batch stands that is put off.
+    pub since: Place,
+    /// How many messages wait.
+    pub count: usize,
+}
+
+/// How many messages wait in a workflow.
+fn count_in(workflows: &Workflows, domain: &Name, workflow: &Name) -> usize
+    ensures { result ≡ length (workflow_of domain.now workflow.now workflows.now).waiting }
+{
+    match workflows.find(domain, workflow) {
+        Some(found) => found.put_off().len(),
+        None => 0,
+    }
+}
+
+/// How much waits in the workflows of these places.
+fn waits_at(
+    alloc: Global,
+    workflows: &Workflows,
+    places: Vec<Place>,
+) -> Result<Vec<Waits>, OutOfMemory>
+    ensures { IfOk result (λ list. list.items ≡ map (waits_since workflows.now) places.items) }
+{
+    let mut list = Vec::with_capacity(alloc, places.len())?;
+    for since in places {
+        let count = count_in(workflows, &since.domain, &since.workflow);
+        list.push(Waits { since, count })?;
+    }
+    Ok(list)
+}
 
 impl Shard {
     ghost use Rattle.std.specs.Prelude.{◌≡◌, [], ◌∷◌, IfOk, Some};
+    ghost use Rattle.ndc_model_cells.specs.Workflow.{workflow_of};
+    ghost use Rattle.ndc_shard.specs.Waits.{all_waits};
+    ghost use Rattle.ndc_shard_workflows.specs.Lacking.{lacks_own};
     ghost use Rattle.ndc_model_cells.specs.Cells.{learned_of, message_at};
     ghost use Rattle.ndc_model_cells.specs.Domains.{learned_of_domains};
     ghost use Rattle.ndc_model_sets.specs.Learned.{has_key};
@@ -80,6 +123,34 @@ impl Shard {
         ensures { IfOk result (λ list. list.items ≡ gaps_of self.now) }
     {
         gaps(self.alloc(), self.held())
+    }
+
+    /// How much waits, by workflow: of each workflow of which something is put off, in order of domain and name, how many
+    /// messages wait, and where the first batch stands that is put off. In time of these workflows and what is put off.
+    pub fn waiting(&self) -> Result<Vec<Waits>, OutOfMemory>
+        ensures { IfOk result (λ list. list.items ≡ all_waits self.now) }
+    {
+        let alloc = self.alloc();
+        let places = self.held().behind(alloc)?;
+        waits_at(alloc, self.held(), places)
+    }
+
+    /// Whether a batch of the cluster's own is known of in a workflow that is not learned, on these terms: one that is put off
+    /// is such a batch, or one that is learned or put off names such a batch as its parent, as its carrier or as the origin of
+    /// a copied signal. Then the shard has lost something, and what it would write next may be there already. In time of all
+    /// events of the workflow that have arrived.
+    pub fn lacks_own(
+        &self,
+        terms: &Terms,
+        domain: &Name,
+        workflow: &Name,
+    ) -> Result<bool, OutOfMemory>
+        ensures { IfOk result (λ lacks. lacks ≡ lacks_own terms.now (workflow_of domain.now workflow.now self.now)) }
+    {
+        match self.held().find(domain, workflow) {
+            Some(found) => found.lacks_own(self.alloc(), terms),
+            None => Ok(false),
+        }
     }
 
     /// What the cell serves for a gap of another one, as [`serve`] says: the messages of the batches in the gap on the path

@@ -37,3 +37,4 @@ pub mod HonestLemmas
 pub mod AdmittedLemmas
 pub mod TriedLemmas
 pub mod HandedLemmas
+pub mod ForgetLemmas

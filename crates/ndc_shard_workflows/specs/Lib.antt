@@ -3,6 +3,8 @@ pub mod Arriving
 pub mod Behind
 pub mod ByDomain
 pub mod Due
+pub mod Forgetting
+pub mod Lacking
 pub mod Learnable
 pub mod Listed
 pub mod Messages

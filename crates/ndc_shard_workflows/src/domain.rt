@@ -20,7 +20,7 @@ use crate::admission::{AdmitError, NotWritten, Terms};
 use crate::arrival::{Admitted, Received};
 use crate::due::DueListing;
 use crate::workflow::Workflow;
-use ndc_event::{Batch, Name, OutOfMemory};
+use ndc_event::{Batch, BatchKey, Name, OutOfMemory};
 use ndc_model_cells::Message;
 use ndc_state::Steps;
 use std::alloc::Global;
@@ -209,6 +209,7 @@ impl Domain {
     ghost use Rattle.ndc_shard_workflows.specs.Reading.{learned_in_domain};
     ghost use Rattle.ndc_shard_workflows.specs.Refused.{IsNotWritten};
     ghost use Rattle.ndc_shard_workflows.specs.Workflows.{workflow_or_empty, AreOwn};
+    ghost use Rattle.ndc_shard_workflows.specs.Forgetting.{is_put_off, without};
     ghost use Rattle.ndc_shard_workflows.specs.Writing.{IsMadeTogether, MayBeWrittenTogether};
 
     /// There is no workflow.
@@ -328,6 +329,25 @@ impl Domain {
         }
         self.workflows.insert(name, workflow)?;
         Ok(admitted)
+    }
+
+    /// Drops the message of the workflow of this name that has a batch of this key, as [`Workflow::forget`] does.
+    pub(crate) fn forget(
+        &mut self,
+        alloc: Global,
+        workflow: &Name,
+        key: BatchKey,
+    ) -> Result<bool, OutOfMemory>
+        ensures dropped { IfOk result (λ dropped. dropped ≡ is_put_off key (workflow_or_empty (under workflow.now self.old))) }
+        ensures forgotten { OnOk result (workflow_or_empty (under workflow.now self.new) ≡ without key (workflow_or_empty (under workflow.now self.old))) }
+        ensures others { StayUnder workflow.now self.old self.new }
+        ensures own { (domain : Text) → AreOwn domain self.old → AreOwn domain self.new }
+        ensures err { OnErr result (self.new ≡ self.old) }
+    {
+        if let Some(found) = self.workflows.get_mut(workflow) {
+            return found.forget(alloc, key);
+        }
+        Ok(false)
     }
 
     /// Learns a batch of the domain that is written in this cell, and the one that goes right behind it, in a workflow that is

@@ -8,7 +8,7 @@ use crate::arrival::{Admitted, Received};
 use crate::domain::Domain;
 use crate::due::DueListing;
 use crate::workflow::Workflow;
-use ndc_event::{Batch, Name, OutOfMemory};
+use ndc_event::{Batch, BatchKey, Name, OutOfMemory};
 use ndc_model_cells::Message;
 use ndc_state::Steps;
 use std::alloc::Global;
@@ -82,6 +82,7 @@ impl Domains {
     ghost use Rattle.ndc_model_cells.specs.Cells.{both};
     ghost use Rattle.ndc_model_cells.specs.Messages.{HasSmallIds, IsMessage};
     ghost use Rattle.ndc_model_cells.specs.Places.{is_of};
+    ghost use Rattle.ndc_shard_workflows.specs.Forgetting.{is_put_off, IsForgotten};
     ghost use Rattle.ndc_shard_workflows.specs.Admitting.{IsAdmitted};
     ghost use Rattle.ndc_shard_workflows.specs.Arriving.{ComesFrom};
     ghost use Rattle.ndc_shard_workflows.specs.Workflows.{OthersStay};
@@ -224,6 +225,25 @@ impl Domains {
         }
         self.domains.insert(name, domain)?;
         Ok(admitted)
+    }
+
+    /// Drops the message of a workflow that has a batch of this key, as [`Workflow::forget`] does; all other workflows stay as
+    /// they are.
+    pub(crate) fn forget(
+        &mut self,
+        alloc: Global,
+        domain: &Name,
+        workflow: &Name,
+        key: BatchKey,
+    ) -> Result<bool, OutOfMemory>
+        ensures dropped { IfOk result (λ dropped. dropped ≡ is_put_off key (workflow_of domain.now workflow.now self.old)) }
+        ensures ok { OnOk result (IsForgotten domain.now workflow.now key self.old self.new) }
+        ensures err { OnErr result (self.new ≡ self.old) }
+    {
+        if let Some(found) = self.domains.get_mut(domain) {
+            return found.forget(alloc, workflow, key);
+        }
+        Ok(false)
     }
 
     /// Learns a batch that is written in this cell, and the one that goes right behind it, in their workflow, which is listed

@@ -9,6 +9,7 @@ mod cell;
 mod domain;
 mod domains;
 mod due;
+mod forgetting;
 pub mod laws;
 mod learning;
 mod listing;

@@ -1,14 +1,17 @@
 // What stands under the keys of a message, and whether its versions are the cell's own.
-ghost use Rattle.std.specs.Prelude.{◌≡◌};
+ghost use Rattle.std.specs.Prelude.{◌≡◌, map};
+ghost use Rattle.std.specs.List.{list_any};
 ghost use Rattle.std.specs.Option.{option_copied};
+ghost use Rattle.ndc_shard_workflows.specs.Lacking.{is_lacked, names_lacked, tells_of_lacked};
 ghost use Rattle.ndc_shard_workflows.specs.Terms.{has_unknown_own, is_own, is_unknown_own, name_unknown_own, names_unknown_own, second_names_unknown_own};
 
 use crate::admission::{NotAdmitted, Terms};
 use crate::workflow::Workflow;
 use ndc_admission::history_ends;
-use ndc_event::{Batch, BatchKey, Event, EventKind};
+use ndc_event::{Batch, BatchKey, Event, EventKind, OutOfMemory};
 use ndc_model_cells::Message;
 use ndc_shard_runs::Runs;
+use std::alloc::Global;
 
 /// Whether the cell's own cluster writes with this version.
 fn is_own(terms: &Terms, version: u64) -> bool
@@ -65,8 +68,48 @@ fn has_unknown_own(terms: &Terms, runs: &Runs, message: &Message) -> bool
     }
 }
 
+/// Whether the key, where there is one, is of the cell's own cluster and not learned.
+fn is_lacked(terms: &Terms, runs: &Runs, key: Option<BatchKey>) -> bool
+    ensures { result ≡ is_lacked terms.now runs.now key }
+{
+    match key {
+        None => false,
+        Some(key) => is_own(terms, key.version) && !runs.has(key),
+    }
+}
+
+/// Whether the batch names such a key as that of its parent or of its carrier.
+fn names_lacked(terms: &Terms, runs: &Runs, batch: &Batch) -> bool
+    ensures { result ≡ names_lacked terms.now runs.now batch.now }
+{
+    is_lacked(terms, runs, batch.parent) || is_lacked(terms, runs, batch.carrier)
+}
+
+/// Whether the batch is one of the cell's own cluster that is not learned, or names one.
+fn tells_of_lacked(terms: &Terms, runs: &Runs, batch: &Batch) -> bool
+    ensures { result ≡ tells_of_lacked terms.now runs.now batch.now }
+{
+    if is_lacked(terms, runs, Some(batch.key)) || names_lacked(terms, runs, batch) {
+        return true;
+    }
+    name_unknown_own(terms, runs, batch.events.as_slice())
+}
+
+/// Whether one of these batches does.
+fn tell_of_lacked(terms: &Terms, runs: &Runs, batches: &[&Batch]) -> bool
+    ensures { result ≡ list_any (tells_of_lacked terms.now runs.now) (map (λ b. b.now) batches.now) }
+{
+    for batch in batches {
+        if tells_of_lacked(terms, runs, batch) {
+            return true;
+        }
+    }
+    false
+}
+
 impl Workflow {
-    ghost use Rattle.std.specs.Prelude.{◌≡◌, true, false, not, Some, IfSome, IfNone};
+    ghost use Rattle.std.specs.Prelude.{◌≡◌, true, false, not, Some, IfOk, IfSome, IfNone};
+    ghost use Rattle.ndc_shard_workflows.specs.Lacking.{lacks_own};
     ghost use Rattle.ndc_model_sets.specs.Learned.{has_key, learned};
     ghost use Rattle.ndc_shard_workflows.specs.Admitting.{IsRefusedFor};
     ghost use Rattle.ndc_shard_workflows.specs.Terms.{HasNoRival, IsForeign, IsFreeFor, IsRivalOf, IsTaken, StandsAlone};
@@ -100,6 +143,21 @@ impl Workflow {
             return Some(NotAdmitted::History);
         }
         None
+    }
+
+    /// Whether a batch of the cell's own cluster is known of that is not learned, on these terms: one that is put off is such a
+    /// batch, or one that is learned or put off names such a batch as its parent, as its carrier or as the origin of a copied
+    /// signal. Whether the cell asks for what it lost makes no difference. In time of all events that have arrived.
+    pub fn lacks_own(&self, alloc: Global, terms: &Terms) -> Result<bool, OutOfMemory>
+        ensures { IfOk result (λ lacks. lacks ≡ lacks_own terms.now self.now) }
+    {
+        let runs = self.runs();
+        let learned = runs.batches(alloc)?;
+        if tell_of_lacked(terms, runs, learned.as_slice()) {
+            return Ok(true);
+        }
+        let waiting = self.put_off().batches(alloc)?;
+        Ok(tell_of_lacked(terms, runs, waiting.as_slice()))
     }
 
     /// Whether another batch stands under the key of this one.

@@ -1,6 +1,7 @@
 use crate::admission::{Admission, AdmitError, NotWritten, Terms};
 use crate::admitting::{admit, fit};
 use crate::arrival::Arrival;
+use crate::forgetting::but_for;
 use crate::learning::{is_reached, learn, take_in};
 use ndc_event::{Batch, BatchKey, OutOfMemory};
 use ndc_model_cells::Message;
@@ -54,6 +55,7 @@ impl Workflow {
     ghost use Rattle.ndc_model_cells.specs.Messages.{carrying, HasSmallIds};
     ghost use Rattle.ndc_shard_workflows.specs.Admitting.{IsAdmitted, IsLeftBy};
     ghost use Rattle.ndc_shard_workflows.specs.Arriving.{ComesFrom};
+    ghost use Rattle.ndc_shard_workflows.specs.Forgetting.{is_put_off, without};
     ghost use Rattle.ndc_shard_workflows.specs.Writing.{GoTogether, IsMadeTogether, MayBeWrittenTogether};
     ghost use Rattle.ndc_shard_workflows.specs.Refused.{IsNotWritten};
     ghost use Rattle.ndc_shard_workflows.specs.Workflow.{IsWorkflow, empty_workflow, has_arrived, all_missing, answer_to, made_learned, after_arrival, with_written, counted_for};
@@ -209,6 +211,21 @@ impl Workflow {
                 Err(AdmitError::Spent)
             }
         }
+    }
+
+    /// Drops the message that has a batch of this key, its own or the one that it carries, where it is put off: whether there
+    /// was one. What waits for it waits on. In time of what is put off. For want of memory nothing changes.
+    pub fn forget(&mut self, alloc: Global, key: BatchKey) -> Result<bool, OutOfMemory>
+        ensures dropped { IfOk result (λ dropped. dropped ≡ is_put_off key self.old) }
+        ensures ok { OnOk result (self.new ≡ without key self.old) }
+        ensures err { OnErr result (self.new ≡ self.old) }
+    {
+        if !self.waiting.has(key) {
+            return Ok(false);
+        }
+        let kept = but_for(&self.waiting, alloc, key)?;
+        self.waiting = kept;
+        Ok(true)
     }
 
     /// Learns a batch that is written in this cell, and the one that goes right behind it, which it carries or not. For want

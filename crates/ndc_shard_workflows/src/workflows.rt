@@ -25,7 +25,7 @@ use crate::due::DueListing;
 use crate::listing::Listing;
 use crate::workflow::Workflow;
 use ndc_admission::first_fault;
-use ndc_event::{Batch, Name, OutOfMemory};
+use ndc_event::{Batch, BatchKey, Name, OutOfMemory};
 use ndc_model_cells::{Message, Place};
 use ndc_state::Steps;
 use std::alloc::{AllocError, Global};
@@ -68,6 +68,7 @@ impl Workflows {
     ghost use Rattle.ndc_model_cells.specs.Cells.{both};
     ghost use Rattle.ndc_model_cells.specs.Messages.{HasSmallIds, IsMessage};
     ghost use Rattle.ndc_model_cells.specs.Places.{is_of};
+    ghost use Rattle.ndc_shard_workflows.specs.Forgetting.{is_put_off, IsForgotten};
     ghost use Rattle.ndc_shard_workflows.specs.Workflows.{IsAdmittedTo};
     ghost use Rattle.ndc_shard_workflows.specs.declared.admission.AdmitError.TheVariants.{Memory, Spent};
     ghost use Rattle.std.specs.Option.{option_copied};
@@ -189,6 +190,24 @@ impl Workflows {
                 Err(AdmitError::Spent)
             }
         }
+    }
+
+    /// Drops the message of a workflow that has a batch of this key, its own or the one that it carries, where it is put off:
+    /// whether there was one. What waits for it waits on, what is learned stays, and all other workflows stay as they are. In
+    /// time of what is put off of the workflow. For want of memory nothing changes.
+    pub fn forget(
+        &mut self,
+        alloc: Global,
+        domain: &Name,
+        workflow: &Name,
+        key: BatchKey,
+    ) -> Result<bool, OutOfMemory>
+        ensures dropped { IfOk result (λ dropped. dropped ≡ is_put_off key (workflow_of domain.now workflow.now self.old)) }
+        ensures ok { OnOk result (IsForgotten domain.now workflow.now key self.old self.new) }
+        ensures err { OnErr result (self.new ≡ self.old) }
+    {
+        self.domains.is_in_order();
+        self.domains.forget(alloc, domain, workflow, key)
     }
 
     /// Learns a batch that is written in this cell, and the one that goes right behind it, which it carries or not, in their

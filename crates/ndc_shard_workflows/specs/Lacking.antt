@@ -1,0 +1,28 @@
+-- Whether a cell knows of batches of its own cluster that it has not learned.
+use Rattle.std.specs.Prelude.{Bool, false, ◌&&◌, ◌||◌, not, List, Option, Some, None}
+use Rattle.std.specs.List.{list_any}
+use Rattle.ndc_event.specs.declared.batch.Batch.{Batch}
+use Rattle.ndc_event.specs.declared.key.BatchKey.{BatchKey}
+use Rattle.ndc_model_cells.specs.Messages.{batches_of}
+use Rattle.ndc_model_cells.specs.Workflow.{WorkflowValue}
+use Rattle.ndc_model_sets.specs.Learned.{has_key, learned}
+use Rattle.ndc_shard_workflows.specs.Terms.{TermsValue, is_own, name_unknown_own}
+
+-- whether a key, where there is one, is of the cell's own cluster and not learned
+abbrev pub is_lacked : TermsValue → List Batch → Option BatchKey → Bool
+is_lacked terms known None = false
+is_lacked terms known (Some key) = is_own terms key.version && not (has_key (Some key) known)
+
+-- whether a batch names such a key as that of its parent or of its carrier
+abbrev pub names_lacked : TermsValue → List Batch → Batch → Bool
+names_lacked terms known b = is_lacked terms known b.parent || is_lacked terms known b.carrier
+
+-- whether a batch is one of the cell's own cluster that is not learned, or names one as its parent, as its carrier or as the origin of a copied signal
+abbrev pub tells_of_lacked : TermsValue → List Batch → Batch → Bool
+tells_of_lacked terms known b =
+    is_lacked terms known (Some b.key) || (names_lacked terms known b || name_unknown_own terms known b.events)
+
+-- whether a batch that is learned, or one that is put off, tells of one of the cell's own cluster that is not learned
+abbrev pub lacks_own : TermsValue → WorkflowValue → Bool
+lacks_own terms w =
+    list_any (tells_of_lacked terms (learned w.arrived)) (learned w.arrived) || list_any (tells_of_lacked terms (learned w.arrived)) (batches_of w.waiting)
