@@ -63,6 +63,11 @@ impl From<Fault> for FrameError {
 }
 
 impl From<AllocError> for FrameError {
+    ghost use Rattle.std.specs.Prelude.{◌≡◌};
+    ghost use Rattle.ndc_node.specs.declared.error.FrameError.TheVariants.{Memory};
+
+    ghost from_gives = { λ _ e. e ≡ Memory };
+
     fn from(_error: AllocError) -> FrameError {
         FrameError::Memory
     }

@@ -1,4 +1,4 @@
-use crate::error::{CallError, FrameError};
+use crate::error::FrameError;
 use crate::framing::is_same_header;
 use crate::heard::Heard;
 use crate::node::Node;
@@ -8,12 +8,14 @@ use ndc_event::OutOfMemory;
 use ndc_node_frames::{Body, Frame, read_frame};
 
 impl Node {
+    ghost use Rattle.std.specs.Prelude.{◌≡◌, ◌≢◌, IfErr, OnErr};
+    ghost use Rattle.ndc_node.specs.declared.error.FrameError.TheVariants.{Memory};
+
     /// Hears a frame: what came of it, and what is to be answered to who sent it. Nothing is asked of the bytes. But for want
     /// of memory nothing has changed after an error.
-    pub fn hear(&mut self, bytes: &[u8]) -> Result<Heard, FrameError> {
-        if self.is_spent {
-            return Err(FrameError::Spent);
-        }
+    pub fn hear(&mut self, bytes: &[u8]) -> Result<Heard, FrameError>
+        ensures unchanged { IfErr result (λ why. why ≢ Memory → self.new ≡ self.old) }
+    {
         let (from, body) = self.read(bytes)?;
         self.begin_hearing()?;
         let heard = self.hear_body(from, body)?;
@@ -22,15 +24,21 @@ impl Node {
     }
 
     /// Begins to hear a frame: until it is heard, the node counts as spent.
-    fn begin_hearing(&mut self) -> Result<(), FrameError> {
-        match self.begin::<()>() {
-            Ok(()) => Ok(()),
-            Err(_) => Err(FrameError::Spent),
+    fn begin_hearing(&mut self) -> Result<(), FrameError>
+        ensures unchanged { OnErr result (self.new ≡ self.old) }
+    {
+        if self.is_spent {
+            return Err(FrameError::Spent);
         }
+        self.is_spent = true;
+        Ok(())
     }
 
     /// Reads a frame, and tests that it is for this node, of its network, and speaks of its shards.
     fn read(&self, bytes: &[u8]) -> Result<(ClusterNo, Body), FrameError> {
+        if self.is_spent {
+            return Err(FrameError::Spent);
+        }
         if self.bounds.frame < bytes.len() {
             return Err(FrameError::TooLong);
         }

@@ -1,19 +1,13 @@
-//! Tests by hand of the admission of messages of which nobody vouches: a cell with an honest history is handed one bad
-//! message after another, and what comes of each is told.
+//! Tests by hand of the admission of messages of which nobody vouches, and of calls that write without being vouched for: what
+//! a node can't show, since it asks for nothing that it lost. All else is tested through a node (tools/tests/of_nodes.py).
 #![tactic(auto)]
 
 #[cfg(test)]
 mod dropped;
 #[cfg(test)]
-mod faults;
-#[cfg(test)]
-mod misfits;
-#[cfg(test)]
 mod orphans;
 #[cfg(test)]
 mod own;
-#[cfg(test)]
-mod rivals;
 #[cfg(test)]
 mod scene;
 #[cfg(test)]

@@ -3,13 +3,11 @@ ghost use Rattle.std.specs.Prelude.{◌≤◌, IfOk};
 ghost use Rattle.ndc_domain.specs.Clusters.{count_of};
 
 use crate::texts::{key, signaled};
-use ndc_admission::MessageFault;
 use ndc_command::{Actions, Command};
 use ndc_domain::{ClusterNo, Clusters, DomainTable, Members};
 use ndc_event::{BatchKey, Name, OutOfMemory};
 use ndc_model_cells::Message;
 use ndc_shard::{Admission, AdmitError, Home, NotAdmitted, Shard, Terms, TryError, Written};
-use ndc_shard_runs::Misfit;
 use ndc_state::Steps;
 use ndc_text::dump_text;
 use std::alloc::{AllocError, Global};
@@ -215,19 +213,7 @@ impl Scene {
         Ok(text_of(self.alloc, &admission)?)
     }
 
-    /// Why a message is refused, with room for what waits; none where it is not. The cell shows what it showed before.
-    pub(crate) fn refused(
-        &mut self,
-        rt: &impl Abort,
-        message: Message,
-    ) -> Result<Option<NotAdmitted>, Fail> {
-        let before = self.shown()?;
-        let admission = self.hand(false, true, message)?;
-        assert!(rt; self.shown()?.as_slice() == before.as_slice());
-        Ok(cause_of(&admission))
-    }
-
-    /// Why one is refused where nothing more may wait.
+    /// Why a message is refused where nothing more may wait; none where it is not. The cell shows what it showed before.
     pub(crate) fn refused_when_full(
         &mut self,
         rt: &impl Abort,
@@ -348,54 +334,11 @@ impl Scene {
     pub(crate) fn has(&self, key: BatchKey) -> bool {
         self.shard.has_learned(&self.domain, &self.workflow, key)
     }
-
-    /// The message of an own batch, as the cell sends it.
-    pub(crate) fn sent(&self, key: BatchKey) -> Result<Message, Fail> {
-        let message = self.shard.message(&self.domain, &self.workflow, key)?;
-        match message {
-            Some(message) => Ok(message),
-            None => Err(Fail::new("the batch is not there")),
-        }
-    }
 }
 
 /// B's signal, which goes after 1.2 as 1.3 does.
 pub(crate) fn pong(alloc: Global) -> Result<Message, Fail> {
     signaled(alloc, key(2, 3), key(1, 2), 4, "pong", &[(3, 1), (4, 2)])
-}
-
-/// Why a message is refused that comes to a cell with the forked history; none where it is not.
-pub(crate) fn refusal(
-    rt: &impl Abort,
-    alloc: Global,
-    message: Message,
-) -> Result<Option<NotAdmitted>, Fail> {
-    let mut scene = Scene::forked(alloc)?;
-    scene.refused(rt, message)
-}
-
-/// Why a message is none, where it is refused for that.
-pub(crate) fn fault(
-    rt: &impl Abort,
-    alloc: Global,
-    message: Message,
-) -> Result<Option<MessageFault>, Fail> {
-    match refusal(rt, alloc, message)? {
-        Some(NotAdmitted::Fault(fault)) => Ok(Some(fault)),
-        _ => Ok(None),
-    }
-}
-
-/// Why a message does not fit, where it is refused for that.
-pub(crate) fn misfit(
-    rt: &impl Abort,
-    alloc: Global,
-    message: Message,
-) -> Result<Option<Misfit>, Fail> {
-    match refusal(rt, alloc, message)? {
-        Some(NotAdmitted::Misfit(misfit)) => Ok(Some(misfit)),
-        _ => Ok(None),
-    }
 }
 
 /// Why a message is refused, where it is.

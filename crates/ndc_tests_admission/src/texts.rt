@@ -32,17 +32,6 @@ fn copied(alloc: Global, id: u64, name: &str, named: (u64, u64)) -> Result<Strin
     )
 }
 
-/// The text of such a copy after a comma.
-pub(crate) fn copy_after(
-    alloc: Global,
-    id: u64,
-    name: &str,
-    named: (u64, u64),
-) -> Result<String, OutOfMemory> {
-    let copy = copied(alloc, id, name, named)?;
-    format!(in alloc; ",{copy}")
-}
-
 /// The text of an event of a type without attributes.
 pub(crate) fn plain(
     alloc: Global,
@@ -94,12 +83,6 @@ fn begun(alloc: Global, carried: Carried) -> Result<String, OutOfMemory> {
     format!(in alloc;
         "{{\"carrier\":{{\"task\":{before},\"version\":2}},\"domain\":\"alpha\",\"events\":[{{\"eventId\":1,\"eventType\":\"WorkflowExecutionStarted\",\"version\":2,\"workflowType\":\"order\"}},{scheduled}{more}],\"parent\":null,\"run\":\"{run}\",\"task\":{task},\"version\":2,\"workflow\":\"{workflow}\"}}"
     )
-}
-
-/// The message of such a batch alone.
-pub(crate) fn carried_alone(alloc: Global, task: u64) -> Result<Message, Fail> {
-    let text = begun(alloc, Carried::begins(task))?;
-    message(alloc, text.as_str(), &[(2, 2)])
 }
 
 /// The version history of these items, each an id and a version.
@@ -165,12 +148,6 @@ pub(crate) fn next_signal(alloc: Global, task: u64, id: u64, name: &str) -> Resu
     next(alloc, task, id, event.as_str())
 }
 
-/// One with one event without attributes, there.
-pub(crate) fn next_plain(alloc: Global, task: u64, id: u64, kind: &str) -> Result<Message, Fail> {
-    let event = plain(alloc, id, 2, kind)?;
-    next(alloc, task, id, event.as_str())
-}
-
 /// One with a copied signal, there, which names an event of the first run by its id and version.
 pub(crate) fn next_copy(
     alloc: Global,
@@ -181,21 +158,6 @@ pub(crate) fn next_copy(
 ) -> Result<Message, Fail> {
     let event = copied(alloc, id, name, named)?;
     next(alloc, task, id, event.as_str())
-}
-
-/// One with two copies of one signal, there.
-pub(crate) fn next_copies(
-    alloc: Global,
-    task: u64,
-    id: u64,
-    name: &str,
-    named: (u64, u64),
-) -> Result<Message, Fail> {
-    let last = id.saturating_add(1);
-    let one = copied(alloc, id, name, named)?;
-    let two = copied(alloc, last, name, named)?;
-    let events = format!(in alloc; "{one},{two}")?;
-    next(alloc, task, last, events.as_str())
 }
 
 /// The batch that another one carries, as it is to be told: its workflow, its task, and the texts of more events, each after
