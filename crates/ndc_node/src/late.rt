@@ -1,7 +1,7 @@
 use crate::admitting::Came;
 use crate::heard::Heard;
 use crate::node::Node;
-use crate::polling::copy_place;
+use crate::polling::{MAX_HALVES, copy_place};
 use ndc_domain::ClusterNo;
 use ndc_event::{BatchKey, Items, Name, OutOfMemory};
 use ndc_model_cells::Message;
@@ -121,7 +121,7 @@ impl Node {
         largest: u64,
     ) -> Result<Items<u8>, OutOfMemory> {
         let mut piece = piece;
-        loop {
+        for _half in 0..MAX_HALVES {
             let count = piece.messages.as_slice().len();
             let frame = self.frame_of(to, Body::Bootstrap(piece))?;
             let text = frame_text(self.alloc, &frame)?;
@@ -136,6 +136,7 @@ impl Node {
                 _ => return Ok(Items::new(text)),
             }
         }
+        self.frame(to, Body::Bootstrap(piece))
     }
 
     /// A piece of a domain in which this node is late is heard: where it joins what the node has, its place rises over the

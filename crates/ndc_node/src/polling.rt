@@ -10,6 +10,9 @@ use ndc_node_frames::{
 use ndc_node_lanes::Telling;
 use ndc_node_messages::message_text;
 
+/// How often what is to be told is halved, so that its frame fits: a frame has not more than 2^64 entries.
+pub(crate) const MAX_HALVES: u32 = 64;
+
 impl Node {
     /// What this node polls of a source.
     pub(crate) fn poll_of(&self, source: ClusterNo) -> Result<Option<Poll>, OutOfMemory> {
@@ -254,7 +257,7 @@ impl Node {
         largest: u64,
     ) -> Result<Items<u8>, OutOfMemory> {
         let mut piece = piece;
-        loop {
+        for _half in 0..MAX_HALVES {
             let count = piece.entries.as_slice().len();
             let frame = self.frame_of(to, Body::Entries(piece))?;
             let text = frame_text(self.alloc, &frame)?;
@@ -269,6 +272,7 @@ impl Node {
                 _ => return Ok(Items::new(text)),
             }
         }
+        self.frame(to, Body::Entries(piece))
     }
 }
 

@@ -115,7 +115,10 @@ fn run<J: Journal, S: Source + Drop, O: Sink + Drop, E: Sink + Drop>(
         journal,
         &mut streams.err,
     )?;
-    while let Some(line) = lines.next(&mut streams.source)? {
+    for _line in 0..u64::MAX {
+        let Some(line) = lines.next(&mut streams.source)? else {
+            return Ok(());
+        };
         let mut text = session.line(line.as_slice())?;
         text.extend_from_slice(b".\n")?;
         keep(alloc, line.as_slice(), journal)?;
@@ -155,7 +158,10 @@ struct Opened {
 /// Reads the header and which node it is, and makes it.
 fn open<S: Source>(alloc: Global, lines: &mut Lines, source: &mut S) -> Result<Opened, Stop> {
     let mut text = Vec::new(alloc);
-    while let Some(line) = lines.next(source)? {
+    for _line in 0..u64::MAX {
+        let Some(line) = lines.next(source)? else {
+            return Err(Stop::NoNode);
+        };
         if let Some(name) = line.as_slice().strip_prefix(b"node ") {
             let session = match Session::open(alloc, text.as_slice(), name, BOUNDS) {
                 Ok(session) => session,
@@ -197,7 +203,10 @@ fn begin<J: Journal, E: Sink>(
 /// Does the kept lines again, and answers how many bytes there are behind the last whole one.
 fn again(session: &mut Session, kept: &[u8]) -> Result<usize, Stop> {
     let mut rest = kept;
-    while let Some(place) = rest.iter().position(|byte| *byte == b'\n') {
+    for _line in 0..kept.len() {
+        let Some(place) = rest.iter().position(|byte| *byte == b'\n') else {
+            return Ok(rest.len());
+        };
         let (line, after) = rest.split_at(place);
         session.line(line)?;
         rest = match after {

@@ -63,7 +63,7 @@ impl Lines {
     /// The next line, without its end. None where there is none.
     pub(crate) fn next<S: Source>(&mut self, source: &mut S) -> Result<Option<Vec<u8>>, LineError> {
         let mut looked: usize = 0;
-        loop {
+        for _piece in 0..u64::MAX {
             if let Some(place) = self.end_after(looked) {
                 return Ok(Some(self.take(place)?));
             }
@@ -73,6 +73,7 @@ impl Lines {
             }
             self.read_more(source)?;
         }
+        Err(LineError::Source)
     }
 
     /// Where the first line ends, of which the first bytes were looked at.
