@@ -99,12 +99,6 @@ impl Session {
         &self.node
     }
 
-    /// The node was brought to where it was by what it had kept: it writes once all others have polled, or the caller vouches
-    /// for what was kept (`force`).
-    pub fn loaded(&mut self) {
-        self.node.loaded();
-    }
-
     /// Takes a line: the lines that answer it. They are numbered from 1.
     pub fn line(&mut self, line: &[u8]) -> Result<Vec<u8>, OutOfMemory> {
         self.number = self.number.saturating_add(1);

@@ -52,6 +52,9 @@ fn tell_aside(
     } else if word == b"force".as_slice() {
         node.force();
         answer.say(b"ok")?;
+    } else if word == b"loaded".as_slice() {
+        node.loaded();
+        answer.say(b"ok")?;
     } else if word == b"status".as_slice() {
         status(node, answer)?;
     } else {

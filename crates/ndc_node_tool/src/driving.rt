@@ -14,6 +14,10 @@ const BOUNDS: Bounds = Bounds {
     letters: 1_000,
 };
 
+/// The line by which a node knows that it was brought to where it was: it is kept like each other one, so that what comes
+/// after it comes to the same when the lines are done again.
+const LOADED: &[u8] = b"loaded";
+
 /// The statuses that the program ends with.
 const OK: u8 = 0;
 
@@ -109,6 +113,7 @@ fn run<J: Journal, S: Source + Drop, O: Sink + Drop, E: Sink + Drop>(
     let Opened { session, text } = opened;
     let mut session = session;
     begin(
+        alloc,
         &mut session,
         text.as_slice(),
         kept,
@@ -180,6 +185,7 @@ fn open<S: Source>(alloc: Global, lines: &mut Lines, source: &mut S) -> Result<O
 
 /// Brings a node to where it was, by what was kept; where nothing was, keeps which node it is.
 fn begin<J: Journal, E: Sink>(
+    alloc: Global,
     session: &mut Session,
     text: &[u8],
     kept: &[u8],
@@ -193,11 +199,11 @@ fn begin<J: Journal, E: Sink>(
         return Err(Stop::OtherStore);
     };
     let left = again(session, rest)?;
-    session.loaded();
     if left > 0 {
         cut(kept.len(), left, journal, err)?;
     }
-    Ok(())
+    session.line(LOADED)?;
+    keep(alloc, LOADED, journal)
 }
 
 /// Does the kept lines again, and answers how many bytes there are behind the last whole one.
