@@ -4,7 +4,6 @@ import random
 import subprocess
 
 
-
 class Node:
     """One process, and the name of its cluster."""
 
