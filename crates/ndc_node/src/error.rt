@@ -108,10 +108,6 @@ impl<E, T: Drop> From<AllocFailed<T>> for CallError<E> {
     }
 }
 
-/// No refusal: the call has none of its own.
-#[derive(Clone, Copy, Debug, PartialEq, Eq)]
-pub enum NoRefusal {}
-
 /// Why a handover does not begin, or is not completed.
 #[derive(Clone, Copy, Debug, PartialEq, Eq, Error)]
 pub enum HandError {

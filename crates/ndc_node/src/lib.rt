@@ -27,7 +27,7 @@ mod status;
 mod writing;
 
 pub use bounds::Bounds;
-pub use error::{CallError, FrameError, HandError, NoRefusal, NodeError, ReportError};
+pub use error::{CallError, FrameError, HandError, NodeError, ReportError};
 pub use heard::Heard;
 pub use letter::{Letter, LetterCause};
 pub use node::Node;

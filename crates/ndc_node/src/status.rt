@@ -1,5 +1,5 @@
 use crate::admitting::Came;
-use crate::error::{CallError, NoRefusal};
+use crate::error::CallError;
 use crate::heard::Heard;
 use crate::letter::Letter;
 use crate::node::Node;
@@ -65,14 +65,14 @@ impl Node {
     }
 
     /// Takes up all letters again, in order: those that are not admitted now are letters again.
-    pub fn retry(&mut self) -> Result<Heard, CallError<NoRefusal>> {
+    pub fn retry(&mut self) -> Result<Heard, CallError<()>> {
         self.begin()?;
         let heard = self.taken_again();
         self.end(heard)
     }
 
     /// All letters are taken up again.
-    fn taken_again(&mut self) -> Result<Heard, CallError<NoRefusal>> {
+    fn taken_again(&mut self) -> Result<Heard, CallError<()>> {
         let mut heard = Heard::nothing(self.alloc);
         let letters = mem::replace(&mut self.letters, Vec::new(self.alloc));
         for letter in letters {

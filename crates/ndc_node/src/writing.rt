@@ -1,4 +1,4 @@
-use crate::error::{CallError, NoRefusal, of_try};
+use crate::error::{CallError, of_try};
 use crate::node::Node;
 use ndc_cluster::Home;
 use ndc_command::Command;
@@ -96,14 +96,14 @@ impl Node {
 
     /// Signals that current runs have not seen are applied again in each workflow to which the node may write: where the
     /// batches stand that are written, shard by shard. Workflows in which nothing can be written are passed over.
-    pub fn reapply(&mut self) -> Result<Vec<(Name, Name, BatchKey)>, CallError<NoRefusal>> {
+    pub fn reapply(&mut self) -> Result<Vec<(Name, Name, BatchKey)>, CallError<()>> {
         self.begin_writing()?;
         let written = self.write_again();
         self.end(written)
     }
 
     /// What is applied again is written in each shard, and goes last in its queue.
-    fn write_again(&mut self) -> Result<Vec<(Name, Name, BatchKey)>, CallError<NoRefusal>> {
+    fn write_again(&mut self) -> Result<Vec<(Name, Name, BatchKey)>, CallError<()>> {
         let mut all = Vec::new(self.alloc);
         let home = Home {
             clusters: &self.clusters,
@@ -123,7 +123,7 @@ impl Node {
         domain: &Name,
         workflow: &Name,
         key: BatchKey,
-    ) -> Result<bool, CallError<NoRefusal>> {
+    ) -> Result<bool, CallError<()>> {
         self.begin()?;
         let forgotten = self.forgotten(domain, workflow, key);
         self.end(forgotten)
@@ -135,7 +135,7 @@ impl Node {
         domain: &Name,
         workflow: &Name,
         key: BatchKey,
-    ) -> Result<bool, CallError<NoRefusal>> {
+    ) -> Result<bool, CallError<()>> {
         let shard = self.shard_of(domain, workflow);
         match self.seats.get_mut(shard as usize) {
             Some(seat) => {
