@@ -55,11 +55,11 @@ impl Node {
         self.note_told(from, shard, first, taken.next, left, taken.last, heard)
     }
 
-    /// Those of these domains whose records name this node.
+    /// Those of these domains whose records name this node, or which are handed over to it.
     fn known_late(&self, domains: &[Name]) -> Result<Vec<Name>, OutOfMemory> {
         let mut known = Vec::new(self.alloc);
         for domain in domains {
-            if self.names(self.me, domain) {
+            if self.names(self.me, domain) || self.is_offered(domain) {
                 known.push(domain.try_copy()?)?;
             }
         }

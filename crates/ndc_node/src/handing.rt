@@ -17,6 +17,11 @@ impl Node {
         self.open.iter().any(|one| one.domain == *domain)
     }
 
+    /// Whether a handover of a domain to this node was told.
+    pub(crate) fn is_offered(&self, domain: &Name) -> bool {
+        self.offers.iter().any(|one| one.domain == *domain)
+    }
+
     /// Begins to hand a domain over: this node writes nothing more to it, and the version that the target is to have. The
     /// target becomes active by its own `complete`. Refused where a handover of the domain is open, and as
     /// [`Handover::begin`] refuses it.
