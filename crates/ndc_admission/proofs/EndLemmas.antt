@@ -10,6 +10,7 @@ use Rattle.ndc_history.specs.declared.item.Item.{Item}
 use Rattle.ndc_model_cells.specs.declared.message.Message.{Message}
 use Rattle.ndc_model_cells.specs.Keeping.{IsMessageOf}
 use Rattle.ndc_model_sets.specs.Paths.{before_items, events_to, item_of, last_event, last_from, last_id, id_or_zero, versions_of}
+use Rattle.ndc_model_sets.specs.Sets.{Has}
 use Rattle.ndc_model_sets.specs.Sound.{IsSound}
 use Rattle.ndc_model_sets.proofs.EventLemmas.{before-suc}
 use Rattle.ndc_model_sets.proofs.FaultLemmas.{Passes, passes}
@@ -50,7 +51,7 @@ last-version version event [] t = eqb-true event.version version (and_parts (eve
 last-version version event (next ∷ events) t = last-version version next events (and_parts (event.version == version) (are_of_version version (next ∷ events)) t).1
 
 -- the item of a batch without a fault is that of its last event
-batch-item : (b : Batch) → Passes b → (last : Event) × (last_event b.events ≡ Some last) × (item_of last ≡ item_of_batch b)
+pub batch-item : (b : Batch) → Passes b → (last : Event) × (last_event b.events ≡ Some last) × (item_of last ≡ item_of_batch b)
 batch-item b p =
     let last = last_from p.event p.events in
     let is : last_event b.events ≡ Some last = ap last_event p.are in
@@ -58,13 +59,18 @@ batch-item b p =
     let id : last.id ≡ last_id b.events = sym (ap id_or_zero is) in
     (last, is, ap (λ (i : ℕ). record { id = i; version = last.version }) id ∙ ap (λ (v : ℕ). record { id = last_id b.events; version = v }) version)
 
-is-self : (item : Item) → is_last item (Some item) ≡ true
+pub is-self : (item : Item) → is_last item (Some item) ≡ true
 is-self item = and_from (item.id == item.id) (item.version == item.version) (eq-eqb item.id item.id refl) (eq-eqb item.version item.version refl)
+
+-- the history of the path to a batch of a sound set ends with the item of the batch
+pub path-ends : (all : List Batch) (b : Batch) → IsSound all → Has all b → last_item (versions_of (events_to b.key all)) ≡ Some (item_of_batch b)
+path-ends all b sound has =
+    let own = batch-item b (passes b (sound.faultless b has)) in
+    let ends : last_event (events_to b.key all) ≡ Some own.0 = ends_with_batch all b sound.set sound.closed sound.faultless sound.parents has ∙ own.1 in
+    ends-history (events_to b.key all) own.0 ends ∙ ap (λ (i : Item). Some i) own.2
 
 pub set_history_ends : (all : List Batch) (sent : Message) → IsSound all → IsMessageOf all sent → history_ends sent ≡ true
 set_history_ends all sent sound of =
     let b = sent.batch in
-    let own = batch-item b (passes b (sound.faultless b of.has)) in
-    let ends : last_event (events_to b.key all) ≡ Some own.0 = ends_with_batch all b sound.set sound.closed sound.faultless sound.parents of.has ∙ own.1 in
-    let last : last_item sent.history ≡ Some (item_of_batch b) = ap last_item of.history ∙ ends-history (events_to b.key all) own.0 ends ∙ ap (λ (i : Item). Some i) own.2 in
+    let last : last_item sent.history ≡ Some (item_of_batch b) = ap last_item of.history ∙ path-ends all b sound of.has in
     ap (is_last (item_of_batch b)) last ∙ is-self (item_of_batch b)

@@ -1,3 +1,4 @@
+pub mod AddedLemmas
 pub mod EndLemmas
 pub mod FaultLemmas
 pub mod GoesLemmas

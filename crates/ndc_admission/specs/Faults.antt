@@ -1,4 +1,4 @@
--- Why a message is none that cells send, the first cause, and what a message is that has none.
+-- Why a message is not one that cells send, the first cause, and what a message is that has none.
 use Rattle.std.specs.Prelude.{◌≡◌, ◌≤◌, ◌^◌, Bool, true, false, ◌&&◌, not, nat_le, is_some, is_none, IsSome, IfSome, List, [], ◌∷◌, Option, Some, None, option_map}
 use Rattle.std.specs.Bool.{then_some}
 use Rattle.std.specs.List.{AllByRecursion}
@@ -49,7 +49,7 @@ abbrev pub continues : EventKind → Bool
 continues (WorkflowExecutionContinuedAsNew run workflow_type) = true
 continues kind = false
 
--- the causes why a message is none that cells of these clusters send, each where it holds, in their order
+-- the causes why a message is not one that cells of these clusters send, each where it holds, in their order
 abbrev pub causes : Message → ClusterList → List (Option MessageFault)
 causes sent clusters =
     option_map Faulty (fault_of sent.batch)
@@ -64,7 +64,7 @@ causes sent clusters =
     ∷ then_some (is_none (writer_of clusters sent.batch.key.version)) NoWriter
     ∷ []
 
--- why a message is none that cells of these clusters send: the first cause that holds
+-- why a message is not one that cells of these clusters send: the first cause that holds
 unfoldable pub first_fault : Message → ClusterList → Option MessageFault
 first_fault sent clusters = first_of (causes sent clusters)
 

@@ -1,4 +1,4 @@
-// The first cause why a message is none that cells send.
+// The first cause why a message is not one that cells send.
 ghost use Rattle.std.specs.Prelude.{◌≡◌, not};
 ghost use Rattle.std.specs.Option.{option_copied};
 ghost use Rattle.ndc_event.specs.Key.{key_eq};
@@ -16,7 +16,7 @@ use thiserror::Error;
 /// The greatest task that a message may have: so the set of a workflow keeps its room.
 pub const MAX_TASK: u64 = 100_000_000_000;
 
-/// Why a message is none that cells of these clusters send: the first that holds, in this order. Its *second* is the
+/// Why a message is not one that cells of these clusters send: the first that holds, in this order. Its *second* is the
 /// batch that it brings beside its own.
 #[derive(Clone, Copy, Debug, PartialEq, Eq, Error)]
 pub enum MessageFault {
@@ -53,7 +53,7 @@ pub enum MessageFault {
     NoWriter,
 }
 
-/// Why the message is none that cells of these clusters send: the first cause that holds, in the order of
+/// Why the message is not one that cells of these clusters send: the first cause that holds, in the order of
 /// [`MessageFault`]. None exactly where it is well-made (`IsWellMade`): the law
 /// [`crate::a_faultless_message_is_well_made`]. It takes no memory. It goes over
 /// the events of each batch three times, two of which are [`Batch::check`].
@@ -126,7 +126,8 @@ fn is_second_unfit(second: Option<&Batch>) -> bool
 /// Whether there is a second of another domain or workflow.
 fn is_second_foreign(batch: &Batch, second: Option<&Batch>) -> bool
     ensures { result
-        ≡ second_is (λ b. not (is_of batch.now.domain batch.now.workflow b)) (option_copied second.entry) }
+        ≡ second_is (λ b. not (is_of batch.now.domain batch.now.workflow b)) (option_copied
+        second.entry) }
 {
     match second {
         None => false,

@@ -2,7 +2,7 @@
 ghost use Rattle.std.specs.Prelude.{◌≡◌, ◌^◌, None, IfSome, IsSome, List, true};
 ghost use Rattle.std.specs.List.{AllByRecursion};
 ghost use Rattle.ndc_admission.specs.Faults.{IsWellMade, first_fault};
-ghost use Rattle.ndc_admission.specs.History.{history_ends};
+ghost use Rattle.ndc_admission.specs.History.{history_ends, tells_path, TellsPathIn};
 ghost use Rattle.ndc_admission.specs.Numbers.{is_in_range};
 ghost use Rattle.ndc_domain.specs.Clusters.{ClusterList, writer_of};
 ghost use Rattle.ndc_event.specs.declared.batch.Batch.{Batch};
@@ -11,6 +11,8 @@ ghost use Rattle.ndc_model_cells.specs.Cells.{both};
 ghost use Rattle.ndc_model_cells.specs.Keeping.{HaveTasksUpTo, IsMessageOf};
 ghost use Rattle.ndc_model_cells.specs.Messages.{HasSmallIds, IsMessage};
 ghost use Rattle.ndc_model_cells.specs.Places.{is_of};
+ghost use Rattle.ndc_model_sets.specs.Learned.{has_key, IsClosed, IsPart};
+ghost use Rattle.ndc_model_sets.specs.Sets.{Has, IsSet, earlier};
 ghost use Rattle.ndc_model_sets.specs.Sound.{IsSound};
 ghost use Rattle.ndc_text.specs.Ranges.{InRange};
 
@@ -60,4 +62,13 @@ pub fn a_message_of_a_sound_set_is_well_made()
 pub fn histories_of_a_sound_set_end_with_their_batch()
     ensures { (all : List Batch) (sent : Sent) → IsSound all → IsMessageOf all sent
         → history_ends sent ≡ true }
+{}
+
+/// The history of a message of a sound set is that of its path as any closed part of the set tells it that has the batch's
+/// parent, where there is one: no cell refuses a history that an honest cell sends.
+#[tactic(auto, using(crate::proofs::AddedLemmas::set_tells_path))]
+pub fn histories_of_a_sound_set_are_those_of_their_paths()
+    ensures { (all known : List Batch) (sent : Sent) → IsSound all → IsSet known → IsClosed known
+        → IsPart known all → Has all sent.batch → has_key (earlier sent.batch) known ≡ true
+        → TellsPathIn all sent → tells_path known sent ≡ true }
 {}

@@ -1,10 +1,11 @@
 -- Honest messages are admitted as they arrive.
-use Rattle.std.proofs.Common.{◌≡◌, ◌≤◌, ◌^◌, Bool, true, false, not, ◌&&◌, is_some, List, [], ◌∷◌, Option, Some, None, IfSome, IsOk, Result, Ok, Err, refl, sym, ◌∙◌, subst, ap, true≢false, if◌then◌else◌, arith}
+use Rattle.std.proofs.Common.{◌≡◌, ◌≤◌, ◌^◌, Bool, true, false, not, ◌&&◌, is_some, List, [], ◌∷◌, Option, Some, None, IfSome, IsOk, Result, Ok, Err, ◌⊎◌, inl, inr, refl, sym, ◌∙◌, subst, ap, true≢false, if◌then◌else◌, arith}
 use Rattle.std.specs.Prelude.{option_to_list}
 use Rattle.std.specs.Option.{option_or}
 use Rattle.std.specs.List.{AllByRecursion}
 use Rattle.std.proofs.lemmas.Bool.{and_from}
 use Rattle.ndc_admission.proofs.EndLemmas.{set_history_ends}
+use Rattle.ndc_admission.specs.History.{history_ends}
 use Rattle.ndc_admission.proofs.MadeLemmas.{made_message, made_small}
 use Rattle.ndc_event.specs.Batch.{fault_of}
 use Rattle.ndc_event.specs.Key.{key_eq}
@@ -24,17 +25,17 @@ use Rattle.ndc_model_sets.proofs.SoundLemmas.{part_is_sound}
 use Rattle.ndc_model_sets.specs.Learned.{has_key, learned, IsPart}
 use Rattle.ndc_model_sets.specs.Sets.{Has, IsSet, batch_at, earlier}
 use Rattle.ndc_model_sets.specs.Sound.{IsSound}
-use Rattle.ndc_shard_runs.specs.declared.misfit.Misfit.{Misfit}
 use Rattle.ndc_shard_waiting.proofs.KeptLemmas.{both-back}
 use Rattle.ndc_shard_waiting.proofs.LearnLemmas.{set-all, with-found, with-set}
 use Rattle.ndc_shard_waiting.specs.Learning.{with_message, with_messages}
 use Rattle.ndc_shard_workflows.proofs.FreedLemmas.{freed-with}
 use Rattle.ndc_shard_workflows.proofs.HonestLemmas.{all-settle, new-fits}
-use Rattle.ndc_shard_workflows.specs.Admitting.{HasSmallTask, IsAdmitted, Settling, fit_in, is_faultless, is_second_faultless, is_whole, settled_with}
-use Rattle.ndc_shard_workflows.specs.Terms.{HasRival, IsKnown, TermsValue}
+use Rattle.ndc_shard_workflows.specs.Admitting.{HasSmallTask, IsAdmitted, IsNew, IsRefused, Settling, fit_message, is_faultless, is_second_faultless, is_whole, settled_with}
+use Rattle.ndc_shard_workflows.specs.Terms.{HasNoRival, HasRival, IsForeign, IsKnown, TermsValue}
 use Rattle.ndc_shard_workflows.specs.Workflow.{IsWorkflow, after_arrival, beside, has_arrived, workflow_with}
 use Rattle.ndc_shard_workflows.specs.declared.admission.Admission.{Admission}
 use Rattle.ndc_shard_workflows.specs.declared.admission.Admission.TheVariants as admission
+use Rattle.ndc_shard_workflows.specs.declared.admission.NotAdmitted.{NotAdmitted}
 use Rattle.ndc_shard_workflows.specs.declared.admission.NotAdmitted.TheVariants as refused
 
 module _ (terms : TermsValue) (all : List Batch) (sent : Message) (before after : WorkflowValue) (is : IsWorkflow before) (known_sound : IsSound (learned before.arrived)) (honest : IsHonest terms all sent before) where
@@ -134,11 +135,13 @@ module _ (terms : TermsValue) (all : List Batch) (sent : Message) (before after 
     then_set : IsSet (with_message sent before.arrived)
     then_set = with-set sent before.arrived arrived-set (both-back sent message)
 
+    part-with : IsPart (learned (with_message sent before.arrived)) all
+    part-with = λ b has. with-part b (reaches-has (with_message sent before.arrived) b (learned-reaches (with_message sent before.arrived) b then_set has))
+
     sound-with : IsSound (learned (with_message sent before.arrived))
     sound-with =
         let closed = learned_closed (with_message sent before.arrived) then_set in
-        part_is_sound all (learned (with_message sent before.arrived)) honest.sound closed.0 closed.1
-        (λ b has. with-part b (reaches-has (with_message sent before.arrived) b (learned-reaches (with_message sent before.arrived) b then_set has)))
+        part_is_sound all (learned (with_message sent before.arrived)) honest.sound closed.0 closed.1 part-with
 
     -- new to what is learned and what waits
     new-beside : IsNewTo (with_messages before.waiting known) sent
@@ -146,6 +149,9 @@ module _ (terms : TermsValue) (all : List Batch) (sent : Message) (before after 
 
     sound-beside : IsSound (learned (with_message sent (with_messages before.waiting known)))
     sound-beside = subst (λ (w : WorkflowValue). IsSound (learned (with_message sent w.arrived))) is.parts sound-with
+
+    learned-part : IsPart (learned (with_message sent (with_messages before.waiting known))) all
+    learned-part = subst (λ (w : WorkflowValue). IsPart (learned (with_message sent w.arrived)) all) is.parts part-with
 
     not-arrived : has_arrived sent.batch.key before ≡ false
     not-arrived = ap is_some new.0
@@ -155,15 +161,15 @@ module _ (terms : TermsValue) (all : List Batch) (sent : Message) (before after 
     as-arrival e = e ∙ sym (ap (λ t. if t then before else workflow_with sent before) not-arrived)
 
     module _ (reached : has_key (earlier sent.batch) known ≡ true) where
-      fits : IsOk (fit_in known sent)
+      fits : IsOk (fit_message known sent)
       fits =
           new-fits known before.waiting is.apart sent message new-beside reached (made_small sent terms.clusters honest.made) honest.bounds.ids known_sound sound-beside honest.made.lone honest.bounds.lone
-          honest.bounds.tasks small-tasks honest.bounds.waiting_tasks
+          honest.bounds.tasks small-tasks honest.bounds.waiting_tasks all honest.sound learned-part honest.message.history honest.histories
 
-      no-misfit : (why : Misfit) → fit_in known sent ≡ Err why → ⊥
-      no-misfit why e = absurd-ok (fit_in known sent) fits e
+      no-refusal : (why : NotAdmitted) → fit_message known sent ≡ Err why → ⊥
+      no-refusal why e = absurd-ok (fit_message known sent) fits e
         where
-          absurd-ok : {X : Type 0} (r : Result X Misfit) → IsOk r → r ≡ Err why → ⊥
+          absurd-ok : {X : Type 0} (r : Result X NotAdmitted) → IsOk r → r ≡ Err why → ⊥
           absurd-ok (Ok x) ok f = absurd (cc)
           absurd-ok (Err x) ok f = absurd (cc)
 
@@ -172,7 +178,7 @@ module _ (terms : TermsValue) (all : List Batch) (sent : Message) (before after 
           as-arrival (e
           ∙ ap (λ (s : Settling). beside s.known s.waiting)
           (all-settle known before.waiting is.apart sent message new-beside reached (made_small sent terms.clusters honest.made) honest.bounds.ids known_sound sound-beside honest.made.lone honest.bounds.lone
-          honest.bounds.tasks small-tasks honest.bounds.waiting_tasks)
+          honest.bounds.tasks small-tasks honest.bounds.waiting_tasks all honest.sound learned-part honest.message.history honest.histories)
           ∙ freed-with known before.waiting is.apart sent message new-beside reached ∙ ap (workflow_with sent) (sym is.parts))
 
   known-as : IsKnown before.arrived sent → after ≡ before → after ≡ after_arrival sent before
@@ -184,8 +190,12 @@ module _ (terms : TermsValue) (all : List Batch) (sent : Message) (before after 
   admitted-as (admission.Refused refused.OwnVersion) it = absurd (true≢false (sym it.0 ∙ honest.foreign.version))
   admitted-as (admission.Refused refused.OwnOrigin) it = absurd (true≢false (sym it.0.1 ∙ honest.foreign.origins))
   admitted-as (admission.Refused (refused.Rival key waits)) it = absurd (no-rival key it.0.1)
-  admitted-as (admission.Refused refused.History) it = absurd (true≢false (sym (set_history_ends all sent honest.sound honest.message) ∙ it.0.2))
-  admitted-as (admission.Refused (refused.Misfit why)) it = absurd (no-misfit it.0.0.new (it.0.1.reached whole) why it.0.1.why_is)
+  admitted-as (admission.Refused refused.History) it = absurd (by it.0)
+    where
+      by : (IsForeign terms known sent × HasNoRival before.arrived sent × (history_ends sent ≡ false)) ⊎ (IsNew terms sent before × IsRefused sent refused.History before) → ⊥
+      by (inl at) = true≢false (sym (set_history_ends all sent honest.sound honest.message) ∙ at.2)
+      by (inr at) = no-refusal at.0.new (at.1.reached whole) refused.History at.1.why_is
+  admitted-as (admission.Refused (refused.Misfit why)) it = absurd (no-refusal it.0.0.new (it.0.1.reached whole) (refused.Misfit why) it.0.1.why_is)
   admitted-as (admission.Refused refused.Full) it = absurd (true≢false (sym honest.room ∙ it.0.2))
   admitted-as admission.Known it = known-as it.1 it.3
   admitted-as (admission.PutOff missing) it = as-arrival it.0.new it.1.waits

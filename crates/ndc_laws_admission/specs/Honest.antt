@@ -2,6 +2,7 @@
 use Rattle.std.specs.Prelude.{◌≡◌, ◌<◌, ◌^◌, true, List, Some, IfSome}
 use Rattle.std.specs.List.{AllByRecursion}
 use Rattle.ndc_admission.specs.Faults.{IsWellMade}
+use Rattle.ndc_admission.specs.History.{TellsPathIn}
 use Rattle.ndc_event.specs.declared.batch.Batch.{Batch}
 use Rattle.ndc_model_cells.specs.Keeping.{IsMessageOf}
 use Rattle.ndc_model_cells.specs.Messages.{HasSmallIds, batches_of}
@@ -22,7 +23,7 @@ pub record IsInBounds (w : WorkflowValue) : Type 0 where
   pub waiting_tasks : AllByRecursion HasSmallTask (batches_of w.waiting)
 
 -- a message is honest: it is one of a sound set that holds all that has arrived, well made, of another cluster's versions, and there is room for it;
--- and what it carries has arrived with its batch alone
+-- what it carries has arrived with its batch alone, and the version histories of what waits are those of their paths
 pub record IsHonest (terms : TermsValue) (all : List Batch) (sent : Message) (w : WorkflowValue) : Type 0 where
   pub sound : IsSound all
   pub within : IsPart w.arrived all
@@ -31,4 +32,5 @@ pub record IsHonest (terms : TermsValue) (all : List Batch) (sent : Message) (w 
   pub foreign : IsForeign terms (learned w.arrived) sent
   pub with_first : IfSome sent.second (λ s. has_key (Some s.key) w.arrived ≡ true → has_key (Some sent.batch.key) w.arrived ≡ true)
   pub room : terms.may_wait ≡ true
+  pub histories : AllByRecursion (TellsPathIn all) w.waiting
   pub bounds : IsInBounds w

@@ -1,4 +1,4 @@
--- What a shard has written stays as it is where it is handed messages of which nobody vouches.
+-- What a shard has written stays as it is where it is handed messages that nobody vouches for.
 use Rattle.std.proofs.Common.{◌≡◌, ◌⊎◌, inl, inr, Bool, true, false, not, List, [], ◌∷◌, Option, Some, None, refl, sym, ◌∙◌, ap, subst, if◌then◌else◌, true≢false}
 use Rattle.std.specs.Prelude.{IfSome, is_some, option_to_list}
 use Rattle.std.specs.List.{AllByRecursion, cons_option, filter}

@@ -52,7 +52,7 @@ later-than : (d : Name) (names : List Name) → AllByRecursion (λ y. names_cmp 
 later-than d names all [] own = tt
 later-than d names all (n ∷ list) own = (less-in d n.0 names all own.0, later-than d names all list own.1)
 
--- workflows of one domain, and those of later ones behind them, are in order
+-- workflows of one domain, and those of later ones after them, are in order
 later-all : (d : Name) (one : Name × Name) → one.0 ≡ d → (list : Names) → AllByRecursion (λ n. names_cmp d n.0 ≡ Less) list → AllByRecursion (λ k. names_order one k ≡ Less) list
 later-all d one e [] later = tt
 later-all d one e (k ∷ list) later =

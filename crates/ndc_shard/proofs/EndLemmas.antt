@@ -1,4 +1,4 @@
--- Going up a path as far as it begins behind an id.
+-- Going up a path as far as it begins after an id.
 use Rattle.std.proofs.Common.{◌≡◌, ℕ, nat_lt, ◌+◌, ◌<◌, ◌&&◌, Bool, true, false, List, [], ◌∷◌, ◌++◌, length, reverse, Option, Some, None, if◌then◌else◌, refl, sym, ◌∙◌, subst, ap, arith, length-append}
 use Rattle.std.specs.Prelude.{IfSome}
 use Rattle.std.specs.List.{list_all}
@@ -78,7 +78,7 @@ module _ (id : ℕ) where
             here true f = ap (λ (k : BatchKey). end_behind id (path_to k batches)) own
             here false f = sym (ap (end_behind id) path ∙ end-none (path_from b.parent batches) b f)
 
-    -- the next batch is one of them, and begins behind the id
+    -- the next batch is one of them, and begins after the id
     abbrev IsNext : Batch → Type 0
     IsNext b = Has batches b × (is-behind b ≡ true)
 
@@ -94,7 +94,7 @@ module _ (id : ℕ) where
             here true f = (found-has batches key b e, f)
             here false f = tt
 
--- what is left of the end, and behind it those gone over, newest first
+-- what is left of the end, and after it those gone over, newest first
 pub record Ascends (id : ℕ) (batches : List Batch) (next : Option Batch) (done whole : List Batch) : Type 0 where
   pub rest : end_of id next batches ++ reverse done ≡ whole
   pub is : IfSome next (λ b. Has batches b × (nat_lt id (first_id b.events) ≡ true))

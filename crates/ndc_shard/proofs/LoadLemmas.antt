@@ -292,7 +292,7 @@ module _ (all : List Batch) (domain workflow : Name) (cell : Cell) (is : IsCell 
       (subst (λ (x : Message). Has (there (arrived_at m c)) x.batch) (sym same) (comes c l m one mine))
   all-come (m ∷ messages) from c l sent (inr later) own = all-come messages (λ x h. from x (inr h)) (arrived_at m c) (loading c l m (from m (inl refl))) sent later own
 
-  -- behind all messages of what the cell has learned of the domain
+  -- after all messages of what the cell has learned of the domain
   module _ (carried : AllByRecursion (HasCarrier cell) cell.arrived) (messages : List Message) (from : (sent : Message) → Among sent messages → IsSentBy cell sent)
       (each : (b : Batch) → Has own-known b → (sent : Message) → learned_message cell b ≡ Some sent → Among sent messages) where
     abbrev loaded : Cell

@@ -1,5 +1,5 @@
 -- No batch that a command, a reset or a reapplication writes is carried by another, but for what its entry carries; a reset writes one
--- entry, or two of which the second goes right behind the first.
+-- entry, or two of which the second goes right after the first.
 use Rattle.std.proofs.Common.{◌≡◌, ◌<◌, ◌++◌, ◌∙◌, ℕ, Bool, true, false, List, [], ◌∷◌, length, Option, Some, None, Result, Ok, Err, IfOk, if◌then◌else◌, refl, sym, subst, ap, arith}
 use Rattle.std.specs.Prelude.{option_to_list}
 use Rattle.ndc_command.specs.Laws.{begins_run}

@@ -1,4 +1,4 @@
--- An entry that comes behind all that is learned, and that the world lets a cell write, may be written.
+-- An entry that comes after all that is learned, and that the world lets a cell write, may be written.
 use Rattle.std.proofs.Common.{◌≡◌, true, List, [], ◌∷◌, Option, Some, None, refl, sym, ◌∙◌, subst, ap}
 use Rattle.std.specs.Prelude.{◌^◌, IfSome, option_to_list}
 use Rattle.std.specs.Option.{option_or}
@@ -128,7 +128,7 @@ module _ (domain workflow : Name) (entry : Entry) (cell : Cell) (fit : IsFit dom
     waiting = recursion_from_All _ _ (filter_passes (λ m. is_of domain workflow m.batch) cell.waiting);
   }
 
-  -- the workflow behind it is as it should be
+  -- the workflow after it is as it should be
   pub fit-then : IsFit domain workflow (with_written entry cell)
   fit-then = record {
     cell_is = writing_keeps entry cell fit.cell_is written.back second-back;

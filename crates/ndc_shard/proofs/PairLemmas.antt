@@ -103,7 +103,7 @@ module _ (b s : Batch) (w : WorkflowValue) (is : IsWorkflow w) (may : MayBeWritt
       ap (λ (l : List Batch). has_key (Some b.key) l) learned-then
       ∙ ap is_some (arrived-at b known b.key is.apart.set.ordered ∙ ap (λ o. option_or o (batch_at b.key (b ∷ []))) first-new ∙ at-first b [])
 
-  -- the second behind the first
+  -- the second after the first
   pub second-may : MayBeWritten (carrying s None) (workflows.with_written one w)
   second-may = record {
     message = record { back = goes-back b s goes; second = tt };
@@ -130,7 +130,7 @@ module _ (first second : Entry) (old : Cell) (two : GoAsTwo first second) (is : 
   first-own : IfSome first.second (λ b. is_of d n b ≡ true)
   first-own = subst (λ (o : Option Batch). IfSome o (λ b. is_of d n b ≡ true)) (sym two.first_alone) tt
 
-  -- its workflow behind the first
+  -- its workflow after the first
   between : workflow_of d n (with_written first old) ≡ workflows.with_written (carrying first.batch None) (workflow_of d n old)
   between =
       written_same d n first old is may.together.back (own-names first.batch) first-own

@@ -1,4 +1,4 @@
--- What a command or a reset replies, and the cell behind it.
+-- What a command or a reset replies, and the cell after it.
 use Rattle.std.proofs.Common.{◌≡◌, ◌≢◌, ◌<◌, List, [], ◌∷◌, length, arith, Result, Ok, Err, OnOk, OnErr, refl, sym, ◌∙◌, ap}
 use Rattle.ndc_model_cells.specs.Cells.{Cell}
 use Rattle.ndc_model_cells.specs.Jobs.{written_at, written_now, written_outcome}
@@ -35,7 +35,7 @@ cell-same asked (Err error) old new gives calm done kept = kept ∙ by asked (gi
     by (Ok entries) e = absurd (cc)
     by (Err other) e = refl
 
--- the keys of batches that were written are no error
+-- the keys of batches that were written are not an error
 pub keys-kept : (P : Type 0) (batches : List Batch) → 0 < length batches → (r : Result Written ShardError) → r ≡ keys_of batches → OnErr r P
 keys-kept P [] some r e = absurd (omega (arith, some))
 keys-kept P (b ∷ []) some (Ok written) e = tt

@@ -57,7 +57,7 @@ pub part-more-of : (first : Batch) (second : Option Batch) (all : List Batch) �
 part-more-of first None all set back = stays first all set.ordered
 part-more-of first (Some s) all set back = λ b has. stays s (arrived first all) (arrival_keeps_sets first all set back).ordered b (stays first all set.ordered b has)
 
--- the batch of a message is there behind it
+-- the batch of a message is there after it
 pub first-there : (first : Batch) (second : Option Batch) (all : List Batch) → IsSet all → PointsBack first → batch_at first.key all ≡ None → Has (arrived_second second (arrived first all)) first
 first-there first None all set back fresh = is_there first all set.ordered fresh
 first-there first (Some s) all set back fresh = stays s (arrived first all) (arrival_keeps_sets first all set back).ordered first (is_there first all set.ordered fresh)

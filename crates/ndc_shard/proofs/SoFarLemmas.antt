@@ -12,7 +12,7 @@ use Rattle.ndc_shard_workflows.proofs.FrontLemmas.{one-more}
 abbrev Names : Type 0
 Names = List (Name × Name)
 
--- a front of the list is done; in the rest it may be done, and with that all is
+-- a prefix of the list is done; in the rest it may be done, and with that all is
 abbrev pub IsDoneSoFar : Desk → Names → Cell → Names → Names → List Batch → Cell → Type 0
 IsDoneSoFar home list old front rest batches cell =
     MayReapplyAmong home rest cell × (reapplied_among home rest cell ≡ reapplied_among home list old)

@@ -1,4 +1,4 @@
--- Reapplication is tried in workflows of a shard of which nobody vouches, one after the other.
+-- Reapplication is tried in workflows of a shard that nobody vouches for, one after the other.
 use Rattle.std.proofs.Common.{◌≡◌, ◌≤◌, ◌++◌, ℕ, Bool, true, false, if◌then◌else◌, List, [], ◌∷◌, Option, Some, None, Result, Ok, Err, IfOk, IsOk, refl, sym, ◌∙◌, subst, ap, map}
 use Rattle.std.specs.Prelude.{IfSome, option_to_list}
 use Rattle.std.specs.List.{AllByRecursion}
@@ -166,7 +166,7 @@ tried-more home (names ∷ front) one before between after written own skipped t
   skipped_is = ap (λ (l : List Skipped). l ++ told) so.skipped_is ∙ append_assoc so.told so.others told;
 }
 
--- a front of the list is gone over
+-- a prefix of the list is gone over
 pub record IsTriedSoFar (home : Desk) (list : Names) (old : Cell) (front rest : Names) (written : List Standing) (skipped : List Skipped) (cell : Cell) : Type 0 where
   pub tried : AreTried home front old written skipped cell
   pub list_is : list ≡ front ++ rest

@@ -1,4 +1,4 @@
--- What is written for which nobody vouches.
+-- What is written that nobody vouches for.
 use Rattle.std.proofs.Common.{arith, ◌≡◌, ◌++◌, ◌&&◌, ◌^◌, Bool, true, false, true≢false, List, [], ◌∷◌, Option, Some, None, Result, Ok, Err, IfOk, IsOk, ◌≤◌, ℕ, refl, sym, ◌∙◌, subst, ap}
 use Rattle.std.proofs.lemmas.List.{append-nil}
 use Rattle.std.specs.Prelude.{IfSome, nat_le, option_to_list}

@@ -1,4 +1,4 @@
--- Two entries of which the second goes right behind the first are written together as they are one after the other.
+-- Two entries of which the second goes right after the first are written together as they are one after the other.
 use Rattle.std.proofs.Common.{◌≡◌, ◌++◌, true, List, [], ◌∷◌, Option, Some, None, refl, sym, ◌∙◌, subst, ap}
 use Rattle.std.specs.Prelude.{IfSome}
 use Rattle.ndc_event.specs.declared.batch.Batch.{Batch}
@@ -44,7 +44,7 @@ module _ (first second : Entry) (old : Cell) (two : GoAsTwo first second) (is : 
   first-own : IfSome first.second (λ b. is_of d n b ≡ true)
   first-own = subst (λ (o : Option Batch). IfSome o (λ b. is_of d n b ≡ true)) (sym two.first_alone) tt
 
-  -- its workflow behind the first
+  -- its workflow after the first
   between : workflow_of d n (with_written first old) ≡ workflows.with_written (carrying first.batch None) (workflow_of d n old)
   between =
       written_same d n first old is may.0.message.back (own-names first.batch) first-own

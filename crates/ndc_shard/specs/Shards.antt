@@ -35,14 +35,14 @@ AreWritable [] cell = Unit {0}
 AreWritable (entry ∷ entries) cell =
     MayBeWritten (carrying entry.batch entry.second) (workflow_of entry.batch.domain entry.batch.workflow cell) × AreWritable entries (with_written entry cell)
 
--- the second of two entries goes right behind the first, in the same workflow, and neither carries a batch
+-- the second of two entries goes right after the first, in the same workflow, and neither carries a batch
 pub record GoAsTwo (first second : Entry) : Type 0 where
   pub first_alone : first.second ≡ None
   pub second_alone : second.second ≡ None
   pub behind : GoesBehind first.batch second.batch
   pub own : is_of first.batch.domain first.batch.workflow second.batch ≡ true
 
--- entries are one, or two of which the second goes right behind the first
+-- entries are one, or two of which the second goes right after the first
 abbrev pub AreOneOrTwo : List Entry → Type 0
 AreOneOrTwo [] = ⊥
 AreOneOrTwo (entry ∷ []) = Unit {0}

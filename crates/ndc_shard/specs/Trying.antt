@@ -1,4 +1,4 @@
--- What a shard of which nobody vouches writes, or why it does not.
+-- What a shard that nobody vouches for writes, or why it does not.
 use Rattle.std.specs.Prelude.{◌≡◌, ◌≤◌, ◌^◌, ◌++◌, map, List, [], ◌∷◌, Option, Some, None, IfSome, IfOk, IsOk, Result, Ok, Err, ⊤}
 use Rattle.std.specs.List.{AllByRecursion}
 use Rattle.ndc_command.specs.declared.refusal.CommandError.{CommandError}
@@ -124,7 +124,7 @@ pub record IsTriedInSome (home : Desk) (before after : Cell) : Type 0 where
   pub skipped : List Skipped
   pub tried : AreTried home workflows before written skipped after
 
--- reapplication was tried in a workflow: this is told behind what was told before
+-- reapplication was tried in a workflow: this is told after what was told before
 pub record IsTriedOnce (home : Desk) (names : Name × Name) (before after : Cell) (written written_then : List Standing) (skipped skipped_then : List Skipped) : Type 0 where
   pub own : List Standing
   pub told : List Skipped

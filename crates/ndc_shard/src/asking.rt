@@ -29,7 +29,8 @@ pub(crate) fn version_of(desk: &Desk, domain: &Name) -> Result<u64, Refusal>
 /// Whether the cluster's record of a domain does not let it write there. Then reapplication writes to no workflow of the
 /// domain, whatever is learned of it. Takes no memory.
 pub(crate) fn refuses(desk: &Desk, domain: &Name) -> bool
-    ensures { IsTrue result → (workflow : Text) (cell : Cell) → reapplication_of desk.now domain.now workflow cell ≡ [] }
+    ensures { IsTrue result → (workflow : Text) (cell : Cell)
+        → reapplication_of desk.now domain.now workflow cell ≡ [] }
 {
     match version_of(desk, domain) {
         Ok(_) => false,

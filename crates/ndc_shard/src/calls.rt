@@ -165,8 +165,13 @@ impl Shard {
         steps: &mut Steps<L>,
     ) -> Result<Written, ShardError>
         requires { CanWrite (desk_of home.now table.now) domain.now workflow.now self.old }
-        ensures written { Gives Memory (λ written. written) result (answer_of (command_of (desk_of home.now table.now) domain.now workflow.now command.now self.old)) }
-        ensures cell { OnOk result (self.new ≡ written_at (command_of (desk_of home.now table.now) domain.now workflow.now command.now self.old) self.old) }
+        ensures written { Gives Memory (λ written.
+            written) result (answer_of
+            (command_of (desk_of home.now table.now) domain.now workflow.now command.now
+            self.old)) }
+        ensures cell { OnOk result
+            (self.new ≡ written_at (command_of
+            (desk_of home.now table.now) domain.now workflow.now command.now self.old) self.old) }
         ensures unchanged { OnErr result (self.new ≡ self.old) }
     {
         self.is_in_order();
@@ -175,11 +180,11 @@ impl Shard {
         keys_of(batches.as_slice())
     }
 
-    /// A command to a workflow of a shard of which nobody vouches: of what has arrived nothing is asked. The keys of what it
-    /// writes, or why it writes nothing: the tasks of what is learned leave no room ([`TryError::Full`]); its refusal, the first
-    /// that holds; an id of what would be written is above 10^12 ([`TryError::Full`]); something stands under the key that
-    /// would be written, waits for it, or what would be written does not fit ([`TryError::NotWritten`]). After an error the
-    /// shard stays as it was.
+    /// A command to a workflow of a shard that nobody vouches for: of what has arrived nothing is asked. The keys of
+    /// what it writes, or why it writes nothing: the tasks of what is learned leave no room ([`TryError::Full`]); its
+    /// refusal, the first that holds; an id of what would be written is above 10^12 ([`TryError::Full`]); something
+    /// stands under the key that would be written, waits for it, or what would be written does not fit
+    /// ([`TryError::NotWritten`]). After an error the shard stays as it was.
     pub fn try_command<L>(
         &mut self,
         home: &Home,
@@ -189,9 +194,16 @@ impl Shard {
         command: &Command,
         steps: &mut Steps<L>,
     ) -> Result<Written, TryError>
-        ensures written { IfOk result (λ written. answer_of (command_of (desk_of home.now table.now) domain.now workflow.now command.now self.old) ≡ Ok written) }
-        ensures cell { OnOk result (self.new ≡ written_at (command_of (desk_of home.now table.now) domain.now workflow.now command.now self.old) self.old) }
-        ensures refused { IfErr result (λ why. IsNotTaken why domain.now workflow.now (command_of (desk_of home.now table.now) domain.now workflow.now command.now self.old) self.old) }
+        ensures written { IfOk result (λ written.
+            answer_of (command_of (desk_of home.now table.now) domain.now workflow.now command.now
+            self.old) ≡ Ok written) }
+        ensures cell { OnOk result
+            (self.new ≡ written_at (command_of
+            (desk_of home.now table.now) domain.now workflow.now command.now self.old) self.old) }
+        ensures refused { IfErr result (λ why.
+            IsNotTaken why domain.now workflow.now
+            (command_of (desk_of home.now table.now) domain.now workflow.now command.now self.old)
+            self.old) }
         ensures unchanged { OnErr result (self.new ≡ self.old) }
     {
         self.is_in_order();
@@ -226,8 +238,12 @@ impl Shard {
         steps: &mut Steps<L>,
     ) -> Result<Written, ShardError>
         requires { CanWrite (desk_of home.now table.now) domain.now workflow.now self.old }
-        ensures written { Gives Memory (λ written. written) result (answer_of (reset_at (desk_of home.now table.now) domain.now workflow.now event self.old)) }
-        ensures cell { OnOk result (self.new ≡ written_at (reset_at (desk_of home.now table.now) domain.now workflow.now event self.old) self.old) }
+        ensures written { Gives Memory (λ written.
+            written) result (answer_of
+            (reset_at (desk_of home.now table.now) domain.now workflow.now event self.old)) }
+        ensures cell { OnOk result
+            (self.new ≡ written_at (reset_at
+            (desk_of home.now table.now) domain.now workflow.now event self.old) self.old) }
         ensures unchanged { OnErr result (self.new ≡ self.old) }
     {
         self.is_in_order();
@@ -236,10 +252,10 @@ impl Shard {
         keys_of(batches.as_slice())
     }
 
-    /// A new run repeats the current one of a workflow of a shard of which nobody vouches, up to an event, counted from 1: of
-    /// what has arrived nothing is asked. The key of the first batch that is written, and of the other one, where an open run
-    /// is closed first; or why nothing is written, as [`Shard::try_command`] tells it. After an error the shard stays as it
-    /// was: both batches are written, or neither.
+    /// A new run repeats the current one of a workflow of a shard that nobody vouches for, up to an event, counted from
+    /// 1: of what has arrived nothing is asked. The key of the first batch that is written, and of the other one, where
+    /// an open run is closed first; or why nothing is written, as [`Shard::try_command`] tells it. After an error the
+    /// shard stays as it was: both batches are written, or neither.
     pub fn try_reset<L>(
         &mut self,
         home: &Home,
@@ -249,9 +265,16 @@ impl Shard {
         event: u64,
         steps: &mut Steps<L>,
     ) -> Result<Written, TryError>
-        ensures written { IfOk result (λ written. answer_of (reset_at (desk_of home.now table.now) domain.now workflow.now event self.old) ≡ Ok written) }
-        ensures cell { OnOk result (self.new ≡ written_at (reset_at (desk_of home.now table.now) domain.now workflow.now event self.old) self.old) }
-        ensures refused { IfErr result (λ why. IsNotTaken why domain.now workflow.now (reset_at (desk_of home.now table.now) domain.now workflow.now event self.old) self.old) }
+        ensures written { IfOk result (λ written.
+            answer_of (reset_at (desk_of home.now table.now) domain.now workflow.now event self.old)
+            ≡ Ok written) }
+        ensures cell { OnOk result
+            (self.new ≡ written_at (reset_at
+            (desk_of home.now table.now) domain.now workflow.now event self.old) self.old) }
+        ensures refused { IfErr result (λ why.
+            IsNotTaken why domain.now workflow.now
+            (reset_at (desk_of home.now table.now) domain.now workflow.now event self.old)
+            self.old) }
         ensures unchanged { OnErr result (self.new ≡ self.old) }
     {
         self.is_in_order();
@@ -298,9 +321,15 @@ impl Shard {
         steps: &mut Steps<L>,
     ) -> Result<Vec<(Name, Name, BatchKey)>, OutOfMemory>
         requires { CanWriteEach (desk_of home.now table.now) self.old }
-        ensures cell { OnOk result (self.new ≡ reapplied_in (desk_of home.now table.now) (workflows_of self.old.arrived) self.old) }
-        ensures places { IfOk result (λ places. places.items ≡ map names_of (reapplied_now (desk_of home.now table.now) (workflows_of self.old.arrived) self.old)) }
-        ensures err { OnErr result (IsReappliedInFirst (desk_of home.now table.now) (workflows_of self.old.arrived) self.old self.new) }
+        ensures cell { OnOk result
+            (self.new ≡ reapplied_in (desk_of home.now table.now)
+            (workflows_of self.old.arrived) self.old) }
+        ensures places { IfOk result (λ places.
+            places.items ≡ map names_of
+            (reapplied_now (desk_of home.now table.now) (workflows_of self.old.arrived) self.old)) }
+        ensures err { OnErr result
+            (IsReappliedInFirst (desk_of home.now table.now)
+            (workflows_of self.old.arrived) self.old self.new) }
     {
         self.is_in_order();
         let desk = Desk::new(home.clusters, home.me, home.limit, table);

@@ -13,7 +13,7 @@ pub enum ShardError {
     Memory,
 }
 
-/// Why a shard of which nobody vouches has not written what it was asked to: the first of these that holds.
+/// Why a shard that nobody vouches for has not written what it was asked to: the first of these that holds.
 #[derive(Clone, Copy, Debug, PartialEq, Eq, Error)]
 pub enum TryError {
     /// The tasks of what is learned leave no room, or an event of what would be written has an id above 10^12.

@@ -16,10 +16,10 @@ use ndc_shard_waiting::{PutOff, Waiting};
 use ndc_shard_workflows::{Workflow, Workflows};
 use std::alloc::Global;
 
-/// What is put off in a cell, in order of domain, workflow and key, each batch with the gap before it: behind the best item
-/// that the histories of the learned branches of its run have in common with the history that its message came with.
-/// Looks into no other cell. In time of what is put off times the branches of the run, and of what is learned of the
-/// workflows of which something is put off.
+/// What is put off in a cell, in order of domain, workflow and key, each batch with the gap before it: after the best
+/// item that the histories of the learned branches of its run have in common with the history that its message came
+/// with. Looks into no other cell. In time of what is put off times the branches of the run, and of what is learned of
+/// the workflows of which something is put off.
 pub(crate) fn gaps(alloc: Global, workflows: &Workflows) -> Result<Vec<GapOf>, OutOfMemory>
     ensures { IfOk result (λ list. list.items ≡ gaps_of workflows.now) }
 {
@@ -39,7 +39,8 @@ pub(crate) fn gaps_at(
     domain: &Name,
     workflow: &Name,
 ) -> Result<Vec<GapOf>, OutOfMemory>
-    ensures { IfOk result (λ list. list.items ≡ gaps_in (workflow_of domain.now workflow.now workflows.now)) }
+    ensures { IfOk result (λ list.
+        list.items ≡ gaps_in (workflow_of domain.now workflow.now workflows.now)) }
 {
     match workflows.find(domain, workflow) {
         Some(found) => gaps_in(alloc, found),
@@ -68,7 +69,8 @@ fn push_gap(
     waiting: &Waiting,
     one: &PutOff,
 ) -> Result<(), OutOfMemory>
-    ensures { OnOk result (list.new.items ≡ list.old.items ++ option_to_list (gap_there histories.now waiting.now one.now)) }
+    ensures { OnOk result (list.new.items
+        ≡ list.old.items ++ option_to_list (gap_there histories.now waiting.now one.now)) }
 {
     let Some(batch) = waiting.get(one.key) else {
         return Ok(());
@@ -84,7 +86,8 @@ fn gap_of(
     batch: &Batch,
     missing: BatchKey,
 ) -> Result<GapOf, OutOfMemory>
-    ensures { IfOk result (λ gap. gap ≡ gap_with (histories_at batch.now.run histories.now) waiting.now missing batch.now) }
+    ensures { IfOk result (λ gap.
+        gap ≡ gap_with (histories_at batch.now.run histories.now) waiting.now missing batch.now) }
 {
     Ok(GapOf {
         domain: batch.domain.try_copy()?,
@@ -98,7 +101,9 @@ fn gap_of(
 
 /// The gap before a batch, which this message brings; a batch that begins its run has no history before it.
 fn gap_before(histories: &Histories, batch: &Batch, sent: Option<&Message>) -> Gap
-    ensures { result ≡ gap_of (histories_at batch.now.run histories.now) (if is_some batch.now.parent then history_in (option_copied sent.entry) else []) (first_item batch.now) }
+    ensures { result ≡ gap_of (histories_at batch.now.run histories.now)
+        (if is_some batch.now.parent then history_in (option_copied sent.entry) else [])
+        (first_item batch.now) }
 {
     let first = first_item(batch);
     match sent {

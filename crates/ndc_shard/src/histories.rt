@@ -46,7 +46,8 @@ impl Histories {
 
     /// Those of what is learned of a workflow. In time of what is learned of it.
     pub(crate) fn of(alloc: Global, runs: &Runs) -> Result<Histories, OutOfMemory>
-        ensures { IfOk result (λ all. (run : RunKey) → histories_at run all ≡ histories run runs.now) }
+        ensures { IfOk result (λ all.
+            (run : RunKey) → histories_at run all ≡ histories run runs.now) }
     {
         let batches = runs.batches(alloc)?;
         let parents = parents_of(alloc, batches.as_slice())?;
@@ -85,7 +86,8 @@ impl Histories {
         parents: &BTreeSet<BatchKey>,
         batch: &Batch,
     ) -> Result<(), OutOfMemory>
-        ensures { OnOk result ((run : RunKey) → histories_at run self.new ≡ histories_at run self.old ++ branch_ending run parents.now.keys runs.now batch.now) }
+        ensures { OnOk result ((run : RunKey) → histories_at run self.new
+            ≡ histories_at run self.old ++ branch_ending run parents.now.keys runs.now batch.now) }
     {
         if parents.contains(&batch.key) {
             return Ok(());
@@ -98,7 +100,9 @@ impl Histories {
 
     /// Adds a history to those of a run.
     fn add(&mut self, run: RunId, history: VersionHistory) -> Result<(), OutOfMemory>
-        ensures { OnOk result ((one : RunKey) → histories_at one self.new ≡ (if same_run run one then histories_at one self.old ++ history ∷ [] else histories_at one self.old)) }
+        ensures { OnOk result ((one : RunKey) → histories_at one self.new
+            ≡ (if same_run run one then histories_at one self.old ++ history
+            ∷ [] else histories_at one self.old)) }
     {
         let mut list = self.take(run);
         list.push(history)?;
@@ -109,7 +113,8 @@ impl Histories {
     /// Takes those of a run out.
     fn take(&mut self, run: RunId) -> Vec<VersionHistory>
         ensures taken { result.items ≡ histories_at run self.old }
-        ensures others { (one : RunKey) → histories_at one self.new ≡ (if same_run run one then [] else histories_at one self.old) }
+        ensures others { (one : RunKey) → histories_at one self.new
+            ≡ (if same_run run one then [] else histories_at one self.old) }
     {
         match self.map.remove(&run.value) {
             Some(list) => list,
@@ -120,7 +125,8 @@ impl Histories {
 
 /// The keys of the batches that are parents of some of these.
 fn parents_of(alloc: Global, batches: &[&Batch]) -> Result<BTreeSet<BatchKey>, OutOfMemory>
-    ensures { IfOk result (λ parents. (b : One) → is_key_among b.key parents.keys ≡ has_child b (map (λ x. x.now) batches.now)) }
+    ensures { IfOk result (λ parents.
+        (b : One) → is_key_among b.key parents.keys ≡ has_child b (map (λ x. x.now) batches.now)) }
 {
     let mut parents = BTreeSet::new(alloc);
     for batch in batches {
@@ -131,7 +137,8 @@ fn parents_of(alloc: Global, batches: &[&Batch]) -> Result<BTreeSet<BatchKey>, O
 
 /// Adds the key of the batch's parent, where it has one.
 fn add_parent(parents: &mut BTreeSet<BatchKey>, batch: &Batch) -> Result<(), OutOfMemory>
-    ensures { OnOk result ((b : One) → is_key_among b.key parents.new.keys ≡ (is_key_among b.key parents.old.keys || is_wanted batch.now.parent b)) }
+    ensures { OnOk result ((b : One) → is_key_among b.key parents.new.keys
+        ≡ (is_key_among b.key parents.old.keys || is_wanted batch.now.parent b)) }
 {
     if let Some(parent) = batch.parent {
         parents.insert(parent)?;

@@ -50,9 +50,12 @@ fn do_command(
     workflow: &Name,
     command: &Command,
 ) -> Result<JobReply, OutOfMemory>
-    requires { MayBeAsked desk.now domain.now workflow.now (command_of desk.now domain.now workflow.now command.now shard.old) shard.old }
-    ensures cell { OnOk result (shard.new ≡ after_job desk.now (Commanded domain.now workflow.now command.now) shard.old) }
-    ensures reply { IfOk result (λ reply. reply ≡ reply_to desk.now (Commanded domain.now workflow.now command.now) shard.old) }
+    requires { MayBeAsked desk.now domain.now workflow.now
+        (command_of desk.now domain.now workflow.now command.now shard.old) shard.old }
+    ensures cell { OnOk result
+        (shard.new ≡ after_job desk.now (Commanded domain.now workflow.now command.now) shard.old) }
+    ensures reply { IfOk result (λ reply.
+        reply ≡ reply_to desk.now (Commanded domain.now workflow.now command.now) shard.old) }
 {
     let mut steps: Steps<Jobs> = Steps::new();
     let written = shard.write_command(desk, domain, workflow, command, &mut steps);
@@ -65,7 +68,8 @@ fn do_command(
 fn do_arrive(shard: &mut Shard, desk: &Desk, message: &Message) -> Result<JobReply, OutOfMemory>
     requires { MayArrive message.now shard.old }
     ensures cell { OnOk result (shard.new ≡ after_job desk.now (Arrive message.now) shard.old) }
-    ensures reply { IfOk result (λ reply. reply ≡ reply_to desk.now (Arrive message.now) shard.old) }
+    ensures reply { IfOk result (λ reply.
+        reply ≡ reply_to desk.now (Arrive message.now) shard.old) }
 {
     let mut steps: Steps<Jobs> = Steps::new();
     let arrival = shard.take_in(message.try_copy()?, &mut steps)?;
@@ -108,9 +112,12 @@ fn do_reset(
     workflow: &Name,
     event: u64,
 ) -> Result<JobReply, OutOfMemory>
-    requires { MayBeAsked desk.now domain.now workflow.now (reset_at desk.now domain.now workflow.now event shard.old) shard.old }
-    ensures cell { OnOk result (shard.new ≡ after_job desk.now (Reset domain.now workflow.now event) shard.old) }
-    ensures reply { IfOk result (λ reply. reply ≡ reply_to desk.now (Reset domain.now workflow.now event) shard.old) }
+    requires { MayBeAsked desk.now domain.now workflow.now
+        (reset_at desk.now domain.now workflow.now event shard.old) shard.old }
+    ensures cell { OnOk result
+        (shard.new ≡ after_job desk.now (Reset domain.now workflow.now event) shard.old) }
+    ensures reply { IfOk result (λ reply.
+        reply ≡ reply_to desk.now (Reset domain.now workflow.now event) shard.old) }
 {
     let mut steps: Steps<Jobs> = Steps::new();
     let written = shard.write_reset(desk, domain, workflow, event, &mut steps);

@@ -20,7 +20,9 @@ pub use ndc_cluster::Home;
 pub use ndc_model_cells::{Arrived, Job, JobReply, Keys, Outcome, ShardJob, Written, shard_of};
 pub use ndc_model_sets::{Batches, BranchView, BranchViews, RunStatus, RunView, RunViews, View};
 pub use ndc_resend::GapOf;
-pub use ndc_shard_workflows::{Admission, AdmitError, NotAdmitted, NotWritten, SetAside, Terms};
+pub use ndc_shard_workflows::{
+    Admission, AdmitError, CellTerms, NotAdmitted, NotWritten, SetAside, Terms,
+};
 pub use shard::Shard;
 pub use showing::Waits;
 pub use trying::{Reapplied, Skipped};

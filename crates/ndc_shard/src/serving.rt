@@ -19,7 +19,7 @@ use ndc_shard_workflows::{Workflows, message_there};
 use std::alloc::Global;
 
 /// What a cell serves for a gap: the messages of the batches in it on the path to the batch that was asked for, in path
-/// order. A batch that another one carries comes with the message of its carrier, behind the messages of the carrier's
+/// order. A batch that another one carries comes with the message of its carrier, after the messages of the carrier's
 /// path, and so on upwards. Nothing, where the batch that was asked for is not learned here. In time of what is served
 /// times the logarithm of what is learned, and of what is put off of the workflow for each message.
 pub(crate) fn serve(
@@ -44,7 +44,9 @@ fn messages(
     workflows: &Workflows,
     batches: &[&Batch],
 ) -> Result<Vec<Message>, OutOfMemory>
-    ensures { IfOk result (λ list. list.items ≡ filter_map (λ b. message_at workflows.now (place_of b)) (map (λ b. b.now) batches.now)) }
+    ensures { IfOk result (λ list.
+        list.items ≡ filter_map (λ b. message_at workflows.now (place_of b))
+        (map (λ b. b.now) batches.now)) }
 {
     let mut list = Vec::new(alloc);
     for batch in batches {
@@ -56,7 +58,7 @@ fn messages(
     Ok(list)
 }
 
-/// The batches of a gap on the path to the one of this key, behind those by which carriers lead to the first of them.
+/// The batches of a gap on the path to the one of this key, after those by which carriers lead to the first of them.
 fn answered<'r>(
     alloc: Global,
     runs: &'r Runs,
@@ -80,13 +82,15 @@ fn lie_between<'r>(
     key: BatchKey,
 ) -> Result<Vec<&'r Batch>, OutOfMemory>
     requires { IsSet runs.now }
-    ensures { IfOk result (λ list. map (λ b. b.now) list.items ≡ served gap.now (end_behind gap.now.after.id (path_to key runs.now))) }
+    ensures { IfOk result (λ list.
+        map (λ b. b.now) list.items
+        ≡ served gap.now (end_behind gap.now.after.id (path_to key runs.now))) }
 {
     let path = path_behind(alloc, runs, gap.after.id, key)?;
     serve_lent(alloc, path.as_slice(), gap)
 }
 
-/// The end of the path to the batch of this key that begins behind an id. In time of its length.
+/// The end of the path to the batch of this key that begins after an id. In time of its length.
 fn path_behind(
     alloc: Global,
     runs: &Runs,
@@ -94,7 +98,8 @@ fn path_behind(
     key: BatchKey,
 ) -> Result<Vec<&Batch>, OutOfMemory>
     requires { IsSet runs.now }
-    ensures { IfOk result (λ list. map (λ b. b.now) list.items ≡ end_behind id (path_to key runs.now)) }
+    ensures { IfOk result (λ list.
+        map (λ b. b.now) list.items ≡ end_behind id (path_to key runs.now)) }
 {
     let mut list = Vec::new(alloc);
     let mut next = behind(named(runs, Some(key)), id);
@@ -106,7 +111,7 @@ fn path_behind(
     Ok(list)
 }
 
-/// The batch, where it begins behind an id.
+/// The batch, where it begins after an id.
 fn behind(batch: Option<&Batch>, id: u64) -> Option<&Batch>
     ensures { option_copied result ≡ behind id (option_copied batch.entry) }
 {

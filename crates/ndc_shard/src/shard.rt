@@ -11,7 +11,7 @@ use ndc_model_cells::{Message, Place};
 use ndc_model_sets::Batches;
 use ndc_shard_entries::{Entry, command_entry, reapplication_entry, reset_entries, unless_behind};
 use ndc_shard_runs::Runs;
-use ndc_shard_workflows::{Admission, AdmitError, Arrival, NotWritten, Terms, Workflows};
+use ndc_shard_workflows::{Admission, AdmitError, Arrival, CellTerms, NotWritten, Workflows};
 use ndc_state::Steps;
 use std::alloc::Global;
 use std::marker::Model;
@@ -34,7 +34,8 @@ impl Model for Shard {
 
     ghost Value = { Cell };
 
-    ghost view = { λ shard. having_written (messages_at shard.places.items shard.workflows) shard.workflows };
+    ghost view = { λ shard. having_written
+        (messages_at shard.places.items shard.workflows) shard.workflows };
 
     ghost invariant = { λ shard. AreSent shard.places.items shard.workflows };
 }
@@ -76,6 +77,7 @@ impl Shard {
     ghost use Rattle.ndc_shard.specs.Sent.{HasCarrier};
     ghost use Rattle.ndc_shard_workflows.specs.Workflow.{IsWorkflow};
     ghost use Rattle.ndc_shard_workflows.specs.Forgetting.{is_put_off, IsForgotten};
+    ghost use Rattle.ndc_shard_workflows.specs.Terms.{terms_in};
     ghost use Rattle.ndc_shard_workflows.specs.Workflows.{IsAdmittedTo};
     ghost use Rattle.ndc_shard_workflows.specs.declared.admission.AdmitError.TheVariants.{Memory as OutOfMemory, Spent};
     ghost use Rattle.ndc_model_sets.specs.Sound.{IsSound};
@@ -107,7 +109,8 @@ impl Shard {
     /// time.
     pub fn is_in_order(&self)
         ensures cell { IsCell self.now }
-        ensures workflows { (domain workflow : Text) → IsWorkflow (workflow_of domain workflow self.now) }
+        ensures workflows { (domain workflow : Text)
+            → IsWorkflow (workflow_of domain workflow self.now) }
         ensures carried { AllByRecursion (HasCarrier self.now) self.now.arrived }
     {
         self.workflows.is_in_order();
@@ -136,7 +139,8 @@ impl Shard {
     /// What is learned of a workflow, with its states. There is none only where nothing is. What is
     /// learned of it is sound.
     pub fn runs(&self, domain: &Name, workflow: &Name) -> Option<&Runs>
-        ensures found { IfSome result (λ runs. runs.now ≡ learned_of domain.now workflow.now self.now) }
+        ensures found { IfSome result (λ runs.
+            runs.now ≡ learned_of domain.now workflow.now self.now) }
         ensures none { IfNone result (learned_of domain.now workflow.now self.now ≡ []) }
         ensures fit { IsFit domain.now workflow.now self.now }
     {
@@ -145,8 +149,10 @@ impl Shard {
 
     /// Whether the tasks of what is learned of a workflow leave room for more.
     pub(crate) fn has_tasks_left(&self, domain: &Name, workflow: &Name) -> bool
-        ensures left { result ≡ true → greatest_task (learned_of domain.now workflow.now self.now) ≤ 10 ^ 12 }
-        ensures none { result ≡ false → greatest_task (learned_of domain.now workflow.now self.now) ≤ 10 ^ 12 → ⊥ }
+        ensures left { result ≡ true → greatest_task (learned_of domain.now workflow.now self.now)
+            ≤ 10 ^ 12 }
+        ensures none { result ≡ false → greatest_task (learned_of domain.now workflow.now self.now)
+            ≤ 10 ^ 12 → ⊥ }
     {
         match self.runs(domain, workflow) {
             Some(runs) => runs.greatest_task() <= MOST_TASK,
@@ -165,9 +171,13 @@ impl Shard {
         domain: &Name,
         workflow: &Name,
     ) -> Result<(u64, Option<&Runs>), Refusal>
-        ensures version { MatchResult result (λ it. may_write desk.now domain.now workflow.now self.now ≡ Ok it.0) (λ refusal. may_write desk.now domain.now workflow.now self.now ≡ Err refusal) }
-        ensures found { IfOk result (λ it. IfSome it.1 (λ runs. runs.now ≡ learned_of domain.now workflow.now self.now)) }
-        ensures none { IfOk result (λ it. IfNone it.1 (learned_of domain.now workflow.now self.now ≡ [])) }
+        ensures version { MatchResult result (λ it.
+            may_write desk.now domain.now workflow.now self.now ≡ Ok it.0) (λ refusal.
+            may_write desk.now domain.now workflow.now self.now ≡ Err refusal) }
+        ensures found { IfOk result (λ it.
+            IfSome it.1 (λ runs. runs.now ≡ learned_of domain.now workflow.now self.now)) }
+        ensures none { IfOk result (λ it.
+            IfNone it.1 (learned_of domain.now workflow.now self.now ≡ [])) }
         ensures fit { IfOk result (λ _. IsFit domain.now workflow.now self.now) }
     {
         let version = match version_of(desk, domain) {
@@ -206,20 +216,22 @@ impl Shard {
         }
     }
 
-    /// A message of which nobody vouches is handed to the shard on these terms: of the message nothing is asked. It is refused
-    /// with the first cause of [`NotAdmitted`] that holds; it is known; it is put off; or it is learned, and of what waited for
-    /// it, in key order, each that fits ([`Admission`]). What is learned of each workflow stays sound, whatever came, and only
-    /// grows. For want of memory nothing changes ([`AdmitError::Memory`]), or, where the message is learned, nothing has arrived
-    /// or is written any more ([`AdmitError::Spent`]).
+    /// A message that nobody vouches for is handed to the shard on these terms: of the message nothing is asked. It is
+    /// refused with the first cause of [`NotAdmitted`] that holds; it is known; it is put off; or it is learned, and of
+    /// what waited for it, in key order, each that fits ([`Admission`]). What is learned of each workflow stays sound,
+    /// whatever came, and only grows. For want of memory nothing changes ([`AdmitError::Memory`]), or, where the
+    /// message is learned, nothing has arrived or is written any more ([`AdmitError::Spent`]).
     pub fn admit<L>(
         &mut self,
-        terms: &Terms,
+        terms: &CellTerms,
         message: Message,
         steps: &mut Steps<L>,
     ) -> Result<Admission, AdmitError>
-        ensures admitted { IfOk result (λ admission. IsAdmittedTo terms.now message admission self.old self.new) }
+        ensures admitted { IfOk result (λ admission.
+            IsAdmittedTo (terms_in terms.now self.old) message admission self.old self.new) }
         ensures written { OnOk result (self.new.written ≡ self.old.written) }
-        ensures sound { OnOk result ((domain workflow : Text) → IsSound (learned_of domain workflow self.new)) }
+        ensures sound { OnOk result ((domain workflow : Text)
+            → IsSound (learned_of domain workflow self.new)) }
         ensures memory { result ≡ Err OutOfMemory → self.new ≡ self.old }
         ensures spent { result ≡ Err Spent → self.new ≡ empty_cell }
     {
@@ -246,8 +258,10 @@ impl Shard {
         workflow: &Name,
         key: BatchKey,
     ) -> Result<bool, OutOfMemory>
-        ensures dropped { IfOk result (λ dropped. dropped ≡ is_put_off key (workflow_of domain.now workflow.now self.old)) }
-        ensures forgotten { OnOk result (IsForgotten domain.now workflow.now key self.old self.new) }
+        ensures dropped { IfOk result (λ dropped.
+            dropped ≡ is_put_off key (workflow_of domain.now workflow.now self.old)) }
+        ensures forgotten { OnOk result
+            (IsForgotten domain.now workflow.now key self.old self.new) }
         ensures learned { (d w : Text) → learned_of d w self.new ≡ learned_of d w self.old }
         ensures written { self.new.written ≡ self.old.written }
         ensures unchanged { OnErr result (self.new ≡ self.old) }
@@ -261,7 +275,8 @@ impl Shard {
     /// Writes an entry: its batches are learned in their workflow, and its message goes last among those written. For want of
     /// memory nothing changes.
     fn write<L>(&mut self, entry: &Entry, steps: &mut Steps<L>) -> Result<(), OutOfMemory>
-        requires may { MayBeWritten (carrying entry.now.batch entry.now.second) (workflow_of entry.now.batch.domain entry.now.batch.workflow self.old) }
+        requires may { MayBeWritten (carrying entry.now.batch entry.now.second)
+            (workflow_of entry.now.batch.domain entry.now.batch.workflow self.old) }
         requires lone { entry.now.batch.carrier ≡ None }
         ensures ok { OnOk result (self.new ≡ with_written entry.now self.old) }
         ensures err { OnErr result (self.new ≡ self.old) }
@@ -287,7 +302,9 @@ impl Shard {
         requires made { IsMadeTogether (carrying entry.now.batch entry.now.second) }
         requires lone { entry.now.batch.carrier ≡ None }
         ensures ok { OnOk result (self.new ≡ with_written entry.now self.old) }
-        ensures refused { IfErr result (λ cause. IsNotWritten cause (carrying entry.now.batch entry.now.second) (workflow_of entry.now.batch.domain entry.now.batch.workflow self.old)) }
+        ensures refused { IfErr result (λ cause.
+            IsNotWritten cause (carrying entry.now.batch entry.now.second)
+            (workflow_of entry.now.batch.domain entry.now.batch.workflow self.old)) }
         ensures err { OnErr result (self.new ≡ self.old) }
     {
         self.workflows.is_in_order();
@@ -304,7 +321,7 @@ impl Shard {
         Ok(())
     }
 
-    /// Writes two entries together, of which the second goes right behind the first: their batches are learned in their
+    /// Writes two entries together, of which the second goes right after the first: their batches are learned in their
     /// workflow, and their messages go last among those written. For want of memory nothing changes.
     fn write_both<L>(
         &mut self,
@@ -315,7 +332,8 @@ impl Shard {
         requires may { AreWritable (first.now ∷ second.now ∷ []) self.old }
         requires lone { AreLone (first.now ∷ second.now ∷ []) }
         requires two { GoAsTwo first.now second.now }
-        ensures ok { OnOk result (self.new ≡ with_all_written (first.now ∷ second.now ∷ []) self.old) }
+        ensures ok { OnOk result
+            (self.new ≡ with_all_written (first.now ∷ second.now ∷ []) self.old) }
         ensures err { OnErr result (self.new ≡ self.old) }
     {
         self.workflows.is_in_order();
@@ -341,8 +359,11 @@ impl Shard {
         requires made { IsMadeTogether (carrying first.now.batch (Some second.now.batch)) }
         requires lone { AreLone (first.now ∷ second.now ∷ []) }
         requires two { GoAsTwo first.now second.now }
-        ensures ok { OnOk result (self.new ≡ with_all_written (first.now ∷ second.now ∷ []) self.old) }
-        ensures refused { IfErr result (λ cause. IsNotWritten cause (carrying first.now.batch (Some second.now.batch)) (workflow_of first.now.batch.domain first.now.batch.workflow self.old)) }
+        ensures ok { OnOk result
+            (self.new ≡ with_all_written (first.now ∷ second.now ∷ []) self.old) }
+        ensures refused { IfErr result (λ cause.
+            IsNotWritten cause (carrying first.now.batch (Some second.now.batch))
+            (workflow_of first.now.batch.domain first.now.batch.workflow self.old)) }
         ensures err { OnErr result (self.new ≡ self.old) }
     {
         self.workflows.is_in_order();
@@ -371,7 +392,9 @@ impl Shard {
         requires made { AreMade entries.now }
         requires lone { AreLone entries.now }
         ensures ok { OnOk result (self.new ≡ with_all_written entries.now self.old) }
-        ensures refused { IfErr result (λ cause. IfSome (together entries.now) (λ new. IsNotWritten cause new (workflow_of new.batch.domain new.batch.workflow self.old))) }
+        ensures refused { IfErr result (λ cause.
+            IfSome (together entries.now) (λ new.
+            IsNotWritten cause new (workflow_of new.batch.domain new.batch.workflow self.old))) }
         ensures err { OnErr result (self.new ≡ self.old) }
     {
         match entries {
@@ -406,7 +429,8 @@ impl Shard {
         command: &Command,
     ) -> Result<Entry, CommandError>
         requires { greatest_task (learned_of domain.now workflow.now self.now) ≤ 10 ^ 12 }
-        ensures entries { Gives Memory (λ entry. entry ∷ []) result (command_of desk.now domain.now workflow.now command.now self.now) }
+        ensures entries { Gives Memory (λ entry.
+            entry ∷ []) result (command_of desk.now domain.now workflow.now command.now self.now) }
         ensures fit { IfOk result (λ _. IsFit domain.now workflow.now self.now) }
     {
         let (version, runs) = as_command_error(self.writable(desk, domain, workflow))?;
@@ -431,7 +455,8 @@ impl Shard {
         event: u64,
     ) -> Result<Vec<Entry>, CommandError>
         requires { greatest_task (learned_of domain.now workflow.now self.now) ≤ 10 ^ 12 }
-        ensures entries { Gives Memory (λ entries. entries.items) result (reset_at desk.now domain.now workflow.now event self.now) }
+        ensures entries { Gives Memory (λ entries.
+            entries.items) result (reset_at desk.now domain.now workflow.now event self.now) }
         ensures fit { IfOk result (λ _. IsFit domain.now workflow.now self.now) }
     {
         let (version, runs) = as_command_error(self.writable(desk, domain, workflow))?;
@@ -456,10 +481,15 @@ impl Shard {
         command: &Command,
         steps: &mut Steps<L>,
     ) -> Result<Batches, CommandError>
-        requires { MayBeAsked desk.now domain.now workflow.now (command_of desk.now domain.now workflow.now command.now self.old) self.old }
-        ensures batches { Gives Memory (λ batches. batches) result (batches_written (command_of desk.now domain.now workflow.now command.now self.old)) }
+        requires { MayBeAsked desk.now domain.now workflow.now
+            (command_of desk.now domain.now workflow.now command.now self.old) self.old }
+        ensures batches { Gives Memory (λ batches.
+            batches) result (batches_written
+            (command_of desk.now domain.now workflow.now command.now self.old)) }
         ensures some { IfOk result (λ batches. 0 < length batches) }
-        ensures cell { OnOk result (self.new ≡ written_at (command_of desk.now domain.now workflow.now command.now self.old) self.old) }
+        ensures cell { OnOk result
+            (self.new ≡ written_at (command_of desk.now domain.now workflow.now command.now
+            self.old) self.old) }
         ensures unchanged { OnErr result (self.new ≡ self.old) }
     {
         let entry = self.command_entry(desk, domain, workflow, command)?;
@@ -479,10 +509,15 @@ impl Shard {
         event: u64,
         steps: &mut Steps<L>,
     ) -> Result<Batches, CommandError>
-        requires { MayBeAsked desk.now domain.now workflow.now (reset_at desk.now domain.now workflow.now event self.old) self.old }
-        ensures batches { Gives Memory (λ batches. batches) result (batches_written (reset_at desk.now domain.now workflow.now event self.old)) }
+        requires { MayBeAsked desk.now domain.now workflow.now
+            (reset_at desk.now domain.now workflow.now event self.old) self.old }
+        ensures batches { Gives Memory (λ batches.
+            batches) result (batches_written
+            (reset_at desk.now domain.now workflow.now event self.old)) }
         ensures some { IfOk result (λ batches. 0 < length batches) }
-        ensures cell { OnOk result (self.new ≡ written_at (reset_at desk.now domain.now workflow.now event self.old) self.old) }
+        ensures cell { OnOk result
+            (self.new ≡ written_at (reset_at desk.now domain.now workflow.now event self.old)
+            self.old) }
         ensures unchanged { OnErr result (self.new ≡ self.old) }
     {
         let entries = self.reset_entries(desk, domain, workflow, event)?;
@@ -493,7 +528,8 @@ impl Shard {
 
     /// Whether reapplication is due in a workflow.
     pub(crate) fn is_due(&mut self, domain: &Name, workflow: &Name) -> Result<bool, OutOfMemory>
-        ensures due { IfOk result (λ due. due ≡ is_due (learned_of domain.now workflow.now self.old)) }
+        ensures due { IfOk result (λ due.
+            due ≡ is_due (learned_of domain.now workflow.now self.old)) }
         ensures same { self.new ≡ self.old }
     {
         self.workflows.is_due(self.alloc, domain, workflow)
@@ -508,7 +544,11 @@ impl Shard {
     ) -> Result<Option<Entry>, OutOfMemory>
         requires { LeavesRoom (learned_of domain.now workflow.now self.now) }
         ensures fit { IsFit domain.now workflow.now self.now }
-        ensures entry { IfOk result (λ entry. option_to_list entry ≡ reapplication_below domain.now workflow.now version (workflow_tip (learned_of domain.now workflow.now self.now)) (learned_of domain.now workflow.now self.now) (strays (learned_of domain.now workflow.now self.now))) }
+        ensures entry { IfOk result (λ entry.
+            option_to_list entry ≡ reapplication_below domain.now workflow.now version
+            (workflow_tip (learned_of domain.now workflow.now self.now))
+            (learned_of domain.now workflow.now self.now)
+            (strays (learned_of domain.now workflow.now self.now))) }
     {
         let Some(runs) = self.runs(domain, workflow) else {
             return Ok(None);
@@ -532,9 +572,11 @@ impl Shard {
         workflow: &Name,
     ) -> Result<Option<Entry>, OutOfMemory>
         requires { LeavesRoom (learned_of domain.now workflow.now self.old) }
-        ensures entry { IfOk result (λ entry. option_to_list entry ≡ reapplication_of desk.now domain.now workflow.now self.old) }
+        ensures entry { IfOk result (λ entry.
+            option_to_list entry ≡ reapplication_of desk.now domain.now workflow.now self.old) }
         ensures same { self.new ≡ self.old }
-        ensures fit { IfOk result (λ entry. IfSome entry (λ _. IsFit domain.now workflow.now self.new)) }
+        ensures fit { IfOk result (λ entry.
+            IfSome entry (λ _. IsFit domain.now workflow.now self.new)) }
     {
         let Ok((version, _)) = self.writable(desk, domain, workflow) else {
             return Ok(None);
@@ -556,9 +598,13 @@ impl Shard {
         steps: &mut Steps<L>,
     ) -> Result<(), OutOfMemory>
         requires room { HasRoom (learned_of domain.now workflow.now self.old) }
-        requires may { MayWriteAll domain.now workflow.now (reapplication_of desk.now domain.now workflow.now self.old) self.old }
-        ensures cell { OnOk result (self.new ≡ reapplied_at desk.now (domain.now, workflow.now) self.old) }
-        ensures batches { OnOk result (batches.new.items ≡ batches.old.items ++ all_batches (reapplication_of desk.now domain.now workflow.now self.old)) }
+        requires may { MayWriteAll domain.now workflow.now
+            (reapplication_of desk.now domain.now workflow.now self.old) self.old }
+        ensures cell { OnOk result
+            (self.new ≡ reapplied_at desk.now (domain.now, workflow.now) self.old) }
+        ensures batches { OnOk result
+            (batches.new.items ≡ batches.old.items
+            ++ all_batches (reapplication_of desk.now domain.now workflow.now self.old)) }
         ensures err { OnErr result (self.new ≡ self.old) }
     {
         let Some(entry) = self.reapplication(desk, domain, workflow)? else {
@@ -577,7 +623,8 @@ impl Shard {
     ) -> Result<Batches, OutOfMemory>
         requires { MayReapplyAmong desk.now list.items self.old }
         ensures cell { OnOk result (self.new ≡ reapplied_among desk.now list.items self.old) }
-        ensures batches { IfOk result (λ batches. batches ≡ written_among desk.now list.items self.old) }
+        ensures batches { IfOk result (λ batches.
+            batches ≡ written_among desk.now list.items self.old) }
         ensures err { OnErr result (IsReappliedAmongFirst desk.now list.items self.old self.new) }
     {
         let mut batches = Vec::new(self.alloc);
@@ -590,8 +637,10 @@ impl Shard {
     /// Whether there is no workflow in which reapplication may be due. Then it writes nothing, whatever versions the cell may
     /// write with. Takes no memory.
     pub(crate) fn applies_nothing(&self) -> bool
-        ensures cell { IsTrue result → (desk : DeskValue) → reapplied_in desk (workflows_of self.now.arrived) self.now ≡ self.now }
-        ensures batches { IsTrue result → (desk : DeskValue) → reapplied_now desk (workflows_of self.now.arrived) self.now ≡ [] }
+        ensures cell { IsTrue result → (desk : DeskValue)
+            → reapplied_in desk (workflows_of self.now.arrived) self.now ≡ self.now }
+        ensures batches { IsTrue result → (desk : DeskValue)
+            → reapplied_now desk (workflows_of self.now.arrived) self.now ≡ [] }
     {
         self.workflows.has_none_due()
     }
@@ -615,9 +664,12 @@ impl Shard {
         steps: &mut Steps<L>,
     ) -> Result<Batches, OutOfMemory>
         requires { MayReapply desk.now (workflows_of self.old.arrived) self.old }
-        ensures cell { OnOk result (self.new ≡ reapplied_in desk.now (workflows_of self.old.arrived) self.old) }
-        ensures batches { IfOk result (λ batches. batches ≡ reapplied_now desk.now (workflows_of self.old.arrived) self.old) }
-        ensures err { OnErr result (IsReappliedInFirst desk.now (workflows_of self.old.arrived) self.old self.new) }
+        ensures cell { OnOk result
+            (self.new ≡ reapplied_in desk.now (workflows_of self.old.arrived) self.old) }
+        ensures batches { IfOk result (λ batches.
+            batches ≡ reapplied_now desk.now (workflows_of self.old.arrived) self.old) }
+        ensures err { OnErr result
+            (IsReappliedInFirst desk.now (workflows_of self.old.arrived) self.old self.new) }
     {
         self.is_in_order();
         let list = self.due_again(desk)?;

@@ -49,10 +49,10 @@ fn waits_at(
 }
 
 impl Shard {
-    ghost use Rattle.std.specs.Prelude.{◌≡◌, [], ◌∷◌, IfOk, Some};
+    ghost use Rattle.std.specs.Prelude.{◌≡◌, [], ◌∷◌, length, true, false, IfOk, Some};
     ghost use Rattle.ndc_model_cells.specs.Workflow.{workflow_of};
     ghost use Rattle.ndc_shard.specs.Waits.{all_waits};
-    ghost use Rattle.ndc_shard_workflows.specs.Lacking.{lacks_own};
+    ghost use Rattle.ndc_shard_workflows.specs.Lacking.{lacks_own, LacksNoOwn, LacksOwn};
     ghost use Rattle.ndc_model_cells.specs.Cells.{learned_of, message_at};
     ghost use Rattle.ndc_model_cells.specs.Domains.{learned_of_domains};
     ghost use Rattle.ndc_model_sets.specs.Learned.{has_key};
@@ -79,7 +79,9 @@ impl Shard {
         workflow: &Name,
         key: BatchKey,
     ) -> Result<Option<Message>, OutOfMemory>
-        ensures { IfOk result (λ message. message ≡ message_at self.now (record { domain = domain.now; workflow = workflow.now; key = key })) }
+        ensures { IfOk result (λ message.
+            message ≡ message_at self.now
+            (record { domain = domain.now; workflow = workflow.now; key = key })) }
     {
         message_there(self.alloc(), self.held(), domain, workflow, key)
     }
@@ -109,7 +111,8 @@ impl Shard {
         workflow: &Name,
         steps: &mut Steps<L>,
     ) -> Result<Option<View>, OutOfMemory>
-        ensures { IfOk result (λ view. view ≡ view_at (learned_of domain.now workflow.now self.now)) }
+        ensures { IfOk result (λ view.
+            view ≡ view_at (learned_of domain.now workflow.now self.now)) }
     {
         match self.runs(domain, workflow) {
             Some(runs) => runs.view(self.alloc(), steps),
@@ -135,6 +138,22 @@ impl Shard {
         waits_at(alloc, self.held(), places)
     }
 
+    /// How many messages wait, in all workflows together. In constant time.
+    pub fn waiting_count(&self) -> u64
+        ensures { result ≡ length self.now.waiting }
+    {
+        self.held().waiting_count()
+    }
+
+    /// The same of all workflows: whether one tells of a batch of the cluster's own that is not learned. In time of all events
+    /// that have arrived.
+    pub fn lacks_any_own(&self, terms: &Terms) -> Result<bool, OutOfMemory>
+        ensures some { IfOk result (λ lacks. lacks ≡ true → LacksOwn terms.now self.now) }
+        ensures none { IfOk result (λ lacks. lacks ≡ false → LacksNoOwn terms.now self.now) }
+    {
+        self.held().lacks_own(self.alloc(), terms)
+    }
+
     /// Whether a batch of the cluster's own is known of in a workflow that is not learned, on these terms: one that is put off
     /// is such a batch, or one that is learned or put off names such a batch as its parent, as its carrier or as the origin of
     /// a copied signal. Then the shard has lost something, and what it would write next may be there already. In time of all
@@ -145,7 +164,8 @@ impl Shard {
         domain: &Name,
         workflow: &Name,
     ) -> Result<bool, OutOfMemory>
-        ensures { IfOk result (λ lacks. lacks ≡ lacks_own terms.now (workflow_of domain.now workflow.now self.now)) }
+        ensures { IfOk result (λ lacks.
+            lacks ≡ lacks_own terms.now (workflow_of domain.now workflow.now self.now)) }
     {
         match self.held().find(domain, workflow) {
             Some(found) => found.lacks_own(self.alloc(), terms),
@@ -154,7 +174,7 @@ impl Shard {
     }
 
     /// What the cell serves for a gap of another one, as [`serve`] says: the messages of the batches in the gap on the path
-    /// to the batch that was asked for, in path order, behind those of the carriers above the first of them. Nothing,
+    /// to the batch that was asked for, in path order, after those of the carriers above the first of them. Nothing,
     /// where the batch that was asked for is not learned.
     pub fn serve(&self, asked: &GapOf) -> Result<Vec<Message>, OutOfMemory>
         ensures { IfOk result (λ list. list.items ≡ served_for asked.now self.now) }

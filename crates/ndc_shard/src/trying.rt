@@ -1,4 +1,4 @@
-// Reapplication in a shard of which nobody vouches.
+// Reapplication in a shard that nobody vouches for.
 ghost use Rattle.std.specs.Prelude.{◌≡◌, ◌≢◌, true, false, IfOk};
 ghost use Rattle.ndc_shard.specs.declared.error.TryError.TheVariants.{NotWritten as Passed};
 ghost use Rattle.ndc_shard_workflows.specs.declared.admission.NotWritten.TheVariants.{Memory};
@@ -26,7 +26,7 @@ pub struct Skipped {
     pub cause: TryError,
 }
 
-/// What came of reapplication in a shard of which nobody vouches.
+/// What came of reapplication in a shard that nobody vouches for.
 #[derive(Drop)]
 pub struct Reapplied {
     /// Where the batches stand that are written, in order.
@@ -84,7 +84,8 @@ impl Shard {
     /// Whether there is room for one more batch of the current run of a workflow.
     fn leaves_room(&self, domain: &Name, workflow: &Name) -> bool
         ensures left { result ≡ true → LeavesRoom (learned_of domain.now workflow.now self.now) }
-        ensures none { result ≡ false → LeavesRoom (learned_of domain.now workflow.now self.now) → ⊥ }
+        ensures none { result ≡ false → LeavesRoom (learned_of domain.now workflow.now self.now)
+            → ⊥ }
     {
         match self.runs(domain, workflow) {
             Some(runs) => have_room(runs),
@@ -100,7 +101,8 @@ impl Shard {
         domain: &Name,
         workflow: &Name,
     ) -> Result<bool, OutOfMemory>
-        ensures none { IfOk result (λ may. may ≡ false → reapplication_of desk.now domain.now workflow.now self.old ≡ []) }
+        ensures none { IfOk result (λ may.
+            may ≡ false → reapplication_of desk.now domain.now workflow.now self.old ≡ []) }
         ensures same { self.new ≡ self.old }
     {
         let Ok(_) = self.writable(desk, domain, workflow) else {
@@ -119,10 +121,16 @@ impl Shard {
         written: &mut Vec<(Name, Name, BatchKey)>,
         steps: &mut Steps<L>,
     ) -> Result<Option<TryError>, OutOfMemory>
-        ensures cell { IfOk result (λ cause. IfNone cause (self.new ≡ reapplied_at desk.now (domain.now, workflow.now) self.old)) }
-        ensures places { IfOk result (λ cause. IfNone cause (written.new.items ≡ written.old.items ++ map names_of (all_batches (reapplication_of desk.now domain.now workflow.now self.old)))) }
-        ensures why { IfOk result (λ cause. IfSome cause (λ why. IsPassedOver why desk.now (domain.now, workflow.now) self.old)) }
-        ensures none { IfOk result (λ cause. IfSome cause (λ _. written.new.items ≡ written.old.items)) }
+        ensures cell { IfOk result (λ cause.
+            IfNone cause (self.new ≡ reapplied_at desk.now (domain.now, workflow.now) self.old)) }
+        ensures places { IfOk result (λ cause.
+            IfNone cause (written.new.items
+            ≡ written.old.items ++ map names_of
+            (all_batches (reapplication_of desk.now domain.now workflow.now self.old)))) }
+        ensures why { IfOk result (λ cause.
+            IfSome cause (λ why. IsPassedOver why desk.now (domain.now, workflow.now) self.old)) }
+        ensures none { IfOk result (λ cause.
+            IfSome cause (λ _. written.new.items ≡ written.old.items)) }
         ensures same { IfOk result (λ cause. IfSome cause (λ _. self.new ≡ self.old)) }
         ensures err { OnErr result (self.new ≡ self.old) }
     {
@@ -160,7 +168,9 @@ impl Shard {
         told: &mut Reapplied,
         steps: &mut Steps<L>,
     ) -> Result<(), OutOfMemory>
-        ensures ok { OnOk result (IsTriedOnce desk.now (domain, workflow) self.old self.new told.old.written.items told.new.written.items told.old.skipped.items told.new.skipped.items) }
+        ensures ok { OnOk result
+            (IsTriedOnce desk.now (domain, workflow) self.old self.new told.old.written.items
+            told.new.written.items told.old.skipped.items told.new.skipped.items) }
         ensures err { OnErr result (self.new ≡ self.old) }
     {
         match self.try_reapply_in(desk, &domain, &workflow, &mut told.written, steps)? {
@@ -181,7 +191,8 @@ impl Shard {
         list: Vec<(Name, Name)>,
         steps: &mut Steps<L>,
     ) -> Result<Reapplied, OutOfMemory>
-        ensures tried { IfOk result (λ told. AreTried desk.now list.items self.old told.written.items told.skipped.items self.new) }
+        ensures tried { IfOk result (λ told.
+            AreTried desk.now list.items self.old told.written.items told.skipped.items self.new) }
         ensures err { OnErr result (IsTriedInSome desk.now self.old self.new) }
     {
         let mut told = Reapplied {
@@ -194,19 +205,21 @@ impl Shard {
         Ok(told)
     }
 
-    /// Strays are applied again in each workflow, in order, of a shard of which nobody vouches: of what has arrived nothing is
-    /// asked. Where the batches stand that are written, and which workflows were passed over, each with why: the tasks of
-    /// what is learned, the ids of its current branch or those of what would be written leave no room ([`TryError::Full`]),
-    /// or something stands under the key that would be written, waits for it, or what would be written does not fit
-    /// ([`TryError::NotWritten`]). A workflow that is passed over stays as it was. After want of memory some workflows, in
-    /// order, have their batches, and the rest of the shard is as it was.
+    /// Strays are applied again in each workflow, in order, of a shard that nobody vouches for: of what has arrived
+    /// nothing is asked. Where the batches stand that are written, and which workflows were passed over, each with why:
+    /// the tasks of what is learned, the ids of its current branch or those of what would be written leave no room
+    /// ([`TryError::Full`]), or something stands under the key that would be written, waits for it, or what would be
+    /// written does not fit ([`TryError::NotWritten`]). A workflow that is passed over stays as it was. After want of
+    /// memory some workflows, in order, have their batches, and the rest of the shard is as it was.
     pub fn try_reapply<L>(
         &mut self,
         home: &Home,
         table: &DomainTable,
         steps: &mut Steps<L>,
     ) -> Result<Reapplied, OutOfMemory>
-        ensures tried { IfOk result (λ told. IsTriedAgain (desk_of home.now table.now) told.written.items told.skipped.items self.old self.new) }
+        ensures tried { IfOk result (λ told.
+            IsTriedAgain (desk_of home.now table.now) told.written.items told.skipped.items self.old
+            self.new) }
         ensures err { OnErr result (IsTriedInSome (desk_of home.now table.now) self.old self.new) }
     {
         let desk = Desk::new(home.clusters, home.me, home.limit, table);

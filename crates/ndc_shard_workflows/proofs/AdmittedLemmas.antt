@@ -1,9 +1,10 @@
--- What a message of which nobody vouches makes of a workflow.
+-- What a message that nobody vouches for makes of a workflow.
 use Rattle.std.proofs.Common.{◌≡◌, Bool, true, false, not, ◌&&◌, is_some, List, [], ◌∷◌, ◌++◌, Option, Some, None, IfSome, Result, Ok, Err, IsOk, refl, sym, ◌∙◌, subst, ap}
 use Rattle.std.specs.Prelude.{option_to_list, if◌then◌else◌}
 use Rattle.std.specs.Option.{option_or}
 use Rattle.std.specs.List.{AllByRecursion}
 use Rattle.std.proofs.lemmas.Bool.{and_parts}
+use Rattle.ndc_admission.specs.History.{tells_path}
 use Rattle.ndc_event.specs.declared.batch.Batch.{Batch}
 use Rattle.ndc_event.specs.declared.key.BatchKey.{BatchKey}
 use Rattle.ndc_event.specs.declared.name.Name.{Name}
@@ -17,8 +18,12 @@ use Rattle.ndc_model_sets.specs.Sets.{Has, IsSet, batch_at, earlier}
 use Rattle.ndc_model_sets.specs.Sound.{IsSound}
 use Rattle.ndc_model_sets.proofs.BranchLemmas.{has-among}
 use Rattle.ndc_model_sets.proofs.Lists.{all-among, all-from, all-join}
+use Rattle.ndc_run.specs.Learning.{or_error}
 use Rattle.ndc_run.specs.declared.answer.Learned.{Learned}
-use Rattle.ndc_shard_runs.specs.declared.misfit.Misfit.{Misfit}
+use Rattle.ndc_shard_runs.specs.Fitting.{fit_of}
+use Rattle.ndc_shard_runs.specs.declared.misfit.Misfit.TheVariants.{IllFormed}
+use Rattle.ndc_shard_workflows.specs.declared.admission.NotAdmitted.{NotAdmitted}
+use Rattle.ndc_shard_workflows.specs.declared.admission.NotAdmitted.TheVariants as refused
 use Rattle.ndc_shard_waiting.specs.Learning.{with_message, with_messages, ArePutOff}
 use Rattle.ndc_shard_waiting.specs.Waiting.{freed, freed_by, kept_by, put_off, still_put_off}
 use Rattle.ndc_shard_waiting.proofs.FreeLemmas.{all-there}
@@ -27,7 +32,7 @@ use Rattle.ndc_shard_waiting.proofs.LearnLemmas.{all-found, with-found, with-set
 use Rattle.ndc_shard_waiting.proofs.KeptLemmas.{both-back}
 use Rattle.ndc_shard_waiting.proofs.OrderLemmas.{all-back, all-front, all-more}
 use Rattle.ndc_shard_waiting.proofs.PutLemmas.{all-put, batches-put}
-use Rattle.ndc_shard_workflows.specs.Admitting.{IsAdmitted, IsLone, Settling, fit_in, is_faultless, is_second_faultless, is_whole, settled, settled_one, settled_with, tried}
+use Rattle.ndc_shard_workflows.specs.Admitting.{IsAdmitted, IsLone, Settling, fit_message, is_faultless, is_second_faultless, is_whole, settled, settled_one, settled_with, tried}
 use Rattle.ndc_shard_workflows.specs.Arriving.{AreArriving, ComesFrom}
 use Rattle.ndc_shard_workflows.specs.Settling.{CanSettle, IsSettled}
 use Rattle.ndc_shard_workflows.specs.Terms.{TermsValue}
@@ -75,7 +80,7 @@ module _ (P : Batch → Type 0) where
 -- ---- messages that are gone over
 
 -- one message is gone over, by three tests
-abbrev went : Message → Settling → Bool → Bool → Result Learned Misfit → Settling
+abbrev went : Message → Settling → Bool → Bool → Result Learned NotAdmitted → Settling
 went sent s t u r = if t then record s { learned = s.learned ++ sent ∷ [] } else if u then tried r sent s else record s { waiting = put_off sent s.waiting }
 
 -- it holds of what is learned then, and of what waits
@@ -84,9 +89,9 @@ Hold P s = AllByRecursion P s.known × AllByRecursion P (batches_of s.waiting)
 
 module _ (P : Batch → Type 0) where
   one-holds : (sent : Message) (s : Settling) → AllByRecursion P (both sent) → Hold P s → Hold P (settled_one sent s)
-  one-holds sent s own hold = by (has_key (Some sent.batch.key) s.known) (has_key (earlier sent.batch) s.known) (fit_in s.known sent)
+  one-holds sent s own hold = by (has_key (Some sent.batch.key) s.known) (has_key (earlier sent.batch) s.known) (fit_message s.known sent)
     where
-      by : (t u : Bool) (r : Result Learned Misfit) → Hold P (went sent s t u r)
+      by : (t u : Bool) (r : Result Learned NotAdmitted) → Hold P (went sent s t u r)
       by true u r = hold
       by false true (Ok fits) = (with-all P sent s.known own hold.0, hold.1)
       by false true (Err why) = hold
@@ -101,9 +106,9 @@ module _ (P : Batch → Type 0) where
 -- the same of the messages that wait
 module _ (Q : Message → Type 0) where
   one-waits : (sent : Message) (s : Settling) → Q sent → AllByRecursion Q s.waiting → AllByRecursion Q (settled_one sent s).waiting
-  one-waits sent s own all = by (has_key (Some sent.batch.key) s.known) (has_key (earlier sent.batch) s.known) (fit_in s.known sent)
+  one-waits sent s own all = by (has_key (Some sent.batch.key) s.known) (has_key (earlier sent.batch) s.known) (fit_message s.known sent)
     where
-      by : (t u : Bool) (r : Result Learned Misfit) → AllByRecursion Q (went sent s t u r).waiting
+      by : (t u : Bool) (r : Result Learned NotAdmitted) → AllByRecursion Q (went sent s t u r).waiting
       by true u r = all
       by false true (Ok fits) = all
       by false true (Err why) = all
@@ -124,10 +129,11 @@ pub whole-lone : (sent : Message) → is_whole sent ≡ true → IsLone sent
 whole-lone sent e = lone-of sent.batch.carrier (and_parts (not (is_some sent.batch.carrier)) (is_faultless sent.batch && is_second_faultless sent.second) e).0
 
 -- so is what fits
-pub fit-lone : (known : List Batch) (sent : Message) → IsOk (fit_in known sent) → IsLone sent
+pub fit-lone : (known : List Batch) (sent : Message) → IsOk (fit_message known sent) → IsLone sent
 fit-lone known sent ok = by (is_whole sent) refl ok
   where
-    by : (t : Bool) → is_whole sent ≡ t → IsOk (if t then Rattle.ndc_shard_runs.specs.Fitting.fit_of known sent.batch sent.second else Err Rattle.ndc_shard_runs.specs.declared.misfit.Misfit.TheVariants.IllFormed) → IsLone sent
+    by : (t : Bool) → is_whole sent ≡ t
+        → IsOk (if t then (if tells_path known sent then or_error refused.Misfit (fit_of known sent.batch sent.second) else Err refused.History) else Err (refused.Misfit IllFormed)) → IsLone sent
     by true e ok = whole-lone sent e
     by false e ok = absurd (cc)
 
@@ -138,17 +144,17 @@ pub settled-comes : (messages : List Message) (known : List Batch) (waiting done
     → ComesFrom known (settled messages (record { known = known; waiting = waiting; learned = done; aside = aside })).known
 settled-comes [] known waiting done aside can = record { messages = []; are = tt; is = refl }
 settled-comes (sent ∷ messages) known waiting done aside can =
-    by (settled-comes messages) (has_key (Some sent.batch.key) known) refl (has_key (earlier sent.batch) known) (fit_in known sent) refl (settled-next known waiting sent messages can done aside)
+    by (settled-comes messages) (has_key (Some sent.batch.key) known) refl (has_key (earlier sent.batch) known) (fit_message known sent) refl (settled-next known waiting sent messages can done aside)
   where
     by : ((k : List Batch) (w d : List Message) (a : List SetAside) → CanSettle k w messages → ComesFrom k (settled messages (record { known = k; waiting = w; learned = d; aside = a })).known)
-        → (t : Bool) → has_key (Some sent.batch.key) known ≡ t → (u : Bool) (r : Result Learned Misfit) → fit_in known sent ≡ r
+        → (t : Bool) → has_key (Some sent.batch.key) known ≡ t → (u : Bool) (r : Result Learned NotAdmitted) → fit_message known sent ≡ r
         → CanSettle (went sent (record { known = known; waiting = waiting; learned = done; aside = aside }) t u r).known (went sent (record { known = known; waiting = waiting; learned = done; aside = aside }) t u r).waiting messages
         → ComesFrom known (settled messages (went sent (record { known = known; waiting = waiting; learned = done; aside = aside }) t u r)).known
     by rest true e u r f next = rest known waiting (done ++ sent ∷ []) aside next
     by rest false e true (Ok fits) f next =
         comes-more known sent (settled messages (went sent (record { known = known; waiting = waiting; learned = done; aside = aside }) false true (Ok fits))).known can.each.0.message
         (fit-lone known sent (subst IsOk (sym f) refl)) (can.each.0.fresh e) (rest (with_message sent known) waiting (done ++ sent ∷ []) aside next)
-    by rest false e true (Err why) f next = rest known waiting done (aside ++ record { message = sent; misfit = why } ∷ []) next
+    by rest false e true (Err why) f next = rest known waiting done (aside ++ record { message = sent; cause = why } ∷ []) next
     by rest false e false r f next = rest known (put_off sent waiting) done aside next
 
 pub come-same : (known after : List Batch) → after ≡ known → ComesFrom known after
@@ -157,7 +163,7 @@ come-same known after e = record { messages = []; are = tt; is = e }
 -- a message that fits is learned, and what waited for it is gone over
 module _ (known : List Batch) (waiting : List Message) (sent : Message) (are : ArePutOff known waiting) (message : IsMessage sent) (new : IsNewTo (with_messages waiting known) sent)
     (reached : has_key (earlier sent.batch) known ≡ true) (small : AllByRecursion HasSmallIds (both sent)) (all_small : AllByRecursion HasSmallIds (batches_of waiting)) where
-  pub come-on : (x : Learned) → fit_in known sent ≡ Ok x → (told : Admission) (after first : List Batch) (rest : List Message) → first ≡ with_message sent known
+  pub come-on : (x : Learned) → fit_message known sent ≡ Ok x → (told : Admission) (after first : List Batch) (rest : List Message) → first ≡ with_message sent known
       → IsSettled told (settled (freed sent waiting) (record { known = first; waiting = still_put_off sent waiting; learned = []; aside = [] })) after rest → ComesFrom known after
   come-on x fits told after first rest is end =
       comes-more known sent after message (fit-lone known sent (subst IsOk (sym fits) refl)) (new-to-known known waiting are sent new)

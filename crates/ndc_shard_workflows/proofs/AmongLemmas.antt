@@ -88,7 +88,7 @@ module _ (home : Desk) where
         by (Ok version) = others-below d w e version (workflow_tip batches) (strays batches)
         by (Err why) = refl
 
-  -- behind reapplication in a workflow, the others are the same still
+  -- after reapplication in a workflow, the others are the same still
   still-same : (one : Name × Name) (first cell : Cell) (list : List (Name × Name)) → AllByRecursion (λ other. is_named other.0 other.1 one ≡ false) list → AreSame first cell list → AreSame first (reapplied_at home one cell) list
   still-same one first cell [] apart same = tt
   still-same one first cell (other ∷ list) apart same = (others-stay one cell other.0 other.1 apart.0 ∙ same.0, still-same one first cell list apart.1 same.1)

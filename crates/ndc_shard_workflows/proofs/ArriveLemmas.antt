@@ -57,7 +57,7 @@ module _ (sent : Message) (domains : List (Name × DomainValue)) (are : AreDomai
   pub learned-there : made_learned sent there ≡ learned_by sent (cell_of domains)
   learned-there = sym (learned-same sent (cell_of domains) (is-cell domains are) (waiting-ordered domains are) may.message.back may.own ∙ ap (made_learned sent) own-there)
 
-  -- the workflow there behind it is that of the cell behind it
+  -- the workflow there after it is that of the cell after it
   pub after-there : after_arrival sent there ≡ workflow_of sent.batch.domain sent.batch.workflow (cells.arrived_at sent (cell_of domains))
   after-there = sym (workflow-same sent (cell_of domains) (is-cell domains are) (waiting-ordered domains are) may.message.back may.own ∙ ap (after_arrival sent) own-there)
 

@@ -49,7 +49,7 @@ module _ (batches : List Batch) (b : Batch) (sound : IsSound batches) (after : I
           let has = part-has batches sound b.run x (among-has (part_of b.run batches) x (Rise-filter (λ y. same_run y.run b.run) batches sound.set.ordered) (subst (Among x) (sym e) (inl refl))) in
           absurd (none-of-run x has.0 has.1)
 
--- the same behind one more batch
+-- the same after one more batch
 pub begins-behind : (known : List Batch) (b second : Batch) → batch_at b.key known ≡ None → IsSound (arrived b known) → IsSound (arrived second (arrived b known))
     → batch_at second.key (arrived b known) ≡ None → second.parent ≡ None → greatest_task known < 2 ^ 64 → b.key.task < 2 ^ 64 → second.key.task < 2 ^ 64
     → part_of second.run (arrived b known) ≡ []

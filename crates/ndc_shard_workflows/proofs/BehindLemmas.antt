@@ -1,4 +1,4 @@
--- A cell of domains behind a change to one of its workflows.
+-- A cell of domains after a change to one of its workflows.
 use Rattle.std.proofs.Common.{◌≡◌, Bool, true, false, ◌&&◌, not, List, [], ◌∷◌, Option, Some, None, map, refl, sym, ◌∙◌, subst, ap, true≢false}
 use Rattle.std.specs.Prelude.{IfSome, option_to_list, if◌then◌else◌}
 use Rattle.std.specs.List.{AllByRecursion, filter}
@@ -106,7 +106,7 @@ second-back sent message = by sent.second (both-back sent message).1
     by None all = tt
     by (Some b) all = all.0
 
--- messages stay in order behind one more, and where some go
+-- messages stay in order after one more, and where some go
 placed-mapped : (new : Message) (messages : List Message) → map (λ sent. sent.batch) (message_placed new messages) ≡ placed new.batch (map (λ sent. sent.batch) messages)
 placed-mapped new [] = refl
 placed-mapped new (sent ∷ messages) = by (place_lt (place_of new.batch) (place_of sent.batch)) (is_at (place_of new.batch) sent.batch) (placed-mapped new messages)

@@ -1,4 +1,4 @@
--- Workflows that are listed by domain: what stands under a domain, and what is listed behind a change of one.
+-- Workflows that are listed by domain: what stands under a domain, and what is listed after a change of one.
 use Rattle.std.proofs.Common.{◌≡◌, Bool, true, false, not, ◌&&◌, ◌||◌, ◌==◌, List, [], ◌∷◌, ◌++◌, length, Option, Some, None, Result, Ok, Err, OnOk, OnErr, cond, refl, sym, ◌∙◌, subst, ap, true≢false}
 use Rattle.std.specs.Prelude.{IfSome, if◌then◌else◌}
 use Rattle.std.specs.List.{AllByRecursion, list_any}
@@ -124,7 +124,7 @@ changed-holds domain o before after new found ordered hold = record { ordered = 
     by q list (Some x) new true e f = let same : x ≡ list = cc in subst (λ (k : Name). AreOf k list) ((bytes_eq-Decides domain q).0 e) (subst (AreOf domain) same new)
     by q list p new false e f = hold.each q list f
 
--- a domain was taken out behind a change of it
+-- a domain was taken out after a change of it
 pub found-without : (domain : Name) (o : Option Names) (before between after : ByName) → ((q : Name) → under q between ≡ (if bytes_eq domain q then o else under q before))
     → ((q : Name) → under q after ≡ cond (is_eq (names_cmp domain q)) None (under q between)) → (q : Name) → under q after ≡ (if bytes_eq domain q then None else under q before)
 found-without domain o before between after changed taken q =

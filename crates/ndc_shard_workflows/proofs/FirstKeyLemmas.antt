@@ -45,7 +45,7 @@ all-in (sent ∷ waiting) known = by sent.second (λ l. all-in waiting l)
     by (Some second) rest = rest (arrived second (arrived sent.batch known))
 
 module _ (test : Batch → Bool) where
-  -- the key that is found among batches behind this one comes behind it
+  -- the key that is found among batches after this one comes after it
   found-behind : (own : BatchKey) (batches : List Batch) → ComeAfter own batches → lesser own (first_key test batches) ≡ own
   found-behind own [] after = refl
   found-behind own (x ∷ xs) after = by (test x) (found-behind own xs after.1)

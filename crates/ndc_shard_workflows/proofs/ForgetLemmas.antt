@@ -171,7 +171,7 @@ with-skip key (sent ∷ front) back all =
         by false e rest = rest
 
 module _ (key : BatchKey) (all : List Message) (are : AreWaiting all) where
-  -- a message of the list, between a front and the others
+  -- a message of the list, between a prefix and the others
   module _ (front back : List Message) (sent : Message) (split : all ≡ front ++ sent ∷ back) where
     joined : batches_of all ≡ batches_of front ++ (both sent ++ batches_of back)
     joined = ap batches_of split ∙ flat_map-append both front (sent ∷ back)
@@ -220,7 +220,7 @@ module _ (key : BatchKey) (all : List Message) (are : AreWaiting all) where
                 ∙ ap (λ t. is_some (cond t (Some sent.batch) (batch_at b.key (b ∷ [])))) (not-at b.key sent.batch r.0.0)
                 ∙ ap (λ t. is_some (cond t (Some b) None)) (key_eq-self b.key)
 
-    -- it may be put behind those that are kept of the front
+    -- it may be put after those that are kept of the prefix
     own-new : IsNewTo (batches_of (but_for key front)) sent
     own-new =
         all-front (λ b. batch_at b.key (batches_of (but_for key front)) ≡ None) (both sent) (batches_of back)

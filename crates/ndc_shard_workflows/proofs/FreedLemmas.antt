@@ -33,7 +33,7 @@ module _ (known : List Batch) (waiting : List Message) (are : ArePutOff known wa
   arrived-is : with_message new (with_messages waiting known) ≡ with_messages (still_put_off new waiting) later
   arrived-is = all_arrived known waiting new are message (new-to-known known waiting are new fresh) (new-to-waiting known waiting are new fresh) reached
 
-  learned-later : learned (with_message new (with_messages waiting known)) ≡ later
+  pub learned-later : learned (with_message new (with_messages waiting known)) ≡ later
   learned-later = ap learned arrived-is ∙ learned_is later (still_put_off new waiting) still-put-off
 
   waiting-is : filter (λ sent. not (has_key (Some sent.batch.key) (learned (with_message new (with_messages waiting known))))) (put_off new waiting) ≡ still_put_off new waiting

@@ -1,4 +1,4 @@
--- Reapplication in a front of a list of workflows is that in a front of all of the cell, where it writes to no others than those of the list.
+-- Reapplication in a prefix of a list of workflows is that in a prefix of all of the cell, where it writes to no others than those of the list.
 use Rattle.std.proofs.Common.{◌≡◌, ℕ, zero, suc, Bool, true, false, List, [], ◌∷◌, ◌++◌, cond, length, take, refl, sym, ◌∙◌, ap}
 use Rattle.std.specs.List.{AllByRecursion, filter, take-map}
 use Rattle.std.proofs.Math.Seq.{take-append_seam, take-length}
@@ -14,7 +14,7 @@ use Rattle.ndc_shard_workflows.proofs.AmongLemmas.{AreApart, chosen, reapplied-k
 use Rattle.ndc_shard_workflows.proofs.ListLemmas.{all-same, all_names, apart-from, names_in, names-sorted, reapplied-as, same-chosen}
 
 module _ {X : Type 0} (p : X → Bool) where
-  -- what passes of a front is a front of what passes
+  -- what passes of a prefix is a prefix of what passes
   filter-front : (n : ℕ) (xs : List X) → (k : ℕ) × (filter p (take n xs) ≡ take k (filter p xs))
   filter-front zero xs = (zero, refl)
   filter-front (suc n) [] = (zero, refl)
@@ -25,7 +25,7 @@ module _ {X : Type 0} (p : X → Bool) where
       by true rest = (suc rest.0, ap (λ l. x ∷ l) rest.1)
       by false rest = rest
 
-  -- and each front of what passes is what passes of a front
+  -- and each prefix of what passes is what passes of a prefix
   front-filter : (k : ℕ) (xs : List X) → (n : ℕ) × (filter p (take n xs) ≡ take k (filter p xs))
   front-filter zero xs = (zero, refl)
   front-filter (suc k) [] = (zero, refl)
@@ -48,7 +48,7 @@ apart-take (suc n) [] apart = tt
 apart-take (suc n) (one ∷ list) apart = (all-take (λ other. is_named other.0 other.1 one ≡ false) n list apart.0, apart-take n list apart.1)
 
 module _ (home : Desk) where
-  -- fronts of the list and of all workflows of the cell in which reapplication writes to the same ones come to the same
+  -- prefixes of the list and of all workflows of the cell in which reapplication writes to the same ones come to the same
   same-fronts : (list : List (Name × Name)) (cell : Cell) → AreInOrder cell.arrived → AreReapplied home list cell → (k n : ℕ)
       → chosen home cell (take k list) ≡ chosen home cell (take n (all_names (workflows_of cell.arrived)))
       → reapplied_among home (take k list) cell ≡ reapplied_in home (take n (workflows_of cell.arrived)) cell
@@ -58,7 +58,7 @@ module _ (home : Desk) where
       ∙ sym (reapplied-kept home cell (take n all) cell (apart-take n all (apart-from all (names-sorted cell.arrived order))) (all-same cell (take n all)))
       ∙ ap (λ (l : List (Name × Name)). reapplied_among home l cell) (take-map names_in n (workflows_of cell.arrived)) ∙ sym (reapplied-as home (take n (workflows_of cell.arrived)) cell)
 
-  -- a front of the list is a front of all
+  -- a prefix of the list is a prefix of all
   pub first-of-all : (list : List (Name × Name)) (cell : Cell) → AreInOrder cell.arrived → AreReapplied home list cell
       → (after : Cell) → IsReappliedAmongFirst home list cell after → IsReappliedInFirst home (workflows_of cell.arrived) cell after
   first-of-all list cell order are after first =
@@ -71,7 +71,7 @@ module _ (home : Desk) where
   one-more [] one cell = refl
   one-more (names ∷ front) one cell = one-more front one (reapplied_at home names cell)
 
-  -- what is done of a list is a front of it
+  -- what is done of a list is a prefix of it
   pub front-first : (front rest list : List (Name × Name)) (before after : Cell) → list ≡ front ++ rest → after ≡ reapplied_among home front before → IsReappliedAmongFirst home list before after
   front-first front rest list before after parts done = record {
     count = length front;

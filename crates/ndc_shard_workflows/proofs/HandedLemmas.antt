@@ -1,4 +1,4 @@
--- A message of which nobody vouches is handed to its workflow in a domain and in a cell.
+-- A message that nobody vouches for is handed to its workflow in a domain and in a cell.
 use Rattle.std.proofs.Common.{◌≡◌, Bool, true, false, ◌&&◌, List, [], Option, Some, Result, Ok, Err, IfOk, OnOk, refl, sym, ◌∙◌, subst, ap, if◌then◌else◌}
 use Rattle.std.specs.Prelude.{IfErr, IfSome}
 use Rattle.std.specs.Str.{bytes_eq}

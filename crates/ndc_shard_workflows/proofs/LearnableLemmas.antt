@@ -1,4 +1,4 @@
--- Messages that can be learned: the first one, those behind it, and the batch and the carried one of a message.
+-- Messages that can be learned: the first one, those after it, and the batch and the carried one of a message.
 use Rattle.std.proofs.Common.{◌≡◌, Bool, true, List, [], ◌∷◌, ◌++◌, Option, Some, None, refl, sym, ◌∙◌, subst, ap}
 use Rattle.std.specs.Prelude.{is_some, option_to_list, if◌then◌else◌}
 use Rattle.std.specs.Option.{option_or}
@@ -24,7 +24,7 @@ pub messages-back : (messages : List Message) → AllByRecursion IsMessage messa
 messages-back [] each = tt
 messages-back (sent ∷ messages) each = all-join PointsBack (both sent) (batches_of messages) (both-back sent each.0) (messages-back messages each.1)
 
--- behind a message that is learned what is learned is closed
+-- after a message that is learned what is learned is closed
 module _ (known : List Batch) (sent : Message) (set : IsSet known) (closed : IsClosed known) (message : IsMessage sent) (reached : has_key (earlier sent.batch) known ≡ true) where
   own-closed : AllByRecursion (λ b. has_key (earlier b) (known ++ both sent) ≡ true) (both sent)
   own-closed =
@@ -59,7 +59,7 @@ module _ (known : List Batch) (sent : Message) (messages : List Message) (can : 
   pub next-sound : IsSound (with_message sent known)
   next-sound = part_is_sound (with_messages messages (with_message sent known)) (with_message sent known) can.sound next-set next-closed next-part
 
-  -- the others can be learned behind it
+  -- the others can be learned after it
   pub others-can : CanBeLearned (with_message sent known) messages
   others-can = record {
     set = next-set;

@@ -38,3 +38,6 @@ pub mod AdmittedLemmas
 pub mod TriedLemmas
 pub mod HandedLemmas
 pub mod ForgetLemmas
+pub mod HistoryLemmas
+pub mod RecountLemmas
+pub mod LackingLemmas

@@ -57,7 +57,7 @@ all-first P (b ∷ bs) all = (all.0, kept (workflows_of bs) (all-first P bs all.
     kept [] all = tt
     kept (x ∷ xs) all = filter-cases (AllByRecursion P) (λ other. not (is_of b.domain b.workflow other)) x xs (λ _. (all.0, kept xs all.1)) (λ _. kept xs all.1)
 
--- a batch of another workflow behind this one is of a later workflow
+-- a batch of another workflow after this one is of a later workflow
 later-names : (b other : Batch) → place_lt (place_of b) (place_of other) ≡ true → is_of b.domain b.workflow other ≡ false → names_order (names_in b) (names_in other) ≡ Less
 later-names b other l n = by (place-parts (place_of b) (place_of other) l)
   where

@@ -1,4 +1,4 @@
--- What a learned batch carries has the key just behind its own.
+-- What a learned batch carries has the key just after its own.
 use Rattle.std.proofs.Common.{◌≡◌, ◌+◌, ◌≤◌, Bool, true, false, not, ◌==◌, List, [], ◌∷◌, Option, Some, None, if◌then◌else◌, refl, sym, ◌∙◌, subst, ap, true≢false, arith}
 use Rattle.std.specs.Prelude.{is_some}
 use Rattle.std.specs.List.{AllByRecursion}
@@ -50,11 +50,11 @@ module _ (b : Batch) where
           ∙ ap (key_if_carried b) (sym (none-there xs (key_behind b.key) (subst (λ (k : BatchKey). ComeAfter k xs) (same-keys x.key (key_behind b.key) e) rise.0))) ∙ rest
       by false c false e rest = rest
 
--- the first that a batch carries is the one of the key just behind
+-- the first that a batch carries is the one of the next key
 pub next-known : (b : Batch) (known : List Batch) → IsSound known → key_if_carried b (batch_at (key_behind b.key) known) ≡ first_key (carries b) known
 next-known b known sound = next-first b known sound.set.ordered (all-behind b known known sound (all-there known sound.set.ordered))
 
--- behind the greatest task there is none
+-- after the greatest task there is none
 pub none-next : (key : BatchKey) (known : List Batch) → greatest_task known ≤ key.task → batch_at (key_behind key) known ≡ None
 none-next key known most = by (batch_at (key_behind key) known) refl
   where

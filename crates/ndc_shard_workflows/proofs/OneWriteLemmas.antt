@@ -75,7 +75,7 @@ neither (Some key) b s e = by (has_key (Some key) (b ∷ [])) (has_key (Some key
     by true u f = absurd (true≢false f)
     by false u f = (refl, f)
 
--- a batch that goes right behind another
+-- a batch that goes right after another
 module _ (b s : Batch) (goes : GoesBehind b s) where
   earlier-is : earlier s ≡ s.carrier
   earlier-is = ap (λ (p : Option BatchKey). earlier_of p s.carrier) goes.parent
@@ -95,7 +95,7 @@ module _ (b s : Batch) (goes : GoesBehind b s) where
       by None h = refl
       by (Some k) h = subst (λ (x : BatchKey). has_key (Some x) batches ≡ true) (sym h) there
 
--- and then the one that goes right behind it
+-- and then the one that goes right after it
 module _ (known : List Batch) (waiting : List Message) (are : ArePutOff known waiting) (b s : Batch) (back : PointsBack b) (goes : GoesBehind b s)
     (fresh : batch_at b.key (with_messages waiting known) ≡ None) (second_fresh : batch_at s.key (with_messages waiting known) ≡ None) (reached : has_key (earlier b) known ≡ true)
     (awaited : AllByRecursion (λ sent. waits_for (b ∷ s ∷ []) sent ≡ false) waiting) where

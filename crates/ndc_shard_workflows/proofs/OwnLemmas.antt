@@ -1,4 +1,4 @@
--- A workflow of its names stays one behind an arrival, and behind what is written there.
+-- A workflow of its names stays one after an arrival, and after what is written there.
 use Rattle.std.proofs.Common.{◌≡◌, Bool, true, false, not, List, [], ◌∷◌, Option, Some, None, Ok, refl, sym, ◌∙◌, subst, ap, if◌then◌else◌}
 use Rattle.std.specs.Prelude.{IfSome}
 use Rattle.std.specs.List.{AllByRecursion, filter}
@@ -71,7 +71,7 @@ module _ (domain workflow : Name) (sent : Message) (w : WorkflowValue) (own : Is
   arrived-own =
       all-second (λ b. is_of domain workflow b ≡ true) sent.second (arrived sent.batch w.arrived) second (all-arrived (λ b. is_of domain workflow b ≡ true) sent.batch w.arrived first own.arrived)
 
-  -- behind an arrival
+  -- after an arrival
   module _ (message : IsMessage sent) where
     is-with : IsNewTo w.arrived sent → IsWorkflow (workflow_with sent w)
     is-with fresh = subst (λ (v : WorkflowValue). IsWorkflow (workflow_with sent v)) (sym own.is.parts) (by (has_key (earlier sent.batch) (learned w.arrived)) refl)
@@ -104,7 +104,7 @@ module _ (domain workflow : Name) (sent : Message) (w : WorkflowValue) (own : Is
         by true e sound = own
         by false e sound = own-with (new e) sound
 
-  -- behind what is written
+  -- after what is written
   pub own-written : CanBeWritten sent w → IsOwn domain workflow (with_written sent w)
   own-written can = record { is = is; sound = sound; arrived = arrived-own; waiting = own.waiting }
     where

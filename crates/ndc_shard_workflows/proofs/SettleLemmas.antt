@@ -1,12 +1,14 @@
 -- Messages that waited for one that is learned are gone over.
 use Rattle.std.proofs.Common.{◌≡◌, Bool, true, false, is_some, List, [], ◌∷◌, ◌++◌, Option, Some, None, IsSome, Result, Ok, Err, IsOk, refl, sym, ◌∙◌, subst, ap, true≢false}
-use Rattle.std.specs.Prelude.{option_to_list, if◌then◌else◌}
+use Rattle.std.specs.Prelude.{⊤, option_to_list, if◌then◌else◌}
 use Rattle.std.specs.Option.{option_or}
 use Rattle.std.specs.List.{AllByRecursion}
+use Rattle.ndc_admission.specs.History.{tells_path}
 use Rattle.ndc_event.specs.declared.batch.Batch.{Batch}
 use Rattle.ndc_event.specs.declared.key.BatchKey.{BatchKey}
 use Rattle.ndc_model_cells.specs.Cells.{both, missing_of}
 use Rattle.ndc_model_cells.specs.Messages.{batches_of, HasSmallIds, IsMessage, IsNewTo}
+use Rattle.ndc_model_cells.specs.Workflow.{WorkflowValue}
 use Rattle.ndc_model_cells.specs.declared.message.Message.{Message}
 use Rattle.ndc_model_sets.specs.Learned.{has_key, learned}
 use Rattle.ndc_model_sets.specs.Sets.{Has, IsSet, PointsBack, batch_at, earlier}
@@ -23,10 +25,16 @@ use Rattle.ndc_shard_waiting.proofs.MissingLemmas.{missing_is}
 use Rattle.ndc_shard_waiting.proofs.OrderLemmas.{Precede, all-back, all-front, all-more, all-two, rise-back, rise-precede}
 use Rattle.ndc_shard_waiting.proofs.PutLemmas.{apart-flip, batches-put, put-found}
 use Rattle.ndc_run.specs.declared.answer.Learned.{Learned}
+use Rattle.ndc_run.specs.Learning.{or_error}
+use Rattle.ndc_shard_runs.specs.Fitting.{fit_of}
 use Rattle.ndc_shard_runs.specs.declared.misfit.Misfit.{Misfit}
-use Rattle.ndc_shard_workflows.specs.Admitting.{IsEarly, IsPutOff, IsRefused, IsTried, Settling, fit_in, is_whole, settled, settled_one, settled_with, tried}
+use Rattle.ndc_shard_runs.specs.declared.misfit.Misfit.TheVariants.{IllFormed}
+use Rattle.ndc_shard_workflows.specs.Admitting.{IsEarly, IsPutOff, IsRefused, IsTried, Settling, fit_message, is_whole, settled, settled_one, settled_with, tried}
 use Rattle.ndc_shard_workflows.specs.Settling.{CanSettle, IsLeft, IsSettled}
 use Rattle.ndc_shard_workflows.specs.declared.admission.Admission.{Admission}
+use Rattle.ndc_shard_workflows.specs.declared.admission.Admission.TheVariants as admission
+use Rattle.ndc_shard_workflows.specs.declared.admission.NotAdmitted.{NotAdmitted}
+use Rattle.ndc_shard_workflows.specs.declared.admission.NotAdmitted.TheVariants as refused
 use Rattle.ndc_shard_workflows.specs.declared.admission.SetAside.{SetAside}
 use Rattle.ndc_shard_workflows.specs.Workflow.{beside}
 use Rattle.ndc_shard_workflows.proofs.LearnableLemmas.{message-closed}
@@ -262,9 +270,9 @@ module _ (known : List Batch) (waiting : List Message) (sent : Message) (rest : 
   now = record { known = known; waiting = waiting; learned = done; aside = aside }
 
   pub settled-next : CanSettle (settled_one sent now).known (settled_one sent now).waiting rest
-  settled-next = by (has_key (Some sent.batch.key) known) refl (has_key (earlier sent.batch) known) refl (fit_in known sent)
+  settled-next = by (has_key (Some sent.batch.key) known) refl (has_key (earlier sent.batch) known) refl (fit_message known sent)
     where
-      by : (t : Bool) → has_key (Some sent.batch.key) known ≡ t → (u : Bool) → has_key (earlier sent.batch) known ≡ u → (r : Result Learned Misfit)
+      by : (t : Bool) → has_key (Some sent.batch.key) known ≡ t → (u : Bool) → has_key (earlier sent.batch) known ≡ u → (r : Result Learned NotAdmitted)
           → CanSettle (if t then record now { learned = done ++ sent ∷ [] } else if u then tried r sent now else record now { waiting = put_off sent waiting }).known
           (if t then record now { learned = done ++ sent ∷ [] } else if u then tried r sent now else record now { waiting = put_off sent waiting }).waiting rest
       by true e u f r = passed known waiting sent rest can
@@ -280,26 +288,57 @@ settled-step s t left rest sent all e can same is = (
   ap (settled rest) is ∙ ap (λ (l : List Message). settled l s) (sym e) ∙ same,
 )
 
+-- why a message does not fit: for its history, or as a misfit
+abbrev IsUnfit : NotAdmitted → Type 0
+IsUnfit refused.History = ⊤
+IsUnfit (refused.Misfit why) = ⊤
+IsUnfit _ = ⊥
+
+unfit : (known : List Batch) (sent : Message) (why : NotAdmitted) → fit_message known sent ≡ Err why → IsUnfit why
+unfit known sent why e = by (is_whole sent) (tells_path known sent) (fit_of known sent.batch sent.second) e
+  where
+    by : (w t : Bool) (r : Result Learned Misfit) → (if w then (if t then or_error refused.Misfit r else Err refused.History) else Err (refused.Misfit IllFormed)) ≡ Err why → IsUnfit why
+    by false t r h = let same : refused.Misfit IllFormed ≡ why = cc in subst IsUnfit same tt
+    by true false r h = let same : refused.History ≡ why = cc in subst IsUnfit same tt
+    by true true (Ok x) h = absurd (cc)
+    by true true (Err m) h = let same : refused.Misfit m ≡ why = cc in subst IsUnfit same tt
+
 -- what comes of a message that has not arrived
 module _ (known : List Batch) (waiting : List Message) (are : ArePutOff known waiting) (sent : Message) where
   as-learned : learned (with_messages waiting known) ≡ known
   as-learned = learned_is known waiting are
 
-  pub is-refused : (is_whole sent ≡ true → has_key (earlier sent.batch) known ≡ true) → (why : Misfit) → fit_in known sent ≡ Err why → IsRefused sent why (beside known waiting)
+  pub is-refused : (is_whole sent ≡ true → has_key (earlier sent.batch) known ≡ true) → (why : NotAdmitted) → fit_message known sent ≡ Err why → IsRefused sent why (beside known waiting)
   is-refused reached why e = record {
     reached = λ whole. ap (has_key (earlier sent.batch)) as-learned ∙ reached whole;
-    why_is = ap (λ (l : List Batch). fit_in l sent) as-learned ∙ e;
+    why_is = ap (λ (l : List Batch). fit_message l sent) as-learned ∙ e;
   }
+
+  -- a message that does not fit is refused
+  pub tried-refused : has_key (earlier sent.batch) known ≡ true → (why : NotAdmitted) → fit_message known sent ≡ Err why → (may_wait : Bool) (after : WorkflowValue) → after ≡ beside known waiting
+      → IsTried may_wait sent (admission.Refused why) (beside known waiting) after
+  tried-refused reached refused.History e may_wait after same = (is-refused (λ _. reached) refused.History e, same)
+  tried-refused reached (refused.Misfit why) e may_wait after same = (is-refused (λ _. reached) (refused.Misfit why) e, same)
+  tried-refused reached (refused.Fault why) e may_wait after same = absurd (unfit known sent (refused.Fault why) e)
+  tried-refused reached refused.OwnVersion e may_wait after same = absurd (unfit known sent refused.OwnVersion e)
+  tried-refused reached refused.OwnOrigin e may_wait after same = absurd (unfit known sent refused.OwnOrigin e)
+  tried-refused reached (refused.Rival key waits) e may_wait after same = absurd (unfit known sent (refused.Rival key waits) e)
+  tried-refused reached refused.Full e may_wait after same = absurd (unfit known sent refused.Full e)
+
+  pub tried-refused-as : has_key (earlier sent.batch) known ≡ true → (why told : NotAdmitted) → why ≡ told → fit_message known sent ≡ Err why → (may_wait : Bool) (after : WorkflowValue) → after ≡ beside known waiting
+      → IsTried may_wait sent (admission.Refused told) (beside known waiting) after
+  tried-refused-as reached why told one e may_wait after same =
+      subst (λ (cause : NotAdmitted). IsTried may_wait sent (admission.Refused cause) (beside known waiting) after) one (tried-refused reached why e may_wait after same)
 
   pub is-early : is_whole sent ≡ true → has_key (earlier sent.batch) known ≡ false → IsEarly sent (beside known waiting)
   is-early whole off = record { whole = whole; off = ap (has_key (earlier sent.batch)) as-learned ∙ off }
 
-  pub is-learned : has_key (earlier sent.batch) known ≡ true → (x : Learned) → fit_in known sent ≡ Ok x → (told : Admission) (after first : List Batch) (rest : List Message) (may_wait : Bool) → first ≡ with_message sent known
+  pub is-learned : has_key (earlier sent.batch) known ≡ true → (x : Learned) → fit_message known sent ≡ Ok x → (told : Admission) (after first : List Batch) (rest : List Message) (may_wait : Bool) → first ≡ with_message sent known
       → IsSettled told (settled (freed sent waiting) (record { known = first; waiting = still_put_off sent waiting; learned = []; aside = [] })) after rest
       → IsTried may_wait sent told (beside known waiting) (beside after rest)
   is-learned reached x e told after first rest may_wait first_is end = subst (λ (t : Admission). IsTried may_wait sent t (beside known waiting) (beside after rest)) (sym end.told_is) (record {
     reached = ap (has_key (earlier sent.batch)) as-learned ∙ reached;
-    fits = subst (λ (k : List Batch). IsOk (fit_in k sent)) (sym as-learned) (subst IsOk (sym e) refl);
+    fits = subst (λ (k : List Batch). IsOk (fit_message k sent)) (sym as-learned) (subst IsOk (sym e) refl);
     learned_are = end.batches_are ∙ ap (λ (s : Settling). batches_of s.learned) with_it;
     aside_are = end.aside_are ∙ ap (λ (s : Settling). s.aside) with_it;
     workflow_is = (λ i. beside (end.known_is i) (end.waiting_is i)) ∙ ap (λ (s : Settling). beside s.known s.waiting) with_it;

@@ -45,7 +45,7 @@ none-kept p q (x ∷ xs) none = by (p x) refl none (λ e. none-kept p q xs e)
         kept true = ap (λ t. cond t (x ∷ filter p (filter q xs)) (filter p (filter q xs))) e ∙ rest h
         kept false = rest h
 
--- where nothing is put off of a workflow, nothing is behind the arrival of a message of another one
+-- where nothing is put off of a workflow, nothing is after the arrival of a message of another one
 others-still : (d w : Name) (sent : Message) (cell : Cell) → is_of d w sent.batch ≡ false → (workflow_of d w cell).waiting ≡ [] → (workflow_of d w (arrived_at sent cell)).waiting ≡ []
 unfolding arrived_at
 others-still d w sent cell other none = by (cells.has_arrived sent.batch cell)

@@ -35,7 +35,7 @@ module _ (entry : Entry) (domains : List (Name × DomainValue)) (are : AreDomain
   pub may-there : MayBeWrittenTogether (carrying entry.batch entry.second) there
   may-there = subst (MayBeWrittenTogether (carrying entry.batch entry.second)) own-there may
 
-  -- the cell behind it
+  -- the cell after it
   pub cell-there : (workflows : DomainValue) (after : List (Name × DomainValue)) → IsPut entry.batch.domain workflows domains after → AreDomains after
       → IsPut entry.batch.workflow (with_written (carrying entry.batch entry.second) there) (workflows_in o) workflows → cell_of after ≡ with_batches entry (cell_of domains)
   cell-there workflows after outer later inner =

@@ -1,6 +1,6 @@
--- Messages of which nobody vouches: what becomes of one, and of those that waited for it.
-use Rattle.std.specs.Prelude.{◌≡◌, ◌<◌, ◌^◌, true, false, Bool, ◌&&◌, not, is_some, List, [], ◌∷◌, ◌++◌, Option, None, Result, Ok, Err, Some, IsOk, if◌then◌else◌}
-use Rattle.ndc_admission.specs.History.{history_ends}
+-- Messages that nobody vouches for: what becomes of one, and of those that waited for it.
+use Rattle.std.specs.Prelude.{◌≡◌, ◌<◌, ◌^◌, true, false, Bool, ◌&&◌, not, is_some, List, [], ◌∷◌, ◌++◌, ◌⊎◌, Option, None, Result, Ok, Err, Some, IsOk, if◌then◌else◌}
+use Rattle.ndc_admission.specs.History.{history_ends, tells_path}
 use Rattle.ndc_event.specs.Batch.{fault_of}
 use Rattle.ndc_model_cells.specs.Cells.{missing_of}
 use Rattle.ndc_model_cells.specs.Messages.{batches_of, IsNewTo}
@@ -10,6 +10,7 @@ use Rattle.ndc_event.specs.declared.batch.Batch.{Batch}
 use Rattle.ndc_event.specs.declared.key.BatchKey.{BatchKey}
 use Rattle.ndc_model_sets.specs.Learned.{has_key, learned}
 use Rattle.ndc_model_sets.specs.Sets.{earlier}
+use Rattle.ndc_run.specs.Learning.{or_error}
 use Rattle.ndc_run.specs.declared.answer.Learned.{Learned}
 use Rattle.ndc_shard_runs.specs.Fitting.{fit_of}
 use Rattle.ndc_shard_runs.specs.declared.misfit.Misfit.{Misfit}
@@ -39,9 +40,15 @@ is_second_faultless (Some second) = is_faultless second
 abbrev pub is_whole : Message → Bool
 is_whole sent = not (is_some sent.batch.carrier) && (is_faultless sent.batch && is_second_faultless sent.second)
 
--- whether a message fits what is learned, or why not
+-- whether what would be written fits what is learned, or why not
 abbrev pub fit_in : List Batch → Message → Result Learned Misfit
 fit_in known sent = if is_whole sent then fit_of known sent.batch sent.second else Err IllFormed
+
+-- whether a message fits what is learned, or why not: it is whole, its version history is that of its path, and its batches fit
+abbrev pub fit_message : List Batch → Message → Result Learned NotAdmitted
+fit_message known sent =
+    if is_whole sent then (if tells_path known sent then or_error refused.Misfit (fit_of known sent.batch sent.second) else Err refused.History)
+    else Err (refused.Misfit IllFormed)
 
 -- while messages are gone over that waited for a batch: what is learned by then, what waits on, the messages that became learned, and those
 -- that were set aside, each with why it does not fit
@@ -52,15 +59,15 @@ pub record Settling : Type 0 where
   pub aside : List SetAside
 
 -- a message is learned where it fits, and set aside where not
-abbrev pub tried : Result Learned Misfit → Message → Settling → Settling
+abbrev pub tried : Result Learned NotAdmitted → Message → Settling → Settling
 tried (Ok learned) sent s = record s { known = with_message sent s.known; learned = s.learned ++ sent ∷ [] }
-tried (Err why) sent s = record s { aside = s.aside ++ record { message = sent; misfit = why } ∷ [] }
+tried (Err why) sent s = record s { aside = s.aside ++ record { message = sent; cause = why } ∷ [] }
 
 -- a message that is learned already counts as learned; one whose earlier key is learned is tried; any other waits on
 abbrev pub settled_one : Message → Settling → Settling
 settled_one sent s =
     if has_key (Some sent.batch.key) s.known then record s { learned = s.learned ++ sent ∷ [] }
-    else if has_key (earlier sent.batch) s.known then tried (fit_in s.known sent) sent s
+    else if has_key (earlier sent.batch) s.known then tried (fit_message s.known sent) sent s
     else record s { waiting = put_off sent s.waiting }
 
 -- messages are gone over, in key order
@@ -74,9 +81,9 @@ settled_with sent known waiting =
     settled (freed sent waiting) (record { known = with_message sent known; waiting = still_put_off sent waiting; learned = []; aside = [] })
 
 -- a message that has not arrived is refused: it is not whole, or its earlier key is learned and it does not fit
-pub record IsRefused (sent : Message) (why : Misfit) (before : WorkflowValue) : Type 0 where
+pub record IsRefused (sent : Message) (why : NotAdmitted) (before : WorkflowValue) : Type 0 where
   pub reached : is_whole sent ≡ true → has_key (earlier sent.batch) (learned before.arrived) ≡ true
-  pub why_is : fit_in (learned before.arrived) sent ≡ Err why
+  pub why_is : fit_message (learned before.arrived) sent ≡ Err why
 
 -- a message can't be learned yet: it is whole, and its earlier key is not learned
 pub record IsEarly (sent : Message) (before : WorkflowValue) : Type 0 where
@@ -92,14 +99,15 @@ pub record IsPutOff (sent : Message) (missing : BatchKey) (before after : Workfl
 -- a message is learned, and of those that waited for it, in key order, each that fits; those that do not are set aside
 pub record IsLearned (sent : Message) (batches : List Batch) (aside : List SetAside) (before after : WorkflowValue) : Type 0 where
   pub reached : has_key (earlier sent.batch) (learned before.arrived) ≡ true
-  pub fits : IsOk (fit_in (learned before.arrived) sent)
+  pub fits : IsOk (fit_message (learned before.arrived) sent)
   pub learned_are : batches ≡ batches_of (settled_with sent (learned before.arrived) before.waiting).learned
   pub aside_are : aside ≡ (settled_with sent (learned before.arrived) before.waiting).aside
   pub workflow_is : after ≡ beside (settled_with sent (learned before.arrived) before.waiting).known (settled_with sent (learned before.arrived) before.waiting).waiting
 
 -- what comes of a message that has not arrived, and may wait or not
 abbrev pub IsTried : Bool → Message → Admission → WorkflowValue → WorkflowValue → Type 0
-IsTried may_wait sent (admission.Refused (refused.Misfit why)) before after = IsRefused sent why before × (after ≡ before)
+IsTried may_wait sent (admission.Refused refused.History) before after = IsRefused sent refused.History before × (after ≡ before)
+IsTried may_wait sent (admission.Refused (refused.Misfit why)) before after = IsRefused sent (refused.Misfit why) before × (after ≡ before)
 IsTried may_wait sent (admission.Refused refused.Full) before after = IsEarly sent before × (may_wait ≡ false) × (after ≡ before)
 IsTried may_wait sent (admission.Refused _) before after = ⊥
 IsTried may_wait sent admission.Known before after = ⊥
@@ -121,8 +129,9 @@ IsRefusedFor terms sent refused.OwnOrigin before =
 IsRefusedFor terms sent (refused.Rival key waits) before =
     IsForeign terms (learned before.arrived) sent × HasRival before.arrived sent key × (waits ≡ not (has_key (Some key) (learned before.arrived)))
 IsRefusedFor terms sent refused.History before =
-    IsForeign terms (learned before.arrived) sent × HasNoRival before.arrived sent × (history_ends sent ≡ false)
-IsRefusedFor terms sent (refused.Misfit why) before = IsNew terms sent before × IsRefused sent why before
+    (IsForeign terms (learned before.arrived) sent × HasNoRival before.arrived sent × (history_ends sent ≡ false))
+    ⊎ (IsNew terms sent before × IsRefused sent refused.History before)
+IsRefusedFor terms sent (refused.Misfit why) before = IsNew terms sent before × IsRefused sent (refused.Misfit why) before
 IsRefusedFor terms sent refused.Full before = IsNew terms sent before × IsEarly sent before × (terms.may_wait ≡ false)
 
 -- what comes of a message that is handed to a workflow on these terms

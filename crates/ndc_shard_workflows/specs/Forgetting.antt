@@ -36,8 +36,8 @@ abbrev pub kept_with : BatchKey → Option Message → Batch → List Message �
 kept_with key None b kept = kept
 kept_with key (Some sent) b kept = if key_eq sent.batch.key b.key && not (has_key (Some key) (both sent)) then put_off sent kept else kept
 
--- of these messages a front is gone over, and these batches are left: that which its last message carries, where it is left, and those of the others;
--- what is kept are the messages of the front, but for the one that has a batch of this key
+-- of these messages a prefix is gone over, and these batches are left: that which its last message carries, where it is left, and those of the others;
+-- what is kept are the messages of the prefix, but for the one that has a batch of this key
 pub record AreKept (key : BatchKey) (all : List Message) (left : List Batch) (kept : List Message) : Type 0 where
   pub front : List Message
   pub carried : Option Batch

@@ -9,11 +9,11 @@ use Rattle.ndc_event.specs.declared.name.Name.{Name}
 use Rattle.ndc_model_cells.specs.Allowed.{HasRoom, MayWriteAll}
 use Rattle.ndc_shard_workflows.specs.Due.{is_listed, names_order}
 
--- the cell behind reapplication in a workflow
+-- the cell after reapplication in a workflow
 abbrev pub reapplied_at : Desk → Name × Name → Cell → Cell
 reapplied_at home names cell = with_all_written (reapplication_of home names.0 names.1 cell) cell
 
--- the cell behind reapplication in these workflows, in order
+-- the cell after reapplication in these workflows, in order
 abbrev pub reapplied_among : Desk → List (Name × Name) → Cell → Cell
 reapplied_among home [] cell = cell
 reapplied_among home (names ∷ list) cell = reapplied_among home list (reapplied_at home names cell)
@@ -34,7 +34,7 @@ pub record AreReapplied (home : Desk) (list : List (Name × Name)) (cell : Cell)
   pub ordered : IsStrictlySortedBy names_order list
   pub each : (domain workflow : Name) → is_listed domain workflow list ≡ false → reapplication_of home domain workflow cell ≡ []
 
--- the cell is behind reapplication in some first ones of these workflows
+-- the cell is after reapplication in some first ones of these workflows
 pub record IsReappliedAmongFirst (home : Desk) (list : List (Name × Name)) (before after : Cell) : Type 0 where
   pub count : ℕ
   pub cell : after ≡ reapplied_among home (take count list) before

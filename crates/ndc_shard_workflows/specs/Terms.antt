@@ -1,5 +1,5 @@
--- On what terms a cell takes messages of which nobody vouches.
-use Rattle.std.specs.Prelude.{◌≡◌, ℕ, Bool, true, false, ◌&&◌, ◌||◌, not, is_some, List, Option, Some, None, IfSome, ◌⊎◌}
+-- On what terms a cell takes messages that nobody vouches for.
+use Rattle.std.specs.Prelude.{◌≡◌, ℕ, Bool, true, false, ◌&&◌, ◌||◌, not, is_some, nat_lt, length, List, Option, Some, None, IfSome, ◌⊎◌}
 use Rattle.std.specs.List.{list_any}
 use Rattle.ndc_domain.specs.Clusters.{ClusterList, writer_of}
 use Rattle.ndc_domain.specs.declared.clusters.ClusterNo.{ClusterNo}
@@ -8,7 +8,7 @@ use Rattle.ndc_event.specs.declared.batch.Event.{Event}
 use Rattle.ndc_event.specs.declared.key.BatchKey.{BatchKey}
 use Rattle.ndc_event.specs.declared.kind.EventKind.{EventKind}
 use Rattle.ndc_event.specs.declared.kind.EventKind.TheVariants.{WorkflowExecutionSignaled}
-use Rattle.ndc_model_cells.specs.Cells.{both}
+use Rattle.ndc_model_cells.specs.Cells.{Cell, both}
 use Rattle.ndc_model_cells.specs.Messages.{IsNewTo}
 use Rattle.ndc_model_cells.specs.Writing.{is_writer}
 use Rattle.ndc_model_cells.specs.declared.message.Message.{Message}
@@ -22,6 +22,17 @@ pub record TermsValue : Type 0 where
   pub me : ClusterNo
   pub recall : Bool
   pub may_wait : Bool
+
+-- the clusters, which of them the cell is of, whether it asks for what it lost, and how many messages may wait in it
+pub record CellTermsValue : Type 0 where
+  pub clusters : ClusterList
+  pub me : ClusterNo
+  pub recall : Bool
+  pub most_waiting : ℕ
+
+-- the terms in a cell: one more message may wait while fewer do
+abbrev pub terms_in : CellTermsValue → Cell → TermsValue
+terms_in terms cell = record { clusters = terms.clusters; me = terms.me; recall = terms.recall; may_wait = nat_lt (length cell.waiting) terms.most_waiting }
 
 -- whether the cell's own cluster writes with a version
 abbrev pub is_own : TermsValue → ℕ → Bool

@@ -60,7 +60,7 @@ answer_to sent w = if has_arrived sent.batch.key w then Known else arrival_in se
 unfoldable pub made_learned : Message → WorkflowValue → List Batch
 made_learned sent w = if has_arrived sent.batch.key w then [] else learned_with sent w
 
--- the workflow behind the arrival of a message: a known one changes nothing
+-- the workflow after the arrival of a message: a known one changes nothing
 unfoldable pub after_arrival : Message → WorkflowValue → WorkflowValue
 after_arrival sent w = if has_arrived sent.batch.key w then w else workflow_with sent w
 

@@ -67,14 +67,14 @@ AreDomains domains = HoldUnder AreOwn domains
 abbrev pub OthersStay : Batch → Cell → Cell → Type 0
 OthersStay b before after = (domain workflow : Name) → is_of domain workflow b ≡ false → workflow_of domain workflow after ≡ workflow_of domain workflow before
 
--- a message of which nobody vouches was handed to its workflow in a cell on these terms: this came of it there, what is learned of the workflow came
+-- a message that nobody vouches for was handed to its workflow in a cell on these terms: this came of it there, what is learned of the workflow came
 -- from what was learned by messages that arrived, and each other workflow is as it was
 pub record IsHandedTo (terms : TermsValue) (sent : Message) (told : Admission) (before after : Cell) : Type 0 where
   pub own : IsAdmitted terms sent told (workflow_of sent.batch.domain sent.batch.workflow before) (workflow_of sent.batch.domain sent.batch.workflow after)
   pub grows : ComesFrom (learned_of sent.batch.domain sent.batch.workflow before) (learned_of sent.batch.domain sent.batch.workflow after)
   pub others : OthersStay sent.batch before after
 
--- what comes of a message that is handed to a cell: it is none that cells send, and nothing changes, or it is handed to its workflow
+-- what comes of a message that is handed to a cell: it is not one that cells send, and nothing changes, or it is handed to its workflow
 abbrev pub IsAdmittedTo : TermsValue → Message → Admission → Cell → Cell → Type 0
 IsAdmittedTo terms sent (admission.Refused (refused.Fault fault)) before after = (first_fault sent terms.clusters ≡ Some fault) × (after ≡ before)
 IsAdmittedTo terms sent told before after = (first_fault sent terms.clusters ≡ None) × IsHandedTo terms sent told before after

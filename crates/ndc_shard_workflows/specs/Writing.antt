@@ -12,7 +12,7 @@ use Rattle.ndc_shard_waiting.specs.Learning.{with_message}
 use Rattle.ndc_model_cells.specs.Messages.{waits_for, IsMessage, IsNewTo, HasSmallIds}
 use Rattle.ndc_model_cells.specs.Workflow.{WorkflowValue}
 
--- batches that are written together: the first points back, and the other one, where there is one, goes right behind it
+-- batches that are written together: the first points back, and the other one, where there is one, goes right after it
 pub record GoTogether (new : Message) : Type 0 where
   pub back : PointsBack new.batch
   pub second : IfSome new.second (GoesBehind new.batch)
@@ -23,7 +23,7 @@ pub record IsMadeTogether (new : Message) : Type 0 where
   pub own : IfSome new.second (λ second. is_of new.batch.domain new.batch.workflow second ≡ true)
   pub small : AllByRecursion HasSmallIds (both new)
 
--- a batch, and the one of its workflow that goes right behind it, may be written together: the first points back to a learned one or has no
+-- a batch, and the one of its workflow that goes right after it, may be written together: the first points back to a learned one or has no
 -- earlier key, neither of the two has arrived, no message waits for either, what is learned with them is sound, and event ids are small
 pub record MayBeWrittenTogether (new : Message) (w : WorkflowValue) : Type 0 where
   pub together : GoTogether new

@@ -8,7 +8,7 @@ use std::alloc::{AllocError, AllocFailed};
 use std::marker::Model;
 use thiserror::Error;
 
-/// On what terms a cell takes messages of which nobody vouches.
+/// On what terms a workflow takes messages that nobody vouches for.
 #[derive(Drop)]
 pub struct Terms<'a> {
     /// All clusters.
@@ -26,13 +26,65 @@ impl<'a> Model for Terms<'a> {
 
     ghost Value = { TermsValue };
 
-    ghost view = { λ terms. record { clusters = terms.clusters.now; me = terms.me; recall = terms.recall; may_wait = terms.may_wait } };
+    ghost view = { λ terms. record {
+      clusters = terms.clusters.now;
+      me = terms.me;
+      recall = terms.recall;
+      may_wait = terms.may_wait;
+    } };
+}
+
+/// On what terms a whole cell takes messages that nobody vouches for.
+#[derive(Drop)]
+pub struct CellTerms<'a> {
+    /// All clusters.
+    pub clusters: &'a Clusters,
+    /// Which of them the cell is of.
+    pub me: ClusterNo,
+    /// Whether the cell asks for what it lost: then batches of its own versions may come that it has not learned.
+    pub recall: bool,
+    /// How many messages may wait in the cell, in all workflows together.
+    pub most_waiting: u64,
+}
+
+impl<'a> Model for CellTerms<'a> {
+    ghost use Rattle.ndc_shard_workflows.specs.Terms.{CellTermsValue};
+
+    ghost Value = { CellTermsValue };
+
+    ghost view = { λ terms. record {
+      clusters = terms.clusters.now;
+      me = terms.me;
+      recall = terms.recall;
+      most_waiting = terms.most_waiting;
+    } };
+}
+
+impl<'a> CellTerms<'a> {
+    ghost use Rattle.std.specs.Prelude.{◌≡◌, nat_lt};
+
+    /// The terms for one workflow, where so many messages wait in the cell.
+    pub(crate) fn where_wait(&self, waiting: u64) -> Terms<'a>
+        ensures { result ≡ record {
+          clusters = self.now.clusters;
+          me = self.now.me;
+          recall = self.now.recall;
+          may_wait = nat_lt waiting self.now.most_waiting;
+        } }
+    {
+        Terms {
+            clusters: self.clusters,
+            me: self.me,
+            recall: self.recall,
+            may_wait: waiting < self.most_waiting,
+        }
+    }
 }
 
 /// Why a message is not admitted: the first of these that holds.
 #[derive(Clone, Copy, Debug, PartialEq, Eq, Error)]
 pub enum NotAdmitted {
-    /// It is none that cells of these clusters send, whatever is learned here.
+    /// It is not one that cells of these clusters send, whatever is learned here.
     #[error("{0}")]
     Fault(MessageFault),
     /// The cell's own cluster writes with the version of its batch, which is not learned here.
@@ -48,8 +100,8 @@ pub enum NotAdmitted {
         /// Whether that one is put off.
         waits: bool,
     },
-    /// Its version history does not end with its batch.
-    #[error("the version history does not end with the batch")]
+    /// Its version history does not end with its batch, or its earlier key is learned, and it is not that of its path.
+    #[error("the version history is not that of the batch's path")]
     History,
     /// Its earlier key is learned, and it does not fit what is learned.
     #[error("{0}")]
@@ -86,11 +138,11 @@ pub enum NotWritten {
 #[derive(Drop)]
 pub struct SetAside {
     pub message: Message,
-    /// Why it does not fit.
-    pub misfit: Misfit,
+    /// Why it does not fit: [`NotAdmitted::History`] or [`NotAdmitted::Misfit`].
+    pub cause: NotAdmitted,
 }
 
-/// What comes of a message of which nobody vouches.
+/// What comes of a message that nobody vouches for.
 #[derive(Drop)]
 pub enum Admission {
     /// It is not admitted. Nothing changed.
@@ -142,6 +194,18 @@ impl<T: Drop> From<AllocFailed<T>> for AdmitError {
 
     fn from(_failed: AllocFailed<T>) -> AdmitError {
         AdmitError::Memory
+    }
+}
+
+impl From<AllocError> for NotAdmitted {
+    ghost use Rattle.std.specs.Prelude.{◌≡◌};
+    ghost use Rattle.ndc_shard_runs.specs.declared.misfit.Misfit.TheVariants.{Memory};
+    ghost use Rattle.ndc_shard_workflows.specs.declared.admission.NotAdmitted.TheVariants as refused;
+
+    ghost from_gives = { λ _ e. e ≡ refused.Misfit Memory };
+
+    fn from(_error: AllocError) -> NotAdmitted {
+        NotAdmitted::Misfit(Misfit::Memory)
     }
 }
 

@@ -27,7 +27,7 @@ pub(crate) struct Received {
     pub(crate) is_behind: bool,
 }
 
-/// What comes of a message of which nobody vouches, and how its workflow stands then.
+/// What comes of a message that nobody vouches for, and how its workflow stands then.
 #[derive(Drop)]
 pub(crate) struct Admitted {
     pub(crate) admission: Admission,
@@ -92,7 +92,8 @@ impl Arrival {
 
     /// The batches of these messages are learned.
     pub(crate) fn learned(alloc: Global, messages: Vec<Message>) -> Result<Arrival, OutOfMemory>
-        ensures outcome { IfOk result (λ arrival. arrival.outcome ≡ Learned (map (λ b. b.key) (batches_of messages.items))) }
+        ensures outcome { IfOk result (λ arrival.
+            arrival.outcome ≡ Learned (map (λ b. b.key) (batches_of messages.items))) }
         ensures learned { IfOk result (λ arrival. arrival.learned ≡ batches_of messages.items) }
     {
         let batches = batches_in(alloc, messages)?;

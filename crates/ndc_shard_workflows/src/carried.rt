@@ -51,7 +51,9 @@ impl Carried {
         workflow: &Workflow,
         batches: &[&Batch],
     ) -> Result<(), OutOfMemory>
-        ensures { OnOk result ((one : Key) → noted_at one self.new ≡ least_of (is_under workflow.now.arrived one) (map (λ b. b.now) batches.now) (noted_at one self.old)) }
+        ensures { OnOk result ((one : Key) → noted_at one self.new
+            ≡ least_of (is_under workflow.now.arrived one) (map (λ b. b.now) batches.now)
+            (noted_at one self.old)) }
     {
         for batch in batches {
             self.note(workflow, batch)?;
@@ -61,7 +63,8 @@ impl Carried {
 
     /// Goes over one more batch.
     fn note(&mut self, workflow: &Workflow, batch: &Batch) -> Result<(), OutOfMemory>
-        ensures { OnOk result ((one : Key) → noted_at one self.new ≡ least_with (is_under workflow.now.arrived one) batch.now (noted_at one self.old)) }
+        ensures { OnOk result ((one : Key) → noted_at one self.new
+            ≡ least_with (is_under workflow.now.arrived one) batch.now (noted_at one self.old)) }
     {
         let Some(carrier) = carrier_of(workflow, batch) else {
             return Ok(());

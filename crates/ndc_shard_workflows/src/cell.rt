@@ -17,7 +17,9 @@ pub fn message_there(
     workflow: &Name,
     key: BatchKey,
 ) -> Result<Option<Message>, OutOfMemory>
-    ensures { IfOk result (λ message. message ≡ message_at_place workflows.now (record { domain = domain.now; workflow = workflow.now; key = key })) }
+    ensures { IfOk result (λ message.
+        message ≡ message_at_place workflows.now
+        (record { domain = domain.now; workflow = workflow.now; key = key })) }
 {
     match workflows.find(domain, workflow) {
         None => Ok(None),

@@ -10,6 +10,7 @@ ghost use Rattle.ndc_shard_runs.specs.Kept.{is_due, StaysSettled};
 ghost use Rattle.ndc_shard_workflows.specs.Admitting.{IsAdmitted, IsLeftBy};
 ghost use Rattle.ndc_shard_workflows.specs.Arriving.{ComesFrom};
 ghost use Rattle.ndc_shard_workflows.specs.Due.{is_listed};
+ghost use Rattle.ndc_shard_workflows.specs.Lacking.{one_lacks_own};
 ghost use Rattle.ndc_shard_workflows.specs.Listed.{IsListedBefore};
 ghost use Rattle.ndc_shard_workflows.specs.Reading.{learned_in_domain, named_where_learned};
 ghost use Rattle.ndc_shard_workflows.specs.Refused.{IsNotWritten};
@@ -55,7 +56,8 @@ fn add_where_learned(
     workflow: &Workflow,
     list: &mut Vec<(Name, Name)>,
 ) -> Result<(), OutOfMemory>
-    ensures { OnOk result (list.new.items ≡ list.old.items ++ named_where_learned domain.now name.now workflow.now) }
+    ensures { OnOk result (list.new.items
+        ≡ list.old.items ++ named_where_learned domain.now name.now workflow.now) }
 {
     if workflow.runs().is_empty() {
         return Ok(());
@@ -70,7 +72,8 @@ fn add_learned(
     workflows: &BTreeMap<Name, Workflow>,
     list: &mut Vec<(Name, Name)>,
 ) -> Result<(), OutOfMemory>
-    ensures { OnOk result (list.new.items ≡ list.old.items ++ learned_in_domain domain.now workflows.now.entries) }
+    ensures { OnOk result (list.new.items
+        ≡ list.old.items ++ learned_in_domain domain.now workflows.now.entries) }
 {
     for (name, workflow) in workflows.iter() {
         add_where_learned(domain, name, workflow, list)?;
@@ -86,13 +89,19 @@ fn receive<L>(
     steps: &mut Steps<L>,
 ) -> Result<Received, OutOfMemory>
     requires message { IsMessage message }
-    requires new { has_arrived message.batch.key workflow.old ≡ false → IsNewTo workflow.old.arrived message }
+    requires new { has_arrived message.batch.key workflow.old ≡ false
+        → IsNewTo workflow.old.arrived message }
     requires sound { IsSound (learned (after_arrival message workflow.old).arrived) }
     requires ids { AllByRecursion HasSmallIds (both message) }
-    ensures outcome { IfOk result (λ received. received.arrival.outcome ≡ answer_to message workflow.old) }
-    ensures learned { IfOk result (λ received. received.arrival.learned ≡ made_learned message workflow.old) }
-    ensures due { IfOk result (λ received. received.may_be_due ≡ false → is_due (learned (after_arrival message workflow.old).arrived) ≡ false) }
-    ensures behind { IfOk result (λ received. received.is_behind ≡ false → (after_arrival message workflow.old).waiting ≡ []) }
+    ensures outcome { IfOk result (λ received.
+        received.arrival.outcome ≡ answer_to message workflow.old) }
+    ensures learned { IfOk result (λ received.
+        received.arrival.learned ≡ made_learned message workflow.old) }
+    ensures due { IfOk result (λ received.
+        received.may_be_due ≡ false → is_due (learned (after_arrival message workflow.old).arrived)
+        ≡ false) }
+    ensures behind { IfOk result (λ received.
+        received.is_behind ≡ false → (after_arrival message workflow.old).waiting ≡ []) }
     ensures ok { OnOk result (workflow.new ≡ after_arrival message workflow.old) }
     ensures err { OnErr result (workflow.new ≡ empty_workflow) }
 {
@@ -104,7 +113,8 @@ fn receive<L>(
     })
 }
 
-/// A message of which nobody vouches is handed to its workflow. After want of memory the workflow is as it was, or empty.
+/// A message that nobody vouches for is handed to its workflow. After want of memory the workflow is as it was, or
+/// empty.
 fn take<L>(
     workflow: &mut Workflow,
     alloc: Global,
@@ -114,12 +124,15 @@ fn take<L>(
 ) -> Result<Admitted, AdmitError>
     requires message { IsMessage message }
     requires ids { AllByRecursion HasSmallIds (both message) }
-    ensures admitted { IfOk result (λ it. IsAdmitted terms.now message it.admission workflow.old workflow.new) }
-    ensures due { IfOk result (λ it. it.may_be_due ≡ false → is_due (learned workflow.new.arrived) ≡ false) }
+    ensures admitted { IfOk result (λ it.
+        IsAdmitted terms.now message it.admission workflow.old workflow.new) }
+    ensures due { IfOk result (λ it.
+        it.may_be_due ≡ false → is_due (learned workflow.new.arrived) ≡ false) }
     ensures behind { IfOk result (λ it. it.is_behind ≡ false → workflow.new.waiting ≡ []) }
     ensures sound { OnOk result (IsSound (learned workflow.new.arrived)) }
     ensures workflow { OnOk result (IsWorkflow workflow.new) }
-    ensures comes { OnOk result (ComesFrom (learned workflow.old.arrived) (learned workflow.new.arrived)) }
+    ensures comes { OnOk result
+        (ComesFrom (learned workflow.old.arrived) (learned workflow.new.arrived)) }
     ensures err { IfErr result (λ error. IsLeftBy error workflow.old workflow.new) }
 {
     let admission = workflow.admit(alloc, terms, message, steps)?;
@@ -130,9 +143,9 @@ fn take<L>(
     })
 }
 
-/// Learns a batch that is written in this cell, and the one that goes right behind it, in their workflow, which is listed before,
-/// unless the batch leaves no stray. Where the caller does not vouch for them they are tried. After an error nothing changes
-/// but for what is listed.
+/// Learns a batch that is written in this cell, and the one that goes right after it, in their workflow, which is
+/// listed before, unless the batch leaves no stray. Where the caller does not vouch for them they are tried. After an
+/// error nothing changes but for what is listed.
 fn write_to<L>(
     workflow: &mut Workflow,
     alloc: Global,
@@ -142,13 +155,20 @@ fn write_to<L>(
     due: &mut DueListing,
     steps: &mut Steps<L>,
 ) -> Result<(), NotWritten>
-    requires may { vouched ≡ true → MayBeWrittenTogether (carrying batch.now (option_copied second)) workflow.old }
+    requires may { vouched ≡ true
+        → MayBeWrittenTogether (carrying batch.now (option_copied second)) workflow.old }
     requires made { IsMadeTogether (carrying batch.now (option_copied second)) }
-    ensures ok { OnOk result (workflow.new ≡ with_written (carrying batch.now (option_copied second.entry)) workflow.old) }
-    ensures may { OnOk result (MayBeWrittenTogether (carrying batch.now (option_copied second.entry)) workflow.old) }
-    ensures refused { IfErr result (λ cause. IsNotWritten cause (carrying batch.now (option_copied second.entry)) workflow.old) }
+    ensures ok { OnOk result
+        (workflow.new ≡ with_written
+        (carrying batch.now (option_copied second.entry)) workflow.old) }
+    ensures may { OnOk result
+        (MayBeWrittenTogether (carrying batch.now (option_copied second.entry)) workflow.old) }
+    ensures refused { IfErr result (λ cause.
+        IsNotWritten cause (carrying batch.now (option_copied second.entry)) workflow.old) }
     ensures err { OnErr result (workflow.new ≡ workflow.old) }
-    ensures listed { OnOk result (IsListedBefore batch.now (option_copied second.entry) (learned workflow.old.arrived) due.old due.new) }
+    ensures listed { OnOk result
+        (IsListedBefore batch.now (option_copied second.entry)
+        (learned workflow.old.arrived) due.old due.new) }
     ensures kept { (d w : Text) → is_listed d w due.new ≡ false → is_listed d w due.old ≡ false }
 {
     list_before(workflow, due, batch, second)?;
@@ -166,7 +186,9 @@ fn list_before(
     batch: &Batch,
     second: Option<&Batch>,
 ) -> Result<(), OutOfMemory>
-    ensures ok { OnOk result (IsListedBefore batch.now (option_copied second.entry) (learned workflow.now.arrived) due.old due.new) }
+    ensures ok { OnOk result
+        (IsListedBefore batch.now (option_copied second.entry)
+        (learned workflow.now.arrived) due.old due.new) }
     ensures err { OnErr result (due.new ≡ due.old) }
 {
     if stays_settled(workflow, batch, second) {
@@ -186,6 +208,22 @@ fn stays_settled(workflow: &Workflow, batch: &Batch, second: Option<&Batch>) -> 
     workflow.runs().stays_settled(batch)
 }
 
+/// Whether one of these workflows tells of a batch of the cell's own cluster that is not learned, on these terms.
+fn lacks_own_in(
+    alloc: Global,
+    terms: &Terms,
+    workflows: &BTreeMap<Name, Workflow>,
+) -> Result<bool, OutOfMemory>
+    ensures { IfOk result (λ lacks. lacks ≡ one_lacks_own terms.now workflows.now.entries) }
+{
+    for (_, workflow) in workflows.iter() {
+        if workflow.lacks_own(alloc, terms)? {
+            return Ok(true);
+        }
+    }
+    Ok(false)
+}
+
 impl Domain {
     ghost use Rattle.std.specs.Prelude.{◌≡◌, ◌++◌, [], map, true, false, Err, IfOk, IfErr, IfSome, OnOk, OnErr};
     ghost use Rattle.std.specs.List.{AllByRecursion};
@@ -203,6 +241,7 @@ impl Domain {
     ghost use Rattle.ndc_shard_workflows.specs.Admitting.{IsAdmitted};
     ghost use Rattle.ndc_shard_workflows.specs.Arriving.{ComesFrom};
     ghost use Rattle.ndc_shard_workflows.specs.Due.{is_listed};
+    ghost use Rattle.ndc_shard_workflows.specs.Lacking.{one_lacks_own};
     ghost use Rattle.ndc_shard_workflows.specs.Listed.{IsListedBefore};
     ghost use Rattle.ndc_shard_workflows.specs.Named.{under, IsPut, StayUnder};
     ghost use Rattle.ndc_shard_workflows.specs.declared.admission.AdmitError.TheVariants.{Memory};
@@ -248,14 +287,23 @@ impl Domain {
         domain: &Name,
         list: &mut Vec<(Name, Name)>,
     ) -> Result<(), OutOfMemory>
-        ensures { OnOk result (list.new.items ≡ list.old.items ++ learned_in_domain domain.now self.now) }
+        ensures { OnOk result (list.new.items
+            ≡ list.old.items ++ learned_in_domain domain.now self.now) }
     {
         add_learned(domain, &self.workflows, list)
     }
 
+    /// Whether one of the workflows tells of a batch of the cell's own cluster that is not learned ([`Workflow::lacks_own`]).
+    pub(crate) fn lacks_own(&self, alloc: Global, terms: &Terms) -> Result<bool, OutOfMemory>
+        ensures { IfOk result (λ lacks. lacks ≡ one_lacks_own terms.now self.now) }
+    {
+        lacks_own_in(alloc, terms, &self.workflows)
+    }
+
     /// Whether reapplication is due in the workflow of this name, as [`Workflow::is_due`] finds it.
     pub(crate) fn is_due(&mut self, alloc: Global, workflow: &Name) -> Result<bool, OutOfMemory>
-        ensures due { IfOk result (λ due. due ≡ is_due (learned (workflow_or_empty (under workflow.now self.old)).arrived)) }
+        ensures due { IfOk result (λ due.
+            due ≡ is_due (learned (workflow_or_empty (under workflow.now self.old)).arrived)) }
         ensures same { self.new ≡ self.old }
     {
         if let Some(found) = self.workflows.get_mut(workflow) {
@@ -273,16 +321,33 @@ impl Domain {
     ) -> Result<Received, OutOfMemory>
         requires own { AreOwn message.batch.domain self.old }
         requires message { IsMessage message }
-        requires second { IfSome message.second (λ b. is_of message.batch.domain message.batch.workflow b ≡ true) }
-        requires new { has_arrived message.batch.key (workflow_or_empty (under message.batch.workflow self.old)) ≡ false
+        requires second { IfSome message.second (λ b.
+            is_of message.batch.domain message.batch.workflow b ≡ true) }
+        requires new { has_arrived message.batch.key
+            (workflow_or_empty (under message.batch.workflow self.old)) ≡ false
             → IsNewTo (workflow_or_empty (under message.batch.workflow self.old)).arrived message }
-        requires sound { IsSound (learned (after_arrival message (workflow_or_empty (under message.batch.workflow self.old))).arrived) }
+        requires sound { IsSound
+            (learned (after_arrival message
+            (workflow_or_empty (under message.batch.workflow self.old))).arrived) }
         requires ids { AllByRecursion HasSmallIds (both message) }
-        ensures outcome { IfOk result (λ received. received.arrival.outcome ≡ answer_to message (workflow_or_empty (under message.batch.workflow self.old))) }
-        ensures learned { IfOk result (λ received. received.arrival.learned ≡ made_learned message (workflow_or_empty (under message.batch.workflow self.old))) }
-        ensures due { IfOk result (λ received. received.may_be_due ≡ false → is_due (learned (after_arrival message (workflow_or_empty (under message.batch.workflow self.old))).arrived) ≡ false) }
-        ensures behind { IfOk result (λ received. received.is_behind ≡ false → (after_arrival message (workflow_or_empty (under message.batch.workflow self.old))).waiting ≡ []) }
-        ensures ok { OnOk result (IsPut message.batch.workflow (after_arrival message (workflow_or_empty (under message.batch.workflow self.old))) self.old self.new) }
+        ensures outcome { IfOk result (λ received.
+            received.arrival.outcome
+            ≡ answer_to message (workflow_or_empty (under message.batch.workflow self.old))) }
+        ensures learned { IfOk result (λ received.
+            received.arrival.learned
+            ≡ made_learned message (workflow_or_empty (under message.batch.workflow self.old))) }
+        ensures due { IfOk result (λ received.
+            received.may_be_due ≡ false
+            → is_due (learned (after_arrival message
+            (workflow_or_empty (under message.batch.workflow self.old))).arrived) ≡ false) }
+        ensures behind { IfOk result (λ received.
+            received.is_behind ≡ false
+            → (after_arrival message
+            (workflow_or_empty (under message.batch.workflow self.old))).waiting ≡ []) }
+        ensures ok { OnOk result
+            (IsPut message.batch.workflow
+            (after_arrival message (workflow_or_empty (under message.batch.workflow self.old)))
+            self.old self.new) }
         ensures own { AreOwn message.batch.domain self.new }
     {
         if let Some(workflow) = self.workflows.get_mut(&message.batch.workflow) {
@@ -295,8 +360,9 @@ impl Domain {
         Ok(received)
     }
 
-    /// A message of the domain of which nobody vouches is handed to its workflow. A workflow of which nothing has arrived then
-    /// leaves no trace. For want of memory nothing changes, or nothing is said of the workflow ([`AdmitError::Spent`]).
+    /// A message of the domain that nobody vouches for is handed to its workflow. A workflow of which nothing has
+    /// arrived then leaves no trace. For want of memory nothing changes, or nothing is said of the workflow
+    /// ([`AdmitError::Spent`]).
     pub(crate) fn admit<L>(
         &mut self,
         alloc: Global,
@@ -306,13 +372,20 @@ impl Domain {
     ) -> Result<Admitted, AdmitError>
         requires own { AreOwn message.batch.domain self.old }
         requires message { IsMessage message }
-        requires second { IfSome message.second (λ b. is_of message.batch.domain message.batch.workflow b ≡ true) }
+        requires second { IfSome message.second (λ b.
+            is_of message.batch.domain message.batch.workflow b ≡ true) }
         requires ids { AllByRecursion HasSmallIds (both message) }
         ensures admitted { IfOk result (λ it. IsAdmitted terms.now message it.admission
-            (workflow_or_empty (under message.batch.workflow self.old)) (workflow_or_empty (under message.batch.workflow self.new))) }
-        ensures due { IfOk result (λ it. it.may_be_due ≡ false → is_due (learned (workflow_or_empty (under message.batch.workflow self.new)).arrived) ≡ false) }
-        ensures behind { IfOk result (λ it. it.is_behind ≡ false → (workflow_or_empty (under message.batch.workflow self.new)).waiting ≡ []) }
-        ensures comes { OnOk result (ComesFrom (learned (workflow_or_empty (under message.batch.workflow self.old)).arrived)
+            (workflow_or_empty (under message.batch.workflow self.old)) (workflow_or_empty
+            (under message.batch.workflow self.new))) }
+        ensures due { IfOk result (λ it.
+            it.may_be_due ≡ false → is_due
+            (learned (workflow_or_empty (under message.batch.workflow self.new)).arrived) ≡ false) }
+        ensures behind { IfOk result (λ it.
+            it.is_behind ≡ false → (workflow_or_empty
+            (under message.batch.workflow self.new)).waiting ≡ []) }
+        ensures comes { OnOk result
+            (ComesFrom (learned (workflow_or_empty (under message.batch.workflow self.old)).arrived)
             (learned (workflow_or_empty (under message.batch.workflow self.new)).arrived)) }
         ensures others { StayUnder message.batch.workflow self.old self.new }
         ensures own { AreOwn message.batch.domain self.new }
@@ -338,8 +411,10 @@ impl Domain {
         workflow: &Name,
         key: BatchKey,
     ) -> Result<bool, OutOfMemory>
-        ensures dropped { IfOk result (λ dropped. dropped ≡ is_put_off key (workflow_or_empty (under workflow.now self.old))) }
-        ensures forgotten { OnOk result (workflow_or_empty (under workflow.now self.new) ≡ without key (workflow_or_empty (under workflow.now self.old))) }
+        ensures dropped { IfOk result (λ dropped.
+            dropped ≡ is_put_off key (workflow_or_empty (under workflow.now self.old))) }
+        ensures forgotten { OnOk result (workflow_or_empty (under workflow.now self.new)
+            ≡ without key (workflow_or_empty (under workflow.now self.old))) }
         ensures others { StayUnder workflow.now self.old self.new }
         ensures own { (domain : Text) → AreOwn domain self.old → AreOwn domain self.new }
         ensures err { OnErr result (self.new ≡ self.old) }
@@ -350,9 +425,9 @@ impl Domain {
         Ok(false)
     }
 
-    /// Learns a batch of the domain that is written in this cell, and the one that goes right behind it, in a workflow that is
-    /// listed before, unless the batch leaves no stray. Where the caller does not vouch for them they are tried. After an
-    /// error nothing changes but for what is listed.
+    /// Learns a batch of the domain that is written in this cell, and the one that goes right after it, in a workflow
+    /// that is listed before, unless the batch leaves no stray. Where the caller does not vouch for them they are
+    /// tried. After an error nothing changes but for what is listed.
     pub(crate) fn write<L>(
         &mut self,
         alloc: Global,
@@ -363,15 +438,28 @@ impl Domain {
         steps: &mut Steps<L>,
     ) -> Result<(), NotWritten>
         requires own { AreOwn batch.now.domain self.old }
-        requires may { vouched ≡ true → MayBeWrittenTogether (carrying batch.now (option_copied second)) (workflow_or_empty (under batch.now.workflow self.old)) }
+        requires may { vouched ≡ true
+            → MayBeWrittenTogether (carrying batch.now (option_copied second))
+            (workflow_or_empty (under batch.now.workflow self.old)) }
         requires made { IsMadeTogether (carrying batch.now (option_copied second)) }
-        ensures ok { OnOk result (IsPut batch.now.workflow (with_written (carrying batch.now (option_copied second.entry)) (workflow_or_empty (under batch.now.workflow self.old))) self.old self.new) }
-        ensures may { OnOk result (MayBeWrittenTogether (carrying batch.now (option_copied second.entry)) (workflow_or_empty (under batch.now.workflow self.old))) }
-        ensures refused { IfErr result (λ cause. IsNotWritten cause (carrying batch.now (option_copied second.entry)) (workflow_or_empty (under batch.now.workflow self.old))) }
+        ensures ok { OnOk result
+            (IsPut batch.now.workflow
+            (with_written (carrying batch.now (option_copied second.entry))
+            (workflow_or_empty (under batch.now.workflow self.old))) self.old self.new) }
+        ensures may { OnOk result
+            (MayBeWrittenTogether (carrying batch.now (option_copied second.entry))
+            (workflow_or_empty (under batch.now.workflow self.old))) }
+        ensures refused { IfErr result (λ cause.
+            IsNotWritten cause (carrying batch.now (option_copied second.entry))
+            (workflow_or_empty (under batch.now.workflow self.old))) }
         ensures own { AreOwn batch.now.domain self.new }
         ensures err { OnErr result (self.new ≡ self.old) }
-        ensures listed { OnOk result (IsListedBefore batch.now (option_copied second.entry) (learned (workflow_or_empty (under batch.now.workflow self.old)).arrived) due.old due.new) }
-        ensures kept { (d w : Text) → is_listed d w due.new ≡ false → is_listed d w due.old ≡ false }
+        ensures listed { OnOk result
+            (IsListedBefore batch.now (option_copied second.entry)
+            (learned (workflow_or_empty (under batch.now.workflow self.old)).arrived) due.old
+            due.new) }
+        ensures kept { (d w : Text) → is_listed d w due.new ≡ false → is_listed d w due.old
+            ≡ false }
     {
         if let Some(workflow) = self.workflows.get_mut(&batch.workflow) {
             return write_to(workflow, alloc, vouched, batch, second, due, steps);

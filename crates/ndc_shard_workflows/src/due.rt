@@ -75,7 +75,9 @@ impl DueListing {
 
     /// Puts a workflow to its place, where it is not there.
     pub(crate) fn put(&mut self, domain: &Name, workflow: &Name) -> Result<(), OutOfMemory>
-        ensures ok { OnOk result ((d w : Text) → is_listed d w self.new ≡ (is_named d w (domain.now, workflow.now) || is_listed d w self.old)) }
+        ensures ok { OnOk result
+            ((d w : Text) → is_listed d w self.new
+            ≡ (is_named d w (domain.now, workflow.now) || is_listed d w self.old)) }
         ensures err { OnErr result (self.new ≡ self.old) }
     {
         if let Some(listing) = self.domains.get_mut(domain) {
@@ -90,7 +92,9 @@ impl DueListing {
 
     /// Takes a workflow out, where it is there. A domain of which none is left goes with it.
     pub(crate) fn take(&mut self, domain: &Name, workflow: &Name) -> Result<(), OutOfMemory>
-        ensures ok { OnOk result ((d w : Text) → is_listed d w self.new ≡ (not (is_named d w (domain.now, workflow.now)) && is_listed d w self.old)) }
+        ensures ok { OnOk result
+            ((d w : Text) → is_listed d w self.new
+            ≡ (not (is_named d w (domain.now, workflow.now)) && is_listed d w self.old)) }
         ensures err { OnErr result (self.new ≡ self.old) }
     {
         let Some(listing) = self.domains.get_mut(domain) else {
@@ -107,7 +111,9 @@ impl DueListing {
     /// The domains of the workflows, in order. In time of these domains, however many workflows they have.
     pub(crate) fn domains(&self, alloc: Global) -> Result<Vec<Name>, OutOfMemory>
         ensures ordered { IfOk result (λ names. IsStrictlySortedBy names_cmp names.items) }
-        ensures each { IfOk result (λ names. (d w : Text) → list_any (bytes_eq d) names.items ≡ false → is_listed d w self.now ≡ false) }
+        ensures each { IfOk result (λ names.
+            (d w : Text) → list_any (bytes_eq d) names.items ≡ false → is_listed d w self.now
+            ≡ false) }
     {
         names_of(alloc, &self.domains)
     }

@@ -32,8 +32,11 @@ fn keep(
     batch: &Batch,
     key: BatchKey,
 ) -> Result<(), OutOfMemory>
-    requires { IfSome (message_with batch.now.key waiting.now) (λ sent. key_eq sent.batch.key batch.now.key ≡ true → CanWait sent × IsNewTo (batches_of kept.old) sent) }
-    ensures { OnOk result (kept.new ≡ kept_with key (message_with batch.now.key waiting.now) batch.now kept.old) }
+    requires { IfSome (message_with batch.now.key waiting.now) (λ sent.
+        key_eq sent.batch.key batch.now.key ≡ true → CanWait sent
+        × IsNewTo (batches_of kept.old) sent) }
+    ensures { OnOk result (kept.new
+        ≡ kept_with key (message_with batch.now.key waiting.now) batch.now kept.old) }
 {
     let Some(sent) = waiting.message(batch.key) else {
         return Ok(());

@@ -51,9 +51,12 @@ pub(crate) fn learn<L>(
     steps: &mut Steps<L>,
 ) -> Result<(), OutOfMemory>
     requires { CanBothBeLearned runs.old batch.now (option_copied second) }
-    ensures ok { OnOk result (runs.new ≡ arrived_second (option_copied second.entry) (arrived batch.now runs.old)) }
+    ensures ok { OnOk result
+        (runs.new ≡ arrived_second (option_copied second.entry) (arrived batch.now runs.old)) }
     ensures err { OnErr result (runs.new ≡ runs.old) }
-    ensures steps { OnOk result (batch.now.parent ≡ current_key batch.now.run runs.old → steps.new ≡ counted (counted_for (option_copied second.entry) steps.old) (length batch.now.events)) }
+    ensures steps { OnOk result (batch.now.parent ≡ current_key batch.now.run runs.old
+        → steps.new ≡ counted (counted_for (option_copied second.entry) steps.old)
+        (length batch.now.events)) }
 {
     match second {
         None => runs.learn(alloc, batch, steps),
@@ -92,8 +95,10 @@ fn learn_freed<L>(
     requires learnable { CanBeLearned runs.old (freed message waiting.old) }
     ensures runs { OnOk result (runs.new ≡ with_messages (freed message waiting.old) runs.old) }
     ensures waiting { OnOk result (waiting.new ≡ still_put_off message waiting.old) }
-    ensures outcome { IfOk result (λ arrival. arrival.outcome ≡ Learned (map (λ b. b.key) (batches_of (freed message waiting.old)))) }
-    ensures learned { IfOk result (λ arrival. arrival.learned ≡ batches_of (freed message waiting.old)) }
+    ensures outcome { IfOk result (λ arrival.
+        arrival.outcome ≡ Learned (map (λ b. b.key) (batches_of (freed message waiting.old)))) }
+    ensures learned { IfOk result (λ arrival.
+        arrival.learned ≡ batches_of (freed message waiting.old)) }
 {
     let freed = waiting.free(alloc, message)?;
     learn_all(runs, alloc, freed.as_slice(), steps)?;
@@ -105,7 +110,10 @@ fn put_off(waiting: &mut Waiting, alloc: Global, message: Message) -> Result<Arr
     requires waits { CanWait message }
     requires new { IsNewTo (batches_of waiting.old) message }
     ensures waiting { OnOk result (waiting.new ≡ put_off message waiting.old) }
-    ensures outcome { IfOk result (λ arrival. arrival.outcome ≡ PutOff (unwrap_or (missing_from (Some message.batch.key) (batches_of (put_off message waiting.old))) message.batch.key)) }
+    ensures outcome { IfOk result (λ arrival.
+        arrival.outcome ≡ PutOff
+        (unwrap_or (missing_from (Some message.batch.key)
+        (batches_of (put_off message waiting.old))) message.batch.key)) }
     ensures learned { IfOk result (λ arrival. arrival.learned ≡ []) }
 {
     let key = message.batch.key;
@@ -138,9 +146,13 @@ pub(crate) fn take_in<L>(
     requires new { IsNewTo (with_messages waiting.old runs.old) message }
     requires sound { IsSound (learned (with_message message (with_messages waiting.old runs.old))) }
     requires ids { AllByRecursion HasSmallIds (both message) }
-    ensures outcome { IfOk result (λ arrival. arrival.outcome ≡ arrival_in message (learned_with message (beside runs.old waiting.old)) (workflow_with message (beside runs.old waiting.old)).arrived) }
-    ensures learned { IfOk result (λ arrival. arrival.learned ≡ learned_with message (beside runs.old waiting.old)) }
-    ensures workflow { OnOk result (beside runs.new waiting.new ≡ workflow_with message (beside runs.old waiting.old)) }
+    ensures outcome { IfOk result (λ arrival.
+        arrival.outcome ≡ arrival_in message (learned_with message (beside runs.old waiting.old))
+        (workflow_with message (beside runs.old waiting.old)).arrived) }
+    ensures learned { IfOk result (λ arrival.
+        arrival.learned ≡ learned_with message (beside runs.old waiting.old)) }
+    ensures workflow { OnOk result
+        (beside runs.new waiting.new ≡ workflow_with message (beside runs.old waiting.old)) }
     ensures apart { OnOk result (ArePutOff runs.new waiting.new) }
     ensures small { OnOk result (AllByRecursion HasSmallIds (batches_of waiting.new)) }
 {

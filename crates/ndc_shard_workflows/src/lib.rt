@@ -20,7 +20,7 @@ mod workflow;
 pub mod workflow_laws;
 mod workflows;
 
-pub use admission::{Admission, AdmitError, NotAdmitted, NotWritten, SetAside, Terms};
+pub use admission::{Admission, AdmitError, CellTerms, NotAdmitted, NotWritten, SetAside, Terms};
 pub use arrival::Arrival;
 pub use cell::{message_there, messages_of};
 pub use reading::{message_at, messages};

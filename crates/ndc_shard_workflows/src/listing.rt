@@ -51,7 +51,9 @@ impl Listing {
 
     /// Puts a workflow to its place, where it is not there.
     pub(crate) fn put(&mut self, domain: &Name, workflow: &Name) -> Result<(), OutOfMemory>
-        ensures ok { OnOk result ((d w : Text) → is_listed d w self.new ≡ (is_named d w (domain.now, workflow.now) || is_listed d w self.old)) }
+        ensures ok { OnOk result
+            ((d w : Text) → is_listed d w self.new
+            ≡ (is_named d w (domain.now, workflow.now) || is_listed d w self.old)) }
         ensures err { OnErr result (self.new ≡ self.old) }
     {
         self.set.insert((domain.try_copy()?, workflow.try_copy()?))?;
@@ -60,7 +62,9 @@ impl Listing {
 
     /// Takes a workflow out, where it is there.
     pub(crate) fn take(&mut self, domain: &Name, workflow: &Name) -> Result<(), OutOfMemory>
-        ensures ok { OnOk result ((d w : Text) → is_listed d w self.new ≡ (not (is_named d w (domain.now, workflow.now)) && is_listed d w self.old)) }
+        ensures ok { OnOk result
+            ((d w : Text) → is_listed d w self.new
+            ≡ (not (is_named d w (domain.now, workflow.now)) && is_listed d w self.old)) }
         ensures err { OnErr result (self.new ≡ self.old) }
     {
         let names = (domain.try_copy()?, workflow.try_copy()?);

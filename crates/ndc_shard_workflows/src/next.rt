@@ -10,7 +10,7 @@ use crate::carried::carries;
 use ndc_event::{Batch, BatchKey};
 use ndc_shard_runs::Runs;
 
-/// The key of the learned batch that is carried by this one: where what is learned is sound, it is the key just behind.
+/// The key of the learned batch that is carried by this one: where what is learned is sound, it is the next key.
 /// One look-up.
 pub(crate) fn next_carried(runs: &Runs, batch: &Batch) -> Option<BatchKey>
     requires { IsSound runs.now }
@@ -19,7 +19,7 @@ pub(crate) fn next_carried(runs: &Runs, batch: &Batch) -> Option<BatchKey>
     key_if_carried(batch, batch_behind(runs, batch.key))
 }
 
-/// The learned batch of the key just behind this one.
+/// The learned batch of the key just after this one.
 fn batch_behind(runs: &Runs, key: BatchKey) -> Option<&Batch>
     ensures { option_copied result ≡ batch_at (key_behind key) runs.now }
 {

@@ -23,7 +23,9 @@ use std::alloc::Global;
 /// with the batch that it carries; a batch that another one carries has no message of its own. In one pass over what has
 /// arrived, with two look-ups for each version on the path to a batch.
 pub fn messages(alloc: Global, workflow: &Workflow) -> Result<Vec<Message>, OutOfMemory>
-    ensures { IfOk result (λ list. list.items ≡ filter_map (own_message (learned workflow.now.arrived) workflow.now.arrived) (learned workflow.now.arrived)) }
+    ensures { IfOk result (λ list.
+        list.items ≡ filter_map (own_message (learned workflow.now.arrived) workflow.now.arrived)
+        (learned workflow.now.arrived)) }
 {
     let learned = workflow.runs().batches(alloc)?;
     let carried = carried_in(alloc, workflow, learned.as_slice())?;
@@ -41,7 +43,9 @@ pub fn message_at(
     workflow: &Workflow,
     key: BatchKey,
 ) -> Result<Option<Message>, OutOfMemory>
-    ensures { IfOk result (λ message. message ≡ own_message_of workflow.now.arrived (batch_at key (learned workflow.now.arrived))) }
+    ensures { IfOk result (λ message.
+        message ≡ own_message_of workflow.now.arrived
+        (batch_at key (learned workflow.now.arrived))) }
 {
     let Some(batch) = workflow.runs().get(key) else {
         return Ok(None);
@@ -62,7 +66,9 @@ pub(crate) fn message_in(
     key: BatchKey,
 ) -> Result<Option<Message>, OutOfMemory>
     requires { IsSound (learned workflow.now.arrived) }
-    ensures { IfOk result (λ message. message ≡ own_message_of workflow.now.arrived (batch_at key (learned workflow.now.arrived))) }
+    ensures { IfOk result (λ message.
+        message ≡ own_message_of workflow.now.arrived
+        (batch_at key (learned workflow.now.arrived))) }
 {
     let Some(batch) = workflow.runs().get(key) else {
         return Ok(None);
@@ -80,7 +86,9 @@ pub(crate) fn message_in(
 fn carried_in(alloc: Global, workflow: &Workflow, known: &[&Batch]) -> Result<Carried, OutOfMemory>
     requires workflow { IsWorkflow workflow.now }
     requires learned { map (λ b. b.now) known.now ≡ learned workflow.now.arrived }
-    ensures { IfOk result (λ carried. (one : Key) → noted_at one carried ≡ first_key (is_under workflow.now.arrived one) workflow.now.arrived) }
+    ensures { IfOk result (λ carried.
+        (one : Key) → noted_at one carried
+        ≡ first_key (is_under workflow.now.arrived one) workflow.now.arrived) }
 {
     let mut carried = Carried::new(alloc);
     carried.note_all(workflow, known)?;
@@ -98,9 +106,12 @@ fn push_message(
     batch: &Batch,
 ) -> Result<(), OutOfMemory>
     requires workflow { IsWorkflow workflow.now }
-    requires carried { (one : Key) → noted_at one carried.now ≡ first_key (is_under workflow.now.arrived one) workflow.now.arrived }
+    requires carried { (one : Key) → noted_at one carried.now
+        ≡ first_key (is_under workflow.now.arrived one) workflow.now.arrived }
     requires learned { batch_at batch.now.key (learned workflow.now.arrived) ≡ Some batch.now }
-    ensures { OnOk result (list.new.items ≡ list.old.items ++ option_to_list (own_message (learned workflow.now.arrived) workflow.now.arrived batch.now)) }
+    ensures { OnOk result (list.new.items
+        ≡ list.old.items ++ option_to_list
+        (own_message (learned workflow.now.arrived) workflow.now.arrived batch.now)) }
 {
     if batch.carrier.is_some() {
         return Ok(());
@@ -127,7 +138,8 @@ fn second_key(
 ) -> Result<Option<BatchKey>, OutOfMemory>
     requires workflow { IsWorkflow workflow.now }
     requires found { found ≡ first_key (carries batch.now) (learned workflow.now.arrived) }
-    ensures { IfOk result (λ key. named key workflow.now.arrived ≡ find (carries batch.now) workflow.now.arrived) }
+    ensures { IfOk result (λ key.
+        named key workflow.now.arrived ≡ find (carries batch.now) workflow.now.arrived) }
 {
     let waiting = workflow.put_off().batches(alloc)?;
     Ok(least_carried(batch, waiting.as_slice(), found))
@@ -141,8 +153,10 @@ fn message_with(
     second: Option<BatchKey>,
 ) -> Result<Message, OutOfMemory>
     requires learned { batch_at batch.now.key (learned workflow.now.arrived) ≡ Some batch.now }
-    requires second { named second workflow.now.arrived ≡ find (carries batch.now) workflow.now.arrived }
-    ensures { IfOk result (λ message. message ≡ message_of (learned workflow.now.arrived) workflow.now.arrived batch.now) }
+    requires second { named second workflow.now.arrived
+        ≡ find (carries batch.now) workflow.now.arrived }
+    ensures { IfOk result (λ message.
+        message ≡ message_of (learned workflow.now.arrived) workflow.now.arrived batch.now) }
 {
     let second = Rare::of(alloc, copy_of(workflow, second)?)?;
     let history = history_to(alloc, workflow, batch)?;
@@ -173,7 +187,8 @@ fn history_to(
     batch: &Batch,
 ) -> Result<VersionHistory, OutOfMemory>
     requires { batch_at batch.now.key (learned workflow.now.arrived) ≡ Some batch.now }
-    ensures { IfOk result (λ history. history ≡ versions_of (events_to batch.now.key (learned workflow.now.arrived))) }
+    ensures { IfOk result (λ history.
+        history ≡ versions_of (events_to batch.now.key (learned workflow.now.arrived))) }
 {
     match workflow.runs().history_of(alloc, batch.key)? {
         Some(history) => Ok(history),

@@ -97,7 +97,8 @@ fn tells_of_lacked(terms: &Terms, runs: &Runs, batch: &Batch) -> bool
 
 /// Whether one of these batches does.
 fn tell_of_lacked(terms: &Terms, runs: &Runs, batches: &[&Batch]) -> bool
-    ensures { result ≡ list_any (tells_of_lacked terms.now runs.now) (map (λ b. b.now) batches.now) }
+    ensures { result ≡ list_any (tells_of_lacked terms.now runs.now)
+        (map (λ b. b.now) batches.now) }
 {
     for batch in batches {
         if tells_of_lacked(terms, runs, batch) {
@@ -119,8 +120,10 @@ impl Workflow {
     /// Why a message is refused on these terms before it is tried: the cell's own versions, another batch under one of its
     /// keys, and its version history. Where it is not, it has arrived or is new.
     pub(crate) fn refusal(&self, terms: &Terms, message: &Message) -> Option<NotAdmitted>
-        ensures refused { IfSome result (λ cause. IsRefusedFor terms.now message.now cause self.now) }
-        ensures foreign { IfNone result (IsForeign terms.now (learned self.now.arrived) message.now) }
+        ensures refused { IfSome result (λ cause.
+            IsRefusedFor terms.now message.now cause self.now) }
+        ensures foreign { IfNone result
+            (IsForeign terms.now (learned self.now.arrived) message.now) }
         ensures no_rival { IfNone result (HasNoRival self.now.arrived message.now) }
         ensures history { IfNone result (history_ends message.now ≡ true) }
     {

@@ -121,7 +121,8 @@ impl Workflow {
     /// Of each batch that is put off, those that are carried too, in key order, its key and the nearest ancestor that has
     /// not arrived. In time of the put-off batches times the logarithm of them.
     pub fn all_missing(&self, alloc: Global) -> Result<Vec<PutOff>, OutOfMemory>
-        ensures { IfOk result (λ list. map (λ one. (one.key, Some one.missing)) list.items ≡ all_missing self.now) }
+        ensures { IfOk result (λ list.
+            map (λ one. (one.key, Some one.missing)) list.items ≡ all_missing self.now) }
     {
         self.waiting.all_missing(alloc)
     }
@@ -132,7 +133,7 @@ impl Workflow {
     /// workflow is empty.
     ///
     /// Where it is not known, it is a message as cells write them, neither of its batches has arrived, and what is
-    /// learned behind it is sound; event ids are at most 10^12.
+    /// learned after it is sound; event ids are at most 10^12.
     #[tactic(auto, unfolding(crate::specs::Workflow::answer_to, crate::specs::Workflow::made_learned, crate::specs::Workflow::after_arrival))]
     pub fn arrive<L>(
         &mut self,
@@ -141,7 +142,8 @@ impl Workflow {
         steps: &mut Steps<L>,
     ) -> Result<Arrival, OutOfMemory>
         requires message { IsMessage message }
-        requires new { has_arrived message.batch.key self.old ≡ false → IsNewTo self.old.arrived message }
+        requires new { has_arrived message.batch.key self.old ≡ false
+            → IsNewTo self.old.arrived message }
         requires sound { IsSound (learned (after_arrival message self.old).arrived) }
         requires ids { AllByRecursion HasSmallIds (both message) }
         ensures outcome { IfOk result (λ arrival. arrival.outcome ≡ answer_to message self.old) }
@@ -162,11 +164,12 @@ impl Workflow {
         }
     }
 
-    /// A message of which nobody vouches, on these terms. The first of these that holds decides: the cell's own versions
+    /// A message that nobody vouches for, on these terms. The first of these that holds decides: the cell's own versions
     /// ([`NotAdmitted::OwnVersion`], [`NotAdmitted::OwnOrigin`]); another batch under one of its keys ([`NotAdmitted::Rival`]);
-    /// it has arrived ([`Admission::Known`]); it has a fault, or its earlier key is learned and it does not fit
-    /// ([`NotAdmitted::Misfit`]); its earlier key is not learned: it is put off, where one more may wait
-    /// ([`NotAdmitted::Full`]). Any other is learned, and then what waited for it, in key order: what fits is learned, what
+    /// its version history does not end with its batch ([`NotAdmitted::History`]); it has arrived ([`Admission::Known`]); it
+    /// has a fault ([`NotAdmitted::Misfit`]); its earlier key is not learned: it is put off, where one more may wait
+    /// ([`NotAdmitted::Full`]); its version history is not that of its path ([`NotAdmitted::History`]); it does not fit
+    /// ([`NotAdmitted::Misfit`]). Any other is learned, and then what waited for it, in key order: what fits is learned, what
     /// does not is set aside, and what waits for that waits on. What is learned is sound, whatever came, and only grows.
     /// For want of memory nothing changes, or, where it is learned, nothing has arrived any more: the workflow is empty.
     ///
@@ -180,9 +183,11 @@ impl Workflow {
     ) -> Result<Admission, AdmitError>
         requires message { IsMessage message }
         requires ids { AllByRecursion HasSmallIds (both message) }
-        ensures admitted { IfOk result (λ admission. IsAdmitted terms.now message admission self.old self.new) }
+        ensures admitted { IfOk result (λ admission.
+            IsAdmitted terms.now message admission self.old self.new) }
         ensures sound { OnOk result (IsSound (learned self.new.arrived)) }
-        ensures comes { OnOk result (ComesFrom (learned self.old.arrived) (learned self.new.arrived)) }
+        ensures comes { OnOk result
+            (ComesFrom (learned self.old.arrived) (learned self.new.arrived)) }
         ensures err { IfErr result (λ error. IsLeftBy error self.old self.new) }
     {
         self.runs.is_sound();
@@ -228,9 +233,9 @@ impl Workflow {
         Ok(true)
     }
 
-    /// Learns a batch that is written in this cell, and the one that goes right behind it, which it carries or not. For want
-    /// of memory nothing changes. A batch that goes on from the current branch of its run takes a step for each event of
-    /// both.
+    /// Learns a batch that is written in this cell, and the one that goes right after it, which it carries or not. For
+    /// want of memory nothing changes. A batch that goes on from the current branch of its run takes a step for each
+    /// event of both.
     ///
     /// The batch points back to a learned one, or has no earlier key, the other begins a run, neither of the two has arrived,
     /// no message that is put off waits for either, and what is learned with them is sound; event ids are at most 10^12.
@@ -244,13 +249,24 @@ impl Workflow {
         requires together { GoTogether (carrying batch.now (option_copied second)) }
         requires new { IsNewTo self.old.arrived (carrying batch.now (option_copied second)) }
         requires reached { has_key (earlier batch.now) (learned self.old.arrived) ≡ true }
-        requires awaited { AllByRecursion (λ sent. waits_for (both (carrying batch.now (option_copied second))) sent ≡ false) self.old.waiting }
-        requires sound { IsSound (with_message (carrying batch.now (option_copied second)) (learned self.old.arrived)) }
-        requires ids { AllByRecursion HasSmallIds (both (carrying batch.now (option_copied second))) }
-        ensures ok { OnOk result (self.new ≡ with_written (carrying batch.now (option_copied second.entry)) self.old) }
-        ensures learned { OnOk result (learned self.new.arrived ≡ with_message (carrying batch.now (option_copied second.entry)) (learned self.old.arrived)) }
+        requires awaited { AllByRecursion (λ sent.
+            waits_for (both (carrying batch.now (option_copied second))) sent
+            ≡ false) self.old.waiting }
+        requires sound { IsSound
+            (with_message (carrying batch.now (option_copied second)) (learned self.old.arrived)) }
+        requires ids { AllByRecursion HasSmallIds
+            (both (carrying batch.now (option_copied second))) }
+        ensures ok { OnOk result
+            (self.new ≡ with_written (carrying batch.now (option_copied second.entry)) self.old) }
+        ensures learned { OnOk result
+            (learned self.new.arrived
+            ≡ with_message (carrying batch.now (option_copied second.entry))
+            (learned self.old.arrived)) }
         ensures err { OnErr result (self.new ≡ self.old) }
-        ensures steps { OnOk result (batch.now.parent ≡ current_key batch.now.run (learned self.old.arrived) → steps.new ≡ counted (counted_for (option_copied second.entry) steps.old) (length batch.now.events)) }
+        ensures steps { OnOk result
+            (batch.now.parent ≡ current_key batch.now.run (learned self.old.arrived)
+            → steps.new ≡ counted (counted_for (option_copied second.entry) steps.old)
+            (length batch.now.events)) }
     {
         learn(&mut self.runs, alloc, batch, second, steps)
     }
@@ -266,9 +282,12 @@ impl Workflow {
         steps: &mut Steps<L>,
     ) -> Result<(), NotWritten>
         requires { IsMadeTogether (carrying batch.now (option_copied second)) }
-        ensures may { OnOk result (MayBeWrittenTogether (carrying batch.now (option_copied second.entry)) self.old) }
-        ensures ok { OnOk result (self.new ≡ with_written (carrying batch.now (option_copied second.entry)) self.old) }
-        ensures refused { IfErr result (λ cause. IsNotWritten cause (carrying batch.now (option_copied second.entry)) self.old) }
+        ensures may { OnOk result
+            (MayBeWrittenTogether (carrying batch.now (option_copied second.entry)) self.old) }
+        ensures ok { OnOk result
+            (self.new ≡ with_written (carrying batch.now (option_copied second.entry)) self.old) }
+        ensures refused { IfErr result (λ cause.
+            IsNotWritten cause (carrying batch.now (option_copied second.entry)) self.old) }
         ensures err { OnErr result (self.new ≡ self.old) }
     {
         if let Some(key) = self.taken_key(batch, second) {
@@ -292,9 +311,11 @@ impl Workflow {
 
     /// The first of the keys of these batches under which something stands.
     fn taken_key(&self, batch: &Batch, second: Option<&Batch>) -> Option<BatchKey>
-        ensures some { IfSome result (λ key. has_key (Some key) (both (carrying batch.now (option_copied second.entry))) ≡ true) }
+        ensures some { IfSome result (λ key.
+            has_key (Some key) (both (carrying batch.now (option_copied second.entry))) ≡ true) }
         ensures there { IfSome result (λ key. has_arrived key self.now ≡ true) }
-        ensures none { IfNone result (IsNewTo self.now.arrived (carrying batch.now (option_copied second.entry))) }
+        ensures none { IfNone result
+            (IsNewTo self.now.arrived (carrying batch.now (option_copied second.entry))) }
     {
         if self.has_arrived(batch.key) {
             return Some(batch.key);

@@ -12,8 +12,10 @@ fn what_waits_is_counted_and_dropped(rt: HostRuntime) -> Result<(), Fail> {
     let _came = scene.told(next_signal(alloc, 5, 6, "b")?)?;
     let counted = scene.counted()?;
     assert_eq!(rt; counted.as_str(), "2 since 2.5");
+    assert_eq!(rt; scene.waiting(), 2);
     assert!(rt; scene.forget(key(2, 5))?);
     assert!(rt; !scene.forget(key(2, 5))?);
+    assert_eq!(rt; scene.waiting(), 1);
     let waits = scene.waits()?;
     assert_eq!(rt; waits.as_str(), "2.6 for 2.5;");
     let came = scene.told(next_signal(alloc, 4, 5, "a")?)?;
@@ -49,11 +51,14 @@ fn an_own_batch_that_waits_is_lacked(rt: HostRuntime) -> Result<(), Fail> {
     let alloc = rt.alloc();
     let mut scene = Scene::forked(alloc)?;
     assert!(rt; !scene.lacks_own()?);
+    assert!(rt; !scene.lacks_any_own()?);
     let told = signaled(alloc, key(1, 5), key(1, 4), 6, "lost", &[(6, 1)])?;
     let _came = scene.told_again(told)?;
     assert!(rt; scene.lacks_own()?);
+    assert!(rt; scene.lacks_any_own()?);
     assert!(rt; scene.forget(key(1, 5))?);
     assert!(rt; !scene.lacks_own()?);
+    assert!(rt; !scene.lacks_any_own()?);
     Ok(())
 }
 

@@ -7,7 +7,9 @@ use ndc_command::{Actions, Command};
 use ndc_domain::{ClusterNo, Clusters, DomainTable, Members};
 use ndc_event::{BatchKey, Name, OutOfMemory};
 use ndc_model_cells::Message;
-use ndc_shard::{Admission, AdmitError, Home, NotAdmitted, Shard, Terms, TryError, Written};
+use ndc_shard::{
+    Admission, AdmitError, CellTerms, Home, NotAdmitted, Shard, Terms, TryError, Written,
+};
 use ndc_state::Steps;
 use ndc_text::dump_text;
 use std::alloc::{AllocError, Global};
@@ -19,6 +21,9 @@ struct Counted;
 
 /// The first cluster, which writes with the versions 1, 11, 21 and so on. The cell is of it.
 const A: ClusterNo = ClusterNo { number: 0 };
+
+/// More messages than any test lets wait.
+const ROOM: u64 = 100;
 
 /// The second one, which writes with 2, 12, 22 and so on.
 const B: ClusterNo = ClusterNo { number: 1 };
@@ -178,18 +183,18 @@ impl Scene {
         Ok(())
     }
 
-    /// The cell is handed a message on these terms: whether it asks for what it lost, and whether one more may wait.
+    /// The cell is handed a message on these terms: whether it asks for what it lost, and how many messages may wait.
     fn hand(
         &mut self,
         recall: bool,
-        may_wait: bool,
+        most_waiting: u64,
         message: Message,
     ) -> Result<Admission, AdmitError> {
-        let terms = Terms {
+        let terms = CellTerms {
             clusters: &self.clusters,
             me: A,
             recall,
-            may_wait,
+            most_waiting,
         };
         let mut steps: Steps<Counted> = Steps::new();
         self.shard.admit(&terms, message, &mut steps)
@@ -197,19 +202,25 @@ impl Scene {
 
     /// What comes of a message, with room for what waits.
     pub(crate) fn told(&mut self, message: Message) -> Result<String, Fail> {
-        let admission = self.hand(false, true, message)?;
+        let admission = self.hand(false, ROOM, message)?;
         Ok(text_of(self.alloc, &admission)?)
     }
 
     /// What comes of one where nothing more may wait.
     pub(crate) fn told_when_full(&mut self, message: Message) -> Result<String, Fail> {
-        let admission = self.hand(false, false, message)?;
+        let most = self.waiting();
+        self.told_with_room(most, message)
+    }
+
+    /// What comes of one where so many may wait.
+    pub(crate) fn told_with_room(&mut self, most: u64, message: Message) -> Result<String, Fail> {
+        let admission = self.hand(false, most, message)?;
         Ok(text_of(self.alloc, &admission)?)
     }
 
     /// What comes of one where the cell asks for what it lost.
     pub(crate) fn told_again(&mut self, message: Message) -> Result<String, Fail> {
-        let admission = self.hand(true, true, message)?;
+        let admission = self.hand(true, ROOM, message)?;
         Ok(text_of(self.alloc, &admission)?)
     }
 
@@ -220,7 +231,8 @@ impl Scene {
         message: Message,
     ) -> Result<Option<NotAdmitted>, Fail> {
         let before = self.shown()?;
-        let admission = self.hand(false, false, message)?;
+        let most = self.waiting();
+        let admission = self.hand(false, most, message)?;
         assert!(rt; self.shown()?.as_slice() == before.as_slice());
         Ok(cause_of(&admission))
     }
@@ -318,6 +330,23 @@ impl Scene {
         Ok(lacks)
     }
 
+    /// Whether any workflow tells of such a batch.
+    pub(crate) fn lacks_any_own(&self) -> Result<bool, Fail> {
+        let terms = Terms {
+            clusters: &self.clusters,
+            me: A,
+            recall: false,
+            may_wait: true,
+        };
+        let lacks = self.shard.lacks_any_own(&terms)?;
+        Ok(lacks)
+    }
+
+    /// How many messages wait in the cell.
+    pub(crate) fn waiting(&self) -> u64 {
+        self.shard.waiting_count()
+    }
+
     /// How many messages wait, and since which batch, workflow by workflow.
     pub(crate) fn counted(&self) -> Result<String, Fail> {
         let mut text = String::new(self.alloc);
@@ -370,9 +399,9 @@ fn text_of(alloc: Global, admission: &Admission) -> Result<String, OutOfMemory> 
                 push_key(&mut text, " ", batch.key)?;
             }
             for one in aside.as_slice() {
-                let misfit = one.misfit;
+                let cause = one.cause;
                 push_key(&mut text, ", aside ", one.message.batch.key)?;
-                write!(text, ": {misfit:?}")?;
+                write!(text, ": {cause:?}")?;
             }
         }
     }

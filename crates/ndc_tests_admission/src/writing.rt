@@ -1,4 +1,4 @@
-//! What a cell does not write because of messages of which nobody vouches.
+//! What a cell does not write because of messages that nobody vouches for.
 use crate::scene::Scene;
 use crate::texts::{key, next_copy, signaled};
 use ndc_command::Refusal;

@@ -4,7 +4,7 @@ use Rattle.ndc_shard_workflows.specs.Admitting.{settled}
 use Rattle.ndc_shard_workflows.specs.Settling.{CanSettle}
 use Rattle.ndc_shard_workflows.proofs.admitting.settle.Given as goal
 
--- those that are left can be gone over, and behind them stands what stands behind all
+-- those that are left can be gone over, and after them stands what stands after all
 abbrev pub invariant-loop-sent : goal.invariant-loop-sent
 invariant-loop-sent g l =
     CanSettle l.runs l.waiting l.sent-iterator.rest.items
