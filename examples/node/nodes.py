@@ -1,6 +1,8 @@
 """Data centres as processes: each is the program of ndc_node_tool, driven by lines."""
 
+import collections
 import random
+import re
 import subprocess
 
 
@@ -60,6 +62,7 @@ class Network:
         for name in names:
             self.start(name)
         self.flight = []
+        self.heard = collections.Counter()
 
     def store(self, name):
         """The file in which a node keeps what it is told."""
@@ -85,6 +88,8 @@ class Network:
     def hear(self, to, frame, sender):
         """A node hears a frame: its answers are on their way to who sent it."""
         node = self.nodes[to]
+        kind = re.search(r'"kind":"(\w+)","to":"\w*"}$', frame)
+        self.heard[kind and kind[1]] += 1
         answer = node.say(f"hear {frame}")
         self.flight += [(sender, text, to) for text in node.take_frames()]
         return answer
@@ -115,18 +120,23 @@ class Network:
         return answers
 
     def settle(self, rounds=40):
-        """Rounds without faults, with reapplication, until nothing is said that changes anything."""
+        """Rounds without faults, with reapplication, until nothing is said that changes anything, and no node lacks something of its own."""
         for _ in range(rounds):
             before = [self.status(name) for name in self.nodes]
             self.round()
             for name in self.nodes:
                 self.nodes[name].line("reapply")
-            if before == [self.status(name) for name in self.nodes] and not self.flight:
+            is_same = before == [self.status(name) for name in self.nodes]
+            if is_same and not self.flight and not any(self.is_behind(name) for name in self.nodes):
                 return True
         return False
 
     def status(self, name):
         return self.nodes[name].line("status")[1:]
+
+    def is_behind(self, name):
+        """Whether a node has found itself behind its past."""
+        return "behind" in self.nodes[name].say("status")
 
     def dump(self, name, domain, workflow):
         return self.nodes[name].line(f"dump {domain} {workflow}")[1:]

@@ -2,8 +2,8 @@
 """examples/node/run.py PROGRAM
 
 Three data centres joined by pipes: losses, repeats, any order, a failover on both sides of a partition, a graceful handover,
-a member that joins after all readers have let go, a stop and a start from what was kept, with a last line that was not kept
-whole, a start from what was kept earlier, and frames that are none. It ends with equal dumps, or says where it does not."""
+a member that joins after all readers have let go, a stop and a start from what was kept, with a last unit that was not kept
+whole, a start from what was kept earlier, after which the others give back what was lost, and frames that are none. It ends with equal dumps, or says where it does not."""
 
 import os
 import shutil
@@ -73,34 +73,55 @@ def late_member(network):
     expect("it is brought what was written before", same(network, ["A", "B", "C"]))
 
 
+def next_unit(path):
+    """The number of the unit that is to be appended next: the one after the last, or after those that the store counts."""
+    with open(path, encoding="ascii") as kept:
+        lines = [line.split() for line in kept]
+    numbers = [int(words[1]) for words in lines if words[0] in ("store", "end")]
+    return numbers[-1] + 1
+
+
 def restart(network):
-    before = {name: network.dump(name, DOMAIN, WORKFLOW) for name in network.names()}
     a = network.store("A")
-    shutil.copy(a, a + ".earlier")
     network.nodes["A"].line(f"signal {DOMAIN} {WORKFLOW} kept z")
     network.settle()
-    later = network.dump("A", DOMAIN, WORKFLOW)
+    before = network.dump("A", DOMAIN, WORKFLOW)
     expect("a node ends", network.stop("A") == 0)
+    number = next_unit(a)
     with open(a, "ab") as store:
-        store.write(b"signal D order-1 torn")
+        store.write(f"unit {number}\nsignal D order-1 torn".encode())
     network.start("A")
-    expect("it begins as it was, without a line that was not kept whole", network.dump("A", DOMAIN, WORKFLOW) == later)
+    expect("it begins as it was, without a unit that was not kept whole", network.dump("A", DOMAIN, WORKFLOW) == before)
     expect("it writes nothing before all others have polled", network.nodes["A"].say(f"signal {DOMAIN} {WORKFLOW} early z") == "refused Awaiting")
     network.settle()
     expect("then it writes", network.nodes["A"].say(f"signal {DOMAIN} {WORKFLOW} more z").startswith("ok"))
     network.settle()
-    expect("all members have the same", same(network, ["A", "B", "C"]) and network.dump("A", DOMAIN, WORKFLOW) != before["A"])
+    expect("all members have the same", same(network, ["A", "B", "C"]))
     network.stop("A")
-    shutil.copy(a, a + ".last")
+    network.start("A")
+    expect("the caller may vouch for what was kept", network.nodes["A"].say("force") == "ok")
+    expect("then it writes at once", network.nodes["A"].say(f"signal {DOMAIN} {WORKFLOW} vouched z").startswith("ok"))
+    expect("and all members have the same", network.settle() and same(network, ["A", "B", "C"]))
+
+
+def recall(network):
+    a = network.store("A")
+    shutil.copy(a, a + ".earlier")
+    for number in range(3):
+        network.nodes["A"].line(f"signal {DOMAIN} {WORKFLOW} lost-{number} z")
+    network.settle()
+    before = network.dump("A", DOMAIN, WORKFLOW)
+    network.stop("A")
     shutil.copy(a + ".earlier", a)
     network.start("A")
-    network.settle()
-    expect("from what was kept earlier it writes nothing: others know more of it than itself", network.nodes["A"].say(f"signal {DOMAIN} {WORKFLOW} old z") == "refused BehindItsPast")
-    network.stop("A")
-    shutil.copy(a + ".last", a)
-    network.start("A")
-    expect("the caller may vouch for what was kept", network.nodes["A"].say("force") == "ok" and network.nodes["A"].say(f"signal {DOMAIN} {WORKFLOW} last z").startswith("ok"))
-    expect("and all members have the same again", network.settle() and same(network, ["A", "B", "C"]))
+    expect("a node begins from what was kept earlier: it has lost what it wrote since", network.dump("A", DOMAIN, WORKFLOW) != before)
+    network.round()
+    expect("others know more of it than itself: it writes nothing", network.nodes["A"].say(f"signal {DOMAIN} {WORKFLOW} old z") == "refused BehindItsPast")
+    expect("it asks the others for what it lacks, and has it again", network.settle() and network.dump("A", DOMAIN, WORKFLOW) == before)
+    expect("it does not write with a version that it used before", network.nodes["A"].say(f"signal {DOMAIN} {WORKFLOW} old z") == "refused NeedsFailover")
+    expect("it fails over to itself", network.nodes["A"].say(f"failover {DOMAIN} A").startswith("ok"))
+    expect("and writes", network.nodes["A"].say(f"signal {DOMAIN} {WORKFLOW} new z").startswith("ok"))
+    expect("all members have the same", network.settle() and same(network, ["A", "B", "C"]) and network.dump("A", DOMAIN, WORKFLOW) != before)
 
 
 def strangers(network):
@@ -131,6 +152,7 @@ def main():
         handover(network)
         late_member(network)
         restart(network)
+        recall(network)
         strangers(network)
         expect("all nodes end", network.close() == [0, 0, 0])
 

@@ -114,6 +114,26 @@ class Scene:
         came += [line.split(" ", 3)[3] for line in letters[before:]]
         return "; ".join(came) or "known"
 
+    def hear(self, kind, body):
+        """What is answered to a frame of B."""
+        self.node.take_frames()
+        return self.node.say(f"hear {compact({'body': body, 'format': 1, 'from': 'B', 'header': COMMON, 'kind': kind, 'to': 'A'})}")
+
+    def polled(self, read, done, epoch=0, before=None):
+        """B polls: how far it has read and is done, and the key of the entry before that."""
+        shards = [{"done": done, "epoch": epoch, "key": key(before), "read": read}]
+        return self.hear("poll", {"all": [], "largest": 1_000_000, "late": [], "shards": shards})
+
+    def is_behind(self):
+        return self.node.say("status").endswith("behind")
+
+    def asks(self, kind):
+        """The bodies of the frames of this kind that A has for B."""
+        self.node.take_frames()
+        self.node.line("ask B")
+        frames = [json.loads(text) for text in self.node.take_frames()]
+        return [frame["body"] for frame in frames if frame["kind"] == kind]
+
     def refused(self, one, why):
         """A message becomes a letter for this cause, and the node shows what it showed."""
         before = self.shown()
@@ -189,7 +209,7 @@ def test_messages_that_do_not_fit():
     refused(signaled("2.4", "1.2", 4, "fork", [(3, 1), (4, 2)]), misfit("IllFormed"))
     refused(message(batch("2.4", "2.3", [plain(5, 2, "DecisionTaskCompleted")]), [(3, 1), (5, 2)]), forbidden(5, "Task"))
     refused(after(4, 6, "hole"), misfit("IllFormed"))
-    refused(after(4, 4, "twice"), misfit("IllFormed"))
+    refused(after(4, 4, "twice"), "NotAdmitted(History)")
     refused(message(batch("2.4", "2.3", [plain(5, 2, "DecisionTaskStarted")], run_of(2, 1)), [(3, 1), (5, 2)]), misfit("ParentUnfit"))
     refused(after(4, 5, "pong", (4, 2)), forbidden(5, "Origin"))
     twice = [signal(5, 2, "theirs", (9, 12)), signal(6, 2, "theirs", (9, 12))]
@@ -204,8 +224,11 @@ def test_messages_that_do_not_fit():
 
 
 def test_messages_with_other_histories():
-    for history in [[(3, 1), (4, 2)], [(3, 1), (6, 2)], [(5, 1)], [(4, 2), (5, 12)], []]:
+    for history in [[(3, 1), (4, 2)], [(3, 1), (6, 2)], [(5, 1)], [(4, 2), (5, 12)], [], [(2, 1), (5, 2)], [(5, 2)]]:
         refused(signaled("2.4", "2.3", 5, "late", history), "NotAdmitted(History)")
+    scene = Scene()
+    same(scene.told(signaled("2.5", "2.4", 6, "late", [(2, 1), (6, 2)])), "put off 2.5 for 2.4")
+    same(scene.told(after(4, 5, "a")), "learned 2.4; NotAdmitted(History)")
 
 
 def test_messages_that_wait():
@@ -216,18 +239,18 @@ def test_messages_that_wait():
     scene = Scene()
     scene.told(message(batch("2.5", "2.4", [plain(6, 2, "DecisionTaskCompleted")]), [(3, 1), (6, 2)]))
     scene.told(after(6, 7, "c"))
-    same(scene.told(after(4, 5, "a")), "learned 2.4; put off 2.6 for 2.5; Misfit(BadReplay { id: 6, rule: Task })")
+    same(scene.told(after(4, 5, "a")), "learned 2.4; put off 2.6 for 2.5; NotAdmitted(Misfit(BadReplay { id: 6, rule: Task }))")
     same(scene.told(after(5, 6, "b")), "learned 2.5 2.6")
     scene = Scene()
     same(scene.told(carrier(5, "2.4", 6, 6, begun(6))), "put off 2.5 for 2.4; put off 2.6 for 2.4")
     same(scene.told(after(4, 5, "a")), "learned 2.4 2.5 2.6")
     scene = Scene()
     same(scene.told(carrier(5, "2.4", 6, 9, begun(6))), "put off 2.5 for 2.4; put off 2.6 for 2.4")
-    same(scene.told(after(4, 5, "a")), "learned 2.4; Misfit(CarrierUnfit)")
+    same(scene.told(after(4, 5, "a")), "learned 2.4; NotAdmitted(Misfit(CarrierUnfit))")
     scene = Scene()
     scene.told(signaled("2.6", "2.4", 6, "late", [(3, 1), (6, 2)]))
     scene.told(signaled("2.5", "2.4", 6, "early", [(3, 1), (6, 2)]))
-    same(scene.told(after(4, 5, "a")), "learned 2.4 2.5; Misfit(IllFormed)")
+    same(scene.told(after(4, 5, "a")), "learned 2.4 2.5; NotAdmitted(Misfit(IllFormed))")
 
 
 def test_texts_that_are_no_messages():
@@ -235,3 +258,80 @@ def test_texts_that_are_no_messages():
     frame = {"body": {"messages": ["{}", compact(after(4, 5, "a"))]}, "format": 1, "from": "B", "header": COMMON, "kind": "served", "to": "A"}
     same(scene.node.say(f"hear {compact(frame)}"), "ok 1 0 1")
     same(len(scene.node.learned), 2)
+
+
+LOST = signaled("1.4", "1.3", 5, "lost", [(5, 1)])
+SIGNAL = "signal alpha w1 late x"
+
+
+def recalled(*messages, last=True, after=None):
+    return {"after": after, "handovers": [], "last": last, "messages": [compact(one) for one in messages], "records": []}
+
+
+def test_readers_that_know_more():
+    for levels in [{"read": 4, "done": 3}, {"read": 4, "done": 4}, {"read": 3, "done": 3, "before": "1.9"}, {"read": 0, "done": 0, "epoch": 1}]:
+        scene = Scene()
+        assert not scene.is_behind()
+        scene.polled(**levels)
+        assert scene.is_behind(), levels
+        same(scene.node.say(SIGNAL), "refused BehindItsPast")
+    scene = Scene()
+    scene.polled(3, 3, before="1.3")
+    assert not scene.is_behind()
+
+
+def test_a_recall():
+    scene = Scene()
+    scene.polled(4, 4)
+    same(scene.asks("recall"), [])
+    scene.hear("recalled", recalled(LOST))
+    assert scene.is_behind()
+    scene.polled(0, 0, epoch=1)
+    same(scene.asks("recall"), [{"after": None, "largest": 1_048_576}])
+    same(scene.hear("recalled", recalled(LOST, last=False)), "ok 1 0 0")
+    assert scene.is_behind()
+    place = {"key": key("1.4"), "shard": 0, "workflow": "w1"}
+    spot = {"domain": "alpha", "place": place}
+    same(scene.asks("recall"), [{"after": spot, "largest": 1_048_576}])
+    same(scene.hear("recalled", recalled(LOST)), "ok 0 0 0")
+    assert scene.is_behind()
+    same(scene.hear("recalled", recalled(after=spot)), "ok 0 0 0")
+    assert not scene.is_behind()
+    same(scene.node.say(SIGNAL), "refused NeedsFailover")
+    same(scene.node.say("reset alpha w1 3"), "refused NeedsFailover")
+    same(scene.node.say("beat alpha w1 a1 half"), "refused NeedsFailover")
+    same(scene.node.say("failover alpha A"), "ok 11")
+    assert scene.node.say(SIGNAL).startswith("ok 11.")
+
+
+def test_what_came_back_is_told_again():
+    scene = Scene()
+    scene.polled(4, 4)
+    scene.polled(0, 0, epoch=1)
+    scene.hear("recalled", recalled(LOST))
+    scene.polled(0, 0, epoch=1)
+    (entries,) = [json.loads(text)["body"] for text in scene.node.take_frames()]
+    same([json.loads(one["message"])["batch"]["task"] for one in entries["entries"]], [1, 2, 3, 4])
+    same([entries[name] for name in ("epoch", "from", "next")], [1, 0, 4])
+
+
+def test_messages_of_own_versions_that_may_be_lost():
+    scene = Scene()
+    scene.node.line("loaded")
+    same(scene.node.say(SIGNAL), "refused Awaiting")
+    same(scene.told(LOST), "known")
+    assert scene.is_behind()
+    same(len(scene.node.line("letters")), 1)
+    scene = Scene()
+    scene.node.line("loaded")
+    scene.polled(3, 3, before="1.3")
+    same(scene.told(LOST), "NotAdmitted(OwnVersion)")
+    assert not scene.is_behind()
+
+
+def test_entries_with_a_hole_before_them():
+    scene = Scene()
+    entry = {"message": compact(after(4, 5, "a")), "place": 7}
+    body = {"entries": [entry], "epoch": 0, "from": 7, "late": [], "next": 8, "shard": 0}
+    same(scene.hear("entries", body), "ok 0 0 0")
+    same(scene.hear("entries", {**body, "from": 0}), "ok 1 0 0")

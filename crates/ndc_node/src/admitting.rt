@@ -1,11 +1,13 @@
 use crate::heard::Heard;
-use crate::letter::{Letter, LetterCause, LetterPlace};
+use crate::letter::LetterCause;
 use crate::node::Node;
+use crate::past::Past;
 use ndc_domain::ClusterNo;
-use ndc_event::{Batch, Items, Name, OutOfMemory};
+use ndc_event::{Batch, BatchKey, Name, OutOfMemory};
 use ndc_model_cells::Message;
-use ndc_node_messages::{MessageError, message_text, read_message};
-use ndc_shard::{Admission, AdmitError, NotAdmitted, SetAside, Terms};
+use ndc_node_messages::{MessageError, read_message};
+use ndc_node_store::BatchPlace;
+use ndc_shard::{Admission, AdmitError, Batches, CellTerms, NotAdmitted, SetAside};
 use ndc_state::Steps;
 use std::alloc::AllocError;
 
@@ -13,14 +15,14 @@ use std::alloc::AllocError;
 struct Learning;
 
 /// What became of a message that a node took up.
-#[derive(Clone, Copy, Debug, PartialEq, Eq)]
+#[derive(Clone, Copy, PartialEq, Eq)]
 pub(crate) enum Came {
     /// It is learned, was known, or was put off.
     In,
     /// It is a letter.
     Letter,
-    /// A bound is reached: it is to be asked for again.
-    Full,
+    /// It is not taken, and is to be asked for again: a bound is reached, or the node has to find first what it lacks.
+    Later,
 }
 
 impl Node {
@@ -34,26 +36,18 @@ impl Node {
         message: Message,
         heard: &mut Heard,
     ) -> Result<Came, OutOfMemory> {
-        let at = LetterPlace {
-            domain: message.batch.domain.try_copy()?,
-            workflow: message.batch.workflow.try_copy()?,
-            key: message.batch.key,
-        };
+        let at = BatchPlace::of(&message.batch)?;
         let shard = self.shard_of(&at.domain, &at.workflow);
         if told_for.is_some_and(|one| one != shard) {
             return self.set_aside(from, Some(at), text, LetterCause::OtherShard, heard);
         }
-        match self.admit(shard, message, heard)? {
-            None => Ok(Came::In),
-            Some(NotAdmitted::Full) => {
-                heard.is_full = true;
-                Ok(Came::Full)
-            }
-            Some(cause) => {
-                let cause = LetterCause::NotAdmitted(cause);
-                self.set_aside(from, Some(at), text, cause, heard)
-            }
+        let Some(cause) = self.admit(shard, text, message, heard)? else {
+            return Ok(Came::In);
+        };
+        if self.is_for_later(cause, heard) {
+            return Ok(Came::Later);
         }
+        self.set_aside(from, Some(at), text, LetterCause::NotAdmitted(cause), heard)
     }
 
     /// Takes up the text of a message that a peer sent.
@@ -70,21 +64,43 @@ impl Node {
         }
     }
 
+    /// Whether a message that is not admitted is to be asked for again: there is no room for it, or it tells of something of
+    /// this cluster that the node may have lost, and then the node is behind its past.
+    fn is_for_later(&mut self, cause: NotAdmitted, heard: &mut Heard) -> bool {
+        match cause {
+            NotAdmitted::Full => {
+                heard.is_full = true;
+                true
+            }
+            NotAdmitted::OwnVersion | NotAdmitted::OwnOrigin => {
+                let is_lost = self.may_lack_own();
+                if is_lost && self.past == Past::Whole {
+                    self.fall_behind();
+                    heard.changed = true;
+                }
+                is_lost
+            }
+            _ => false,
+        }
+    }
+
     /// A message is admitted to the cell of its shard: why it is not, where it is not.
     fn admit(
         &mut self,
         shard: u32,
+        text: &[u8],
         message: Message,
         heard: &mut Heard,
     ) -> Result<Option<NotAdmitted>, OutOfMemory> {
+        let recall = self.may_be_lost(&message.batch.domain, message.batch.key.version);
         let Some(seat) = self.seats.get_mut(shard as usize) else {
             return Ok(Some(NotAdmitted::Full));
         };
-        let terms = Terms {
+        let terms = CellTerms {
             clusters: &self.clusters,
             me: self.me,
-            recall: false,
-            may_wait: seat.waiting < self.bounds.waiting,
+            recall,
+            most_waiting: self.bounds.waiting,
         };
         let mut steps: Steps<Learning> = Steps::new();
         match seat.cell.admit(&terms, message, &mut steps) {
@@ -92,23 +108,53 @@ impl Node {
             Ok(Admission::Refused { cause }) => Ok(Some(cause)),
             Ok(Admission::Known) => Ok(None),
             Ok(Admission::PutOff { .. }) => {
-                seat.waiting = seat.waiting.saturating_add(1);
-                heard.put_off = heard.put_off.saturating_add(1);
-                heard.changed = true;
+                self.note_put_off(shard, text, heard)?;
                 Ok(None)
             }
             Ok(Admission::Learned { batches, aside }) => {
-                heard.changed = true;
-                if batches.as_slice().len() > 1 || !aside.is_empty() {
-                    seat.count_waiting()?;
-                }
-                self.let_go(shard, batches.as_slice());
-                let mut batches = batches.into_vec();
-                heard.learned.append(&mut batches)?;
-                self.take_aside(aside, heard)?;
+                self.note_learned(shard, batches, aside, heard)?;
                 Ok(None)
             }
         }
+    }
+
+    /// A message was put off, of which this is the text: a copy is kept.
+    fn note_put_off(
+        &mut self,
+        shard: u32,
+        text: &[u8],
+        heard: &mut Heard,
+    ) -> Result<(), OutOfMemory> {
+        let Ok(message) = read_message(self.alloc, text) else {
+            return Err(AllocError);
+        };
+        if let Some(seat) = self.seats.get_mut(shard as usize) {
+            seat.put_off.push(message)?;
+        }
+        heard.put_off = heard.put_off.saturating_add(1);
+        heard.changed = true;
+        Ok(())
+    }
+
+    /// Batches became learned, and messages that had waited were set aside.
+    fn note_learned(
+        &mut self,
+        shard: u32,
+        batches: Batches,
+        aside: Vec<SetAside>,
+        heard: &mut Heard,
+    ) -> Result<(), OutOfMemory> {
+        heard.changed = true;
+        if batches.as_slice().len() > 1 || !aside.is_empty() {
+            if let Some(seat) = self.seats.get_mut(shard as usize) {
+                seat.let_go(aside.as_slice())?;
+            }
+        }
+        self.let_go(shard, batches.as_slice());
+        self.queue_up_own(shard, batches.as_slice())?;
+        let mut batches = batches.into_vec();
+        heard.learned.append(&mut batches)?;
+        self.take_aside(aside, heard)
     }
 
     /// Batches are learned: no lane holds them any more. Takes no memory.
@@ -120,82 +166,21 @@ impl Node {
         }
     }
 
-    /// What had been put off and does not fit is set aside, as from this node itself.
-    fn take_aside(&mut self, aside: Vec<SetAside>, heard: &mut Heard) -> Result<(), OutOfMemory> {
-        for one in aside {
-            let SetAside { message, misfit } = one;
-            let text = message_text(self.alloc, &message)?;
-            let at = LetterPlace {
-                domain: message.batch.domain.try_copy()?,
-                workflow: message.batch.workflow.try_copy()?,
-                key: message.batch.key,
-            };
-            let cause = LetterCause::Misfit(misfit);
-            self.put_letter(self.me, Some(at), text.as_slice(), cause, heard)?;
+    /// Those of the batches that this cluster has written came back: their messages go last in the queue.
+    fn queue_up_own(&mut self, shard: u32, batches: &[Batch]) -> Result<(), OutOfMemory> {
+        for batch in batches {
+            if !self.is_own(batch.key.version) {
+                continue;
+            }
+            if let Some(seat) = self.seats.get_mut(shard as usize) {
+                seat.queue_up(&batch.domain, &batch.workflow, batch.key)?;
+            }
         }
-        Ok(())
-    }
-
-    /// A message is set aside, where there is room for one more letter.
-    pub(crate) fn set_aside(
-        &mut self,
-        source: ClusterNo,
-        at: Option<LetterPlace>,
-        text: &[u8],
-        cause: LetterCause,
-        heard: &mut Heard,
-    ) -> Result<Came, OutOfMemory> {
-        if self.has_letter(source, at.as_ref(), text) {
-            return Ok(Came::Letter);
-        }
-        if self.bounds.letters <= self.letters.len() {
-            heard.is_full = true;
-            return Ok(Came::Full);
-        }
-        self.put_letter(source, at, text, cause, heard)?;
-        Ok(Came::Letter)
-    }
-
-    /// Whether there is a letter of this source and this batch, or this text.
-    fn has_letter(&self, source: ClusterNo, at: Option<&LetterPlace>, text: &[u8]) -> bool {
-        match at {
-            Some(at) => self
-                .letters
-                .iter()
-                .any(|one| one.is_of(source, &at.domain, &at.workflow, at.key)),
-            None => self.letters.iter().any(|one| one.is_text_of(source, text)),
-        }
-    }
-
-    /// One more letter.
-    fn put_letter(
-        &mut self,
-        source: ClusterNo,
-        at: Option<LetterPlace>,
-        text: &[u8],
-        cause: LetterCause,
-        heard: &mut Heard,
-    ) -> Result<(), OutOfMemory> {
-        let mut bytes = Vec::new(self.alloc);
-        bytes.extend_from_slice(text)?;
-        self.letters.push(Letter {
-            source,
-            at,
-            text: Items::new(bytes),
-            cause,
-        })?;
-        heard.letters = heard.letters.saturating_add(1);
-        heard.changed = true;
         Ok(())
     }
 
     /// Whether a batch is learned.
-    pub(crate) fn has_learned(
-        &self,
-        domain: &Name,
-        workflow: &Name,
-        key: ndc_event::BatchKey,
-    ) -> bool {
+    pub(crate) fn has_learned(&self, domain: &Name, workflow: &Name, key: BatchKey) -> bool {
         match self.cell_of(domain, workflow) {
             Some(cell) => cell.has_learned(domain, workflow, key),
             None => false,

@@ -1,4 +1,5 @@
 use crate::node::Node;
+use crate::past::Past;
 use ndc_domain::ClusterNo;
 use ndc_event::{Items, OutOfMemory};
 use ndc_node_frames::{AskedGap, Body, Held, Records};
@@ -9,8 +10,8 @@ const MAX_GAPS: usize = 64;
 
 impl Node {
     /// What this node would say to another one now, as frames: what it polls, what it asks for, its records and reports where
-    /// the other was not heard to have the same, and the handovers to it. None for itself and for what is no cluster.
-    /// Nothing changes.
+    /// the other was not heard to have the same, and the handovers to it; where it is behind its past, the recall in place of
+    /// the handovers. None for itself and for what is no cluster. Nothing changes.
     pub fn ask(&self, to: ClusterNo) -> Result<Vec<Items<u8>>, OutOfMemory> {
         let mut frames = Vec::new(self.alloc);
         if to.number == self.me.number || self.clusters.count() <= to.number {
@@ -22,7 +23,11 @@ impl Node {
         self.ask_for_gaps(to, &mut frames)?;
         self.tell_records(to, &mut frames)?;
         self.tell_reports(to, &mut frames)?;
-        self.tell_handovers(to, &mut frames)?;
+        if self.past == Past::Whole {
+            self.tell_handovers(to, &mut frames)?;
+        } else {
+            self.ask_for_recall(to, &mut frames)?;
+        }
         Ok(frames)
     }
 

@@ -3,6 +3,7 @@ ghost use Rattle.ndc_domain.specs.Clusters.{count_of};
 
 use crate::error::CallError;
 use crate::node::Node;
+use crate::records::{MAX_VERSION, put_record};
 use ndc_domain::{
     ClusterNo, Clusters, DomainError, DomainTable, FailoverError, JoinError, Members, RetainError,
 };
@@ -124,7 +125,8 @@ impl Node {
         Ok(())
     }
 
-    /// Makes a cluster the active one of a domain: the new version of its record.
+    /// Makes a cluster the active one of a domain: the new version of its record. Where this node may have used that version
+    /// before it lost something, it is the next one of its own that it has not used.
     pub fn failover(
         &mut self,
         domain: &Name,
@@ -135,20 +137,40 @@ impl Node {
         self.end(version)
     }
 
-    /// The cluster is the active one; a handover of the domain to a lesser version ends.
+    /// The cluster is the active one; a handover of the domain ends.
     fn failed_over(
         &mut self,
         domain: &Name,
         target: ClusterNo,
     ) -> Result<u64, CallError<FailoverError>> {
-        match self.table.failover(&self.clusters, domain, target) {
-            Ok(version) => {
-                self.end_handovers_below(domain, version);
-                self.records_changed();
-                Ok(version)
-            }
-            Err(error) => Err(CallError::Refused(error)),
+        let version = match self.table.failover(&self.clusters, domain, target) {
+            Ok(version) => version,
+            Err(error) => return Err(CallError::Refused(error)),
+        };
+        let version = self.renewed(domain)?.unwrap_or(version);
+        self.end_overtaken_handovers();
+        self.records_changed();
+        Ok(version)
+    }
+
+    /// Where this node is the active cluster of a domain with a version that it may have used before, the record gets the next
+    /// one of its own that it has not used: which. None where there is none up to the greatest version.
+    fn renewed(&mut self, domain: &Name) -> Result<Option<u64>, OutOfMemory> {
+        let Some(used) = self.used_here(domain) else {
+            return Ok(None);
+        };
+        if MAX_VERSION <= used || self.clusters.count() <= self.me.number {
+            return Ok(None);
         }
+        let Ok(version) = self.clusters.next_version(used + 1, self.me) else {
+            return Ok(None);
+        };
+        if let Some(record) = self.table.find(domain) {
+            let mut record = record.try_copy()?;
+            record.version = version;
+            put_record(&mut self.table, record)?;
+        }
+        Ok(Some(version))
     }
 
     /// Merges records into those of the node. A node that a record comes to name is late in its domain.
@@ -159,6 +181,8 @@ impl Node {
         let before = self.table.try_copy()?;
         self.table.merge(theirs)?;
         self.note_members(&before)?;
+        self.note_own_membership(&before)?;
+        self.end_overtaken_handovers();
         self.records_changed();
         Ok(true)
     }
@@ -175,6 +199,29 @@ impl Node {
                 if names && !old.members.has(*peer) {
                     self.owe(*peer, &old.name)?;
                 }
+            }
+        }
+        Ok(())
+    }
+
+    /// This node is late, at all others, in the domains in which records have come to name it since: it may have joined them,
+    /// or have lost what it had of them.
+    fn note_own_membership(&mut self, before: &DomainTable) -> Result<(), OutOfMemory> {
+        let mut joined = Vec::new(self.alloc);
+        for record in self.table.records() {
+            let was_named = match before.find(&record.name) {
+                Some(old) => old.members.has(self.me),
+                None => false,
+            };
+            if record.members.has(self.me) && !was_named {
+                joined.push(record.name.try_copy()?)?;
+            }
+        }
+        let me = self.me.number as usize;
+        for place in 0..self.peers.len() {
+            match self.peers.get_mut(place) {
+                Some(peer) if place != me => peer.fall_late(joined.as_slice())?,
+                _ => {}
             }
         }
         Ok(())

@@ -17,18 +17,31 @@ struct Taken {
     told: Vec<Told>,
     /// The place up to which they were taken.
     next: u64,
-    /// The last one of which the batch is known.
-    last: Option<Last>,
 }
 
-/// The key that stands for the batch of an entry whose text is that of no message: no batch has it.
+/// What of a piece of a queue a lane is told.
+#[derive(Drop)]
+struct Kept {
+    /// The entries that are not learned.
+    told: Vec<Told>,
+    /// The place up to which they go.
+    next: u64,
+    /// The last entry, learned or not.
+    last: Option<Last>,
+    /// Whether entries were left out, since no more may be held.
+    is_full: bool,
+}
+
+/// The key that stands for the batch of an entry whose text is that of no message: no message that is admitted has it, since
+/// its task is too great.
 const NO_KEY: BatchKey = BatchKey {
     version: 0,
-    task: 0,
+    task: 1_000_000_000_000,
 };
 
 impl Node {
-    /// A piece of a queue is heard of a source. A piece of an older epoch is passed by.
+    /// A piece of a queue is heard of a source. A piece of an older epoch is passed by, and one before which entries were not
+    /// told.
     pub(crate) fn hear_entries(
         &mut self,
         from: ClusterNo,
@@ -43,16 +56,18 @@ impl Node {
             late,
             entries,
         } = piece;
+        heard.changed = true;
         let late = self.known_late(late.as_slice())?;
         if let Some(peer) = self.peers.get_mut(from.number as usize) {
             peer.hold_late(late.as_slice())?;
         }
-        if !self.follows(from, shard, epoch) {
+        if !self.follows(from, shard, epoch) || self.is_hole(from, shard, first) {
             return Ok(());
         }
         let taken = self.take_entries(from, shard, next, entries.into_vec(), heard)?;
-        let left = self.not_learned(taken.told)?;
-        self.note_told(from, shard, first, taken.next, left, taken.last, heard)
+        let kept = self.kept_of(from, shard, taken)?;
+        heard.is_full = heard.is_full || kept.is_full;
+        self.note_told(from, shard, first, kept)
     }
 
     /// Those of these domains whose records name this node, or which are handed over to it.
@@ -77,7 +92,13 @@ impl Node {
         }
     }
 
-    /// Takes up the messages of entries in order, up to the first for which there is no room.
+    /// Whether entries from a place on leave out some before them that were not told.
+    fn is_hole(&self, from: ClusterNo, shard: u32, first: u64) -> bool {
+        let (read, _) = self.room_of(from, shard);
+        read < first
+    }
+
+    /// Takes up the messages of entries in order, up to the first that is to be asked for again.
     fn take_entries(
         &mut self,
         from: ClusterNo,
@@ -89,7 +110,6 @@ impl Node {
         let mut taken = Taken {
             told: Vec::new(self.alloc),
             next,
-            last: None,
         };
         for entry in entries {
             let place = entry.place;
@@ -98,19 +118,13 @@ impl Node {
                     taken.next = place.min(next);
                     return Ok(taken);
                 }
-                Some(told) => {
-                    taken.last = Some(Last {
-                        place,
-                        key: told.key,
-                    });
-                    taken.told.push(told)?;
-                }
+                Some(told) => taken.told.push(told)?,
             }
         }
         Ok(taken)
     }
 
-    /// Takes up the message of an entry. None where there is no room for it.
+    /// Takes up the message of an entry. None where it is to be asked for again.
     fn take_entry(
         &mut self,
         from: ClusterNo,
@@ -128,7 +142,7 @@ impl Node {
                     key: message.batch.key,
                 };
                 let came = self.take_message(from, Some(shard), text, message, heard)?;
-                Ok(unless_full(came, told))
+                Ok(unless_later(came, told))
             }
             Err(MessageError::Memory) => Err(AllocError),
             Err(error) => {
@@ -136,7 +150,7 @@ impl Node {
                 let came = self.set_aside(from, None, text, cause, heard)?;
                 let name = Name::new(self.alloc, b"?");
                 match name {
-                    Ok(name) => Ok(unless_full(
+                    Ok(name) => Ok(unless_later(
                         came,
                         Told {
                             place: entry.place,
@@ -151,27 +165,61 @@ impl Node {
         }
     }
 
-    /// Those of the entries whose batch is not learned.
-    fn not_learned(&self, told: Vec<Told>) -> Result<Vec<Told>, OutOfMemory> {
-        let mut left = Vec::new(self.alloc);
+    /// Those of the entries whose batch is not learned, up to the first for which the lane has no room.
+    fn kept_of(&self, from: ClusterNo, shard: u32, taken: Taken) -> Result<Kept, OutOfMemory> {
+        let Taken { told, next } = taken;
+        let (read, mut room) = self.room_of(from, shard);
+        let mut kept = Kept {
+            told: Vec::new(self.alloc),
+            next,
+            last: None,
+            is_full: false,
+        };
         for one in told {
-            if !self.has_learned(&one.domain, &one.workflow, one.key) {
-                left.push(one)?;
+            let last = Last {
+                place: one.place,
+                key: one.key,
+            };
+            if kept.is_full {
+                continue;
             }
+            let is_learned = self.has_learned(&one.domain, &one.workflow, one.key);
+            let is_new = read <= one.place && !is_learned;
+            if is_new && room == 0 {
+                kept.is_full = true;
+                kept.next = one.place.min(next);
+                continue;
+            }
+            if is_new {
+                room = room.saturating_sub(1);
+            }
+            if !is_learned {
+                kept.told.push(one)?;
+            }
+            kept.last = Some(last);
         }
-        Ok(left)
+        Ok(kept)
     }
 
-    /// Entries were told, of which these are not learned: the lane keeps them.
+    /// How far a lane has read, and how many entries more it may hold.
+    fn room_of(&self, from: ClusterNo, shard: u32) -> (u64, usize) {
+        let Some(peer) = self.peers.get(from.number as usize) else {
+            return (0, 0);
+        };
+        match peer.lanes.get(shard as usize) {
+            Some(lane) => (lane.read().read(), lane.room()),
+            None => (0, 0),
+        }
+    }
+
+    /// The lane of a shard of a source is told of entries. Where they are out of turn, or some before them were not told,
+    /// nothing changes: they are asked for again.
     fn note_told(
         &mut self,
         from: ClusterNo,
         shard: u32,
         first: u64,
-        next: u64,
-        told: Vec<Told>,
-        last: Option<Last>,
-        heard: &mut Heard,
+        kept: Kept,
     ) -> Result<(), OutOfMemory> {
         let Some(peer) = self.peers.get_mut(from.number as usize) else {
             return Ok(());
@@ -179,20 +227,15 @@ impl Node {
         let Some(lane) = peer.lanes.get_mut(shard as usize) else {
             return Ok(());
         };
-        let before = lane.read().read();
+        let Kept {
+            told,
+            next,
+            last,
+            ..
+        } = kept;
         match lane.hear(first, next, told, last) {
-            Ok(()) => {
-                if before < lane.read().read() {
-                    heard.changed = true;
-                }
-                Ok(())
-            }
             Err(HearError::Memory) => Err(AllocError),
-            Err(HearError::Full) => {
-                heard.is_full = true;
-                Ok(())
-            }
-            Err(HearError::Hole) | Err(HearError::OutOfTurn) => Ok(()),
+            _ => Ok(()),
         }
     }
 
@@ -206,10 +249,10 @@ impl Node {
     }
 }
 
-/// An entry, unless there was no room for its message.
-fn unless_full(came: Came, told: Told) -> Option<Told> {
+/// An entry, unless its message is to be asked for again.
+fn unless_later(came: Came, told: Told) -> Option<Told> {
     match came {
-        Came::Full => None,
+        Came::Later => None,
         Came::In | Came::Letter => Some(told),
     }
 }

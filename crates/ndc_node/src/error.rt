@@ -84,10 +84,14 @@ impl<T: Drop> From<AllocFailed<T>> for FrameError {
 pub enum CallError<E> {
     /// An earlier call ran out of memory: the node is spent.
     Spent,
-    /// A reader knows more of what this node has given out than the node itself: it writes nothing.
+    /// Another node knows more of what this node has given out than the node itself: it writes nothing until the others have
+    /// sent what it lacks.
     BehindItsPast,
     /// The node was loaded, and not all other nodes have polled since: they would tell what it lacks of its own past.
     Awaiting,
+    /// The node may have written to the domain with the version of its record before it lost something. It writes there
+    /// again once it has failed over to itself: with a greater version.
+    NeedsFailover,
     /// There is no room for more.
     Full,
     /// The call is refused.

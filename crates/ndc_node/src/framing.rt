@@ -37,7 +37,7 @@ fn are_same_seats(clusters: &Clusters, seats: &[Seat]) -> bool {
 
 impl Node {
     /// The header of the node's frames.
-    fn header(&self) -> Result<Header, OutOfMemory> {
+    pub(crate) fn header(&self) -> Result<Header, OutOfMemory> {
         let mut seats = Vec::new(self.alloc);
         for number in 0..self.clusters.count() {
             let cluster = ClusterNo { number };
@@ -55,7 +55,7 @@ impl Node {
     }
 
     /// The name of a cluster.
-    fn name_of(&self, cluster: ClusterNo) -> Result<Name, OutOfMemory> {
+    pub(crate) fn name_of(&self, cluster: ClusterNo) -> Result<Name, OutOfMemory> {
         if self.clusters.count() <= cluster.number {
             return Err(AllocError);
         }

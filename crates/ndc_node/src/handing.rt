@@ -5,8 +5,9 @@ use crate::peer::has_name;
 use crate::records::put_record;
 use ndc_domain::{ClusterNo, DomainTable};
 use ndc_event::{Name, OutOfMemory};
-use ndc_graceful::{BeginError, Handover, ReadyError};
+use ndc_graceful::{BeginError, Handover, Places, ReadyError};
 use ndc_node_frames::{Offer, Promised, PromisedList, ToldRecord};
+use std::alloc::Global;
 
 /// How many handovers to a node may be open at once.
 const MAX_OFFERS: usize = 10_000;
@@ -64,10 +65,13 @@ impl Node {
         Ok(ends)
     }
 
-    /// The handovers end that were begun here of a domain whose record has come to a greater version.
-    pub(crate) fn end_handovers_below(&mut self, domain: &Name, version: u64) {
-        self.open
-            .retain(|one| one.domain != *domain || version <= one.new);
+    /// The handovers end that were begun here of a domain whose record here has come to a greater version, by whatever call.
+    pub(crate) fn end_overtaken_handovers(&mut self) {
+        let table = &self.table;
+        self.open.retain(|one| match table.find(&one.domain) {
+            Some(record) => record.version <= one.new,
+            None => true,
+        });
     }
 
     /// The handovers end of which another node's records tell the new version: whether there is one.
@@ -113,8 +117,56 @@ impl Node {
         Ok(PromisedList::new(promised))
     }
 
+    /// A handover that was begun here and lost comes back from its target: it is open again, and its record is merged, where
+    /// the record of the domain has not come to its version. Its places are told anew once the recall has ended.
+    pub(crate) fn open_again(&mut self, from: ClusterNo, offer: &Offer) -> Result<(), OutOfMemory> {
+        let has_come = match self.table.find(&offer.domain) {
+            Some(record) => offer.new <= record.version,
+            None => false,
+        };
+        if has_come {
+            return Ok(());
+        }
+        let mut theirs = DomainTable::new(self.alloc);
+        put_record(&mut theirs, offer.record.record.try_copy()?)?;
+        self.merge_records(&theirs)?;
+        let handover = Handover {
+            domain: offer.domain.try_copy()?,
+            from: self.me,
+            to: from,
+            old: offer.old,
+            new: offer.new,
+            places: Places::new(self.queue_ends()?),
+        };
+        self.open.push(handover)?;
+        self.records_changed();
+        Ok(())
+    }
+
+    /// The handovers that are open promise all that the queues have now, under their present epochs.
+    pub(crate) fn promise_anew(&mut self) -> Result<(), OutOfMemory> {
+        for place in 0..self.open.len() {
+            let ends = self.queue_ends()?;
+            if let Some(handover) = self.open.get_mut(place) {
+                handover.places = Places::new(ends);
+            }
+        }
+        Ok(())
+    }
+
+    /// The handovers to this node that a cluster has begun.
+    pub(crate) fn offers_of(&self, source: ClusterNo) -> Result<Vec<Offer>, OutOfMemory> {
+        let mut offers = Vec::new(self.alloc);
+        for offer in self.offers.as_slice() {
+            if self.clusters.writer_of(offer.old) == Some(source) {
+                offers.push(copy_offer(self.alloc, offer)?)?;
+            }
+        }
+        Ok(offers)
+    }
+
     /// A handover to this node is heard: it is kept until it is completed, where the record has not come to its version. Of
-    /// two of one domain the greater is kept.
+    /// two of one domain the one with the greater version is kept, and then the one of the later epoch.
     pub(crate) fn hear_offer(
         &mut self,
         offer: Offer,
@@ -123,10 +175,14 @@ impl Node {
         if !self.is_open(&offer) {
             return Ok(());
         }
-        let before = self.offers.len();
         self.offers.retain(|one| one.domain != offer.domain);
-        if self.offers.len() == before {
-            heard.changed = true;
+        heard.changed = true;
+        if MAX_OFFERS <= self.offers.len() {
+            let table = &self.table;
+            self.offers.retain(|one| match table.find(&one.domain) {
+                Some(record) => record.version < one.new,
+                None => true,
+            });
         }
         if MAX_OFFERS <= self.offers.len() {
             heard.is_full = true;
@@ -145,22 +201,34 @@ impl Node {
             && record.name == offer.domain
     }
 
-    /// Whether the record of the domain has not come to the version of a handover, and no greater one of the domain is kept.
+    /// Whether a handover is one from this node to this cluster, with the record of its domain and version.
+    pub(crate) fn is_offer_of_mine(&self, to: ClusterNo, offer: &Offer) -> bool {
+        let record = &offer.record.record;
+        self.is_own(offer.old)
+            && self.clusters.writer_of(offer.new) == Some(to)
+            && record.version == offer.new
+            && record.name == offer.domain
+    }
+
+    /// Whether the record of the domain has not come to the version of a handover, and no later one of the domain is kept.
     fn is_open(&self, offer: &Offer) -> bool {
         let has_come = match self.table.find(&offer.domain) {
             Some(record) => offer.new <= record.version,
             None => false,
         };
-        let is_less = self
-            .offers
-            .iter()
-            .any(|one| one.domain == offer.domain && offer.new < one.new);
-        !has_come && !is_less
+        let kept = self.offers.iter().find(|one| one.domain == offer.domain);
+        let is_earlier = match kept {
+            Some(kept) => {
+                offer.new < kept.new || offer.new == kept.new && epoch_of(offer) < epoch_of(kept)
+            }
+            None => false,
+        };
+        !has_come && !is_earlier
     }
 
     /// Completes a handover that was told to this node: it becomes the active cluster of the domain, with the version that
     /// is answered. Refused with [`HandError::NoHandover`] where none was told, and with [`HandError::Ready`]: its record
-    /// has come to the version already, which ends the handover; it is late in the domain; it has not learned all that was
+    /// has come to the version already; it is late in the domain; it has not learned all that was
     /// written with the old version.
     pub fn complete(&mut self, domain: &Name) -> Result<u64, CallError<HandError>> {
         self.begin_writing()?;
@@ -173,13 +241,7 @@ impl Node {
         let Some(place) = self.offers.iter().position(|one| one.domain == *domain) else {
             return Err(CallError::Refused(HandError::NoHandover));
         };
-        let ready = self.is_ready(place);
-        if let Err(ReadyError::Overtaken { version }) = ready {
-            self.offers.retain(|one| one.domain != *domain);
-            let overtaken = ReadyError::Overtaken { version };
-            return Err(CallError::Refused(HandError::Ready(overtaken)));
-        }
-        if let Err(error) = ready {
+        if let Err(error) = self.is_ready(place) {
             return Err(CallError::Refused(HandError::Ready(error)));
         }
         let mut theirs = DomainTable::new(self.alloc);
@@ -219,7 +281,8 @@ impl Node {
         self.has_read(source, offer)
     }
 
-    /// Whether the node is done with each queue of a source up to what a handover promises.
+    /// Whether the node is done with each queue of a source up to what a handover promises, under the epoch of the promise: a
+    /// source whose queues have another one promises anew.
     fn has_read(&self, source: ClusterNo, offer: &Offer) -> Result<(), ReadyError> {
         let Some(peer) = self.peers.get(source.number as usize) else {
             return Ok(());
@@ -228,7 +291,7 @@ impl Node {
         for (promised, lane) in offer.places.as_slice().iter().zip(peer.lanes.iter()) {
             let done = lane.read().done();
             let is_there = lane.read().epoch() == promised.epoch && promised.place <= done;
-            if !is_there && lane.read().epoch() <= promised.epoch {
+            if !is_there {
                 return Err(ReadyError::NotYet {
                     shard,
                     done,
@@ -239,4 +302,28 @@ impl Node {
         }
         Ok(())
     }
+}
+
+/// The epoch under which a handover promises: that of the first shard's queue, since those of all shards begin together.
+fn epoch_of(offer: &Offer) -> u64 {
+    match offer.places.as_slice().first() {
+        Some(promised) => promised.epoch,
+        None => 0,
+    }
+}
+
+/// The same handover.
+pub(crate) fn copy_offer(alloc: Global, offer: &Offer) -> Result<Offer, OutOfMemory> {
+    let mut places = Vec::new(alloc);
+    places.extend_from_slice(offer.places.as_slice())?;
+    Ok(Offer {
+        domain: offer.domain.try_copy()?,
+        old: offer.old,
+        new: offer.new,
+        places: PromisedList::new(places),
+        late: offer.late,
+        record: ToldRecord {
+            record: offer.record.record.try_copy()?,
+        },
+    })
 }

@@ -3,9 +3,9 @@ use crate::framing::is_same_header;
 use crate::heard::Heard;
 use crate::node::Node;
 use crate::records::{record_fault, records_fault};
-use ndc_domain::ClusterNo;
+use ndc_domain::{ClusterNo, DomainRecord};
 use ndc_event::OutOfMemory;
-use ndc_node_frames::{Body, Frame, read_frame};
+use ndc_node_frames::{Body, Frame, Offer, ToldRecord, read_frame};
 
 impl Node {
     ghost use Rattle.std.specs.Prelude.{◌≡◌, ◌≢◌, IfErr, OnErr};
@@ -77,18 +77,42 @@ impl Node {
                 if !self.is_offer_to_me(from, offer) {
                     return Err(FrameError::Handover);
                 }
-                match record_fault(&self.clusters, &offer.record.record) {
-                    Some(fault) => Err(FrameError::Record(fault)),
-                    None => Ok(()),
-                }
+                self.has_no_fault(&offer.record.record)
             }
-            Body::Records(records) => {
-                match records_fault(&self.clusters, records.records.as_slice()) {
-                    Some(fault) => Err(FrameError::Record(fault)),
-                    None => Ok(()),
-                }
+            Body::Records(told) => self.have_no_fault(told.records.as_slice()),
+            Body::Recalled(piece) => {
+                self.are_mine(from, piece.handovers.as_slice())?;
+                self.have_no_fault(piece.records.as_slice())
             }
             _ => Ok(()),
+        }
+    }
+
+    /// Tests that handovers are ones from this node to another one.
+    fn are_mine(&self, to: ClusterNo, offers: &[Offer]) -> Result<(), FrameError> {
+        for offer in offers {
+            self.has_each_shard(offer.places.as_slice().len())?;
+            if !self.is_offer_of_mine(to, offer) {
+                return Err(FrameError::Handover);
+            }
+            self.has_no_fault(&offer.record.record)?;
+        }
+        Ok(())
+    }
+
+    /// Tests that a record breaks no rule.
+    fn has_no_fault(&self, record: &DomainRecord) -> Result<(), FrameError> {
+        match record_fault(&self.clusters, record) {
+            Some(fault) => Err(FrameError::Record(fault)),
+            None => Ok(()),
+        }
+    }
+
+    /// Tests that records break no rule.
+    fn have_no_fault(&self, records: &[ToldRecord]) -> Result<(), FrameError> {
+        match records_fault(&self.clusters, records) {
+            Some(fault) => Err(FrameError::Record(fault)),
+            None => Ok(()),
         }
     }
 
@@ -113,8 +137,8 @@ impl Node {
             Body::Served(served) => self.hear_served(from, served, &mut heard)?,
             Body::Bootstrap(piece) => self.hear_bootstrap(from, piece, &mut heard)?,
             Body::Progress(held) => self.hear_reports(from, held, &mut heard)?,
-            Body::Recall(_recall) => {}
-            Body::Recalled(_piece) => {}
+            Body::Recall(recall) => self.hear_recall(from, recall, &mut heard)?,
+            Body::Recalled(piece) => self.hear_recalled(from, piece, &mut heard)?,
         }
         Ok(heard)
     }

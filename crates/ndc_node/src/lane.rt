@@ -3,8 +3,8 @@ use ndc_node_frames::Polled;
 use ndc_node_lanes::{HearError, ReadLane, Told};
 use std::alloc::Global;
 
-/// The last entry that was told as addressed.
-#[derive(Clone, Copy, Debug)]
+/// An entry that was told as addressed, by its place and the key of its batch.
+#[derive(Clone, Copy)]
 pub(crate) struct Last {
     pub(crate) place: u64,
     pub(crate) key: BatchKey,
@@ -24,6 +24,21 @@ impl Lane {
             read: ReadLane::new(alloc, 0, held),
             last: None,
         }
+    }
+
+    /// A lane that has come so far: under this epoch so many entries were told, of which these are not learned. Refused as
+    /// [`ReadLane::hear`] refuses them.
+    pub(crate) fn again(
+        alloc: Global,
+        most: usize,
+        epoch: u64,
+        read: u64,
+        held: Vec<Told>,
+        last: Option<Last>,
+    ) -> Result<Lane, HearError> {
+        let mut lane = ReadLane::new(alloc, epoch, most);
+        lane.hear(0, read, held)?;
+        Ok(Lane { read: lane, last })
     }
 
     /// The lane, to be read.
@@ -68,10 +83,29 @@ impl Lane {
         last: Option<Last>,
     ) -> Result<(), HearError> {
         self.read.hear(from, next, told)?;
-        if last.is_some() {
+        if self.is_later(last) {
             self.last = last;
         }
         Ok(())
+    }
+
+    /// Whether an entry comes after the last one that was told.
+    fn is_later(&self, entry: Option<Last>) -> bool {
+        match (self.last, entry) {
+            (_, None) => false,
+            (None, Some(_)) => true,
+            (Some(last), Some(entry)) => last.place < entry.place,
+        }
+    }
+
+    /// How many entries more it may hold.
+    pub(crate) fn room(&self) -> usize {
+        self.read.most().saturating_sub(self.read.held().len())
+    }
+
+    /// The last entry that was told as addressed.
+    pub(crate) fn last(&self) -> Option<Last> {
+        self.last
     }
 
     /// The batch of this key of a workflow is learned. Takes no memory.

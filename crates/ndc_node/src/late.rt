@@ -1,13 +1,13 @@
 use crate::admitting::Came;
 use crate::heard::Heard;
 use crate::node::Node;
-use crate::polling::{MAX_HALVES, copy_place};
+use crate::polling::copy_place;
 use ndc_domain::ClusterNo;
-use ndc_event::{BatchKey, Items, Name, OutOfMemory};
+use ndc_event::{Batch, BatchKey, Items, Name, OutOfMemory};
 use ndc_model_cells::Message;
-use ndc_node_frames::{Body, Bootstrap, Frame, Late, Messages, Place, Text, frame_text};
+use ndc_node_frames::{Body, Bootstrap, Late, Messages, Place, Poll, Text};
 use ndc_node_messages::{MessageError, message_text, read_message};
-use std::alloc::AllocError;
+use std::alloc::{AllocError, Global};
 
 /// Whether a message of a shard stands after a place.
 fn is_after(place: Option<&Place>, shard: u32, workflow: &Name, key: BatchKey) -> bool {
@@ -26,7 +26,7 @@ fn is_after(place: Option<&Place>, shard: u32, workflow: &Name, key: BatchKey) -
 }
 
 /// Whether two places are one.
-fn is_same_place(one: Option<&Place>, two: Option<&Place>) -> bool {
+pub(crate) fn is_same_place(one: Option<&Place>, two: Option<&Place>) -> bool {
     match (one, two) {
         (None, None) => true,
         (Some(one), Some(two)) => {
@@ -36,23 +36,68 @@ fn is_same_place(one: Option<&Place>, two: Option<&Place>) -> bool {
     }
 }
 
-/// What is gathered of a domain for a late reader.
+/// What is gathered for another node, as far as its frame has room.
 #[derive(Drop)]
-struct Gathered {
-    texts: Vec<Text>,
+pub(crate) struct Gathered {
+    /// The texts of the messages.
+    pub(crate) texts: Vec<Text>,
+    /// How many bytes they have.
     bytes: u64,
-    is_all: bool,
+    /// Whether nothing was left out.
+    pub(crate) is_all: bool,
+}
+
+/// What another node wants of a shard.
+#[derive(Clone, Copy)]
+pub(crate) struct Wanted<'a> {
+    pub(crate) shard: u32,
+    /// The place after which it wants messages.
+    pub(crate) place: Option<&'a Place>,
+    /// Messages that come to it in another way.
+    pub(crate) unread: &'a [Message],
+    /// How many bytes the texts may have.
+    pub(crate) largest: u64,
+}
+
+impl<'a> Wanted<'a> {
+    /// Whether the message of a batch is wanted.
+    fn has(&self, batch: &Batch) -> bool {
+        is_after(self.place, self.shard, &batch.workflow, batch.key)
+            && !is_batch_of(self.unread, batch)
+    }
+}
+
+/// Whether a batch is the own one of one of these messages.
+fn is_batch_of(messages: &[Message], batch: &Batch) -> bool {
+    for message in messages {
+        let one = &message.batch;
+        if one.key == batch.key && one.workflow == batch.workflow && one.domain == batch.domain {
+            return true;
+        }
+    }
+    false
+}
+
+impl Gathered {
+    /// Nothing yet. Takes no memory.
+    pub(crate) fn nothing(alloc: Global) -> Gathered {
+        Gathered {
+            texts: Vec::new(alloc),
+            bytes: 0,
+            is_all: true,
+        }
+    }
 }
 
 impl Node {
-    /// The frame with the next piece of a domain for a late reader.
+    /// The frame with the next piece of a domain for a late reader, which polls so of each shard.
     pub(crate) fn next_bootstrap(
         &self,
         to: ClusterNo,
         late: &Late,
-        largest: u64,
+        poll: &Poll,
     ) -> Result<Items<u8>, OutOfMemory> {
-        let gathered = self.gather(&late.domain, late.place.as_ref(), largest)?;
+        let gathered = self.gather(late, poll)?;
         let from = match &late.place {
             Some(place) => Some(copy_place(place)?),
             None => None,
@@ -63,80 +108,54 @@ impl Node {
             messages: Messages::new(gathered.texts),
             last: gathered.is_all,
         };
-        self.fitting_bootstrap(to, piece, largest)
+        self.fitting(to, Body::Bootstrap(piece), poll.largest)
     }
 
     /// The messages of a domain after a place, in order of shard, workflow and key, as far as their texts have room, one at
-    /// least.
-    fn gather(
-        &self,
-        domain: &Name,
-        place: Option<&Place>,
-        largest: u64,
-    ) -> Result<Gathered, OutOfMemory> {
-        let mut gathered = Gathered {
-            texts: Vec::new(self.alloc),
-            bytes: 0,
-            is_all: true,
-        };
+    /// least. What the reader has not read yet of the queues comes to it as entries: so what it has of this node, its levels
+    /// tell.
+    fn gather(&self, late: &Late, poll: &Poll) -> Result<Gathered, OutOfMemory> {
+        let mut gathered = Gathered::nothing(self.alloc);
         let mut shard: u32 = 0;
-        for seat in self.seats.as_slice() {
-            let messages = seat.cell.all_of(domain)?;
-            self.gather_of(&mut gathered, shard, place, messages, largest)?;
+        for (seat, polled) in self
+            .seats
+            .as_slice()
+            .iter()
+            .zip(poll.shards.as_slice().iter())
+        {
+            let wanted = Wanted {
+                shard,
+                place: late.place.as_ref(),
+                unread: seat.unread_by(polled),
+                largest: poll.largest,
+            };
+            let messages = seat.cell.all_of(&late.domain)?;
+            self.gather_of(&mut gathered, &wanted, messages)?;
             shard = shard.saturating_add(1);
         }
         Ok(gathered)
     }
 
-    /// The messages of a shard after a place.
-    fn gather_of(
+    /// Those of these messages of a shard that are wanted.
+    pub(crate) fn gather_of(
         &self,
         gathered: &mut Gathered,
-        shard: u32,
-        place: Option<&Place>,
+        wanted: &Wanted,
         messages: Vec<Message>,
-        largest: u64,
     ) -> Result<(), OutOfMemory> {
         for message in messages {
-            let is_next = is_after(place, shard, &message.batch.workflow, message.batch.key);
-            if !is_next || !gathered.is_all {
+            if !gathered.is_all || !wanted.has(&message.batch) {
                 continue;
             }
             let text = message_text(self.alloc, &message)?;
             gathered.bytes = gathered.bytes.saturating_add(text.len() as u64);
-            if largest < gathered.bytes && !gathered.texts.is_empty() {
+            if wanted.largest < gathered.bytes && !gathered.texts.is_empty() {
                 gathered.is_all = false;
                 continue;
             }
             gathered.texts.push(Items::new(text))?;
         }
         Ok(())
-    }
-
-    /// The frame of a piece, or of as many of its messages as the reader takes, one at least.
-    fn fitting_bootstrap(
-        &self,
-        to: ClusterNo,
-        piece: Bootstrap,
-        largest: u64,
-    ) -> Result<Items<u8>, OutOfMemory> {
-        let mut piece = piece;
-        for _half in 0..MAX_HALVES {
-            let count = piece.messages.as_slice().len();
-            let frame = self.frame_of(to, Body::Bootstrap(piece))?;
-            let text = frame_text(self.alloc, &frame)?;
-            if text.len() as u64 <= largest || count < 2 {
-                return Ok(Items::new(text));
-            }
-            let Frame { body, .. } = frame;
-            match body {
-                Body::Bootstrap(whole) => {
-                    piece = front_of(whole, count / 2);
-                }
-                _ => return Ok(Items::new(text)),
-            }
-        }
-        self.frame(to, Body::Bootstrap(piece))
     }
 
     /// A piece of a domain in which this node is late is heard: where it joins what the node has, its place rises over the
@@ -247,23 +266,4 @@ struct CameTo {
     place: Option<Place>,
     /// Whether each is learned.
     is_all: bool,
-}
-
-/// A piece with its first messages alone, which are not the last ones then.
-fn front_of(whole: Bootstrap, kept: usize) -> Bootstrap {
-    let Bootstrap {
-        domain,
-        from,
-        messages,
-        last,
-    } = whole;
-    let mut messages = messages.into_vec();
-    let is_whole = messages.len() <= kept;
-    messages.truncate(kept);
-    Bootstrap {
-        domain,
-        from,
-        messages: Messages::new(messages),
-        last: last && is_whole,
-    }
 }

@@ -1,6 +1,7 @@
 use crate::bounds::Bounds;
 use crate::error::{CallError, NodeError};
 use crate::letter::Letter;
+use crate::past::Past;
 use crate::peer::Peer;
 use crate::seat::Seat;
 use ndc_cluster::Home;
@@ -9,6 +10,7 @@ use ndc_event::{Name, OutOfMemory};
 use ndc_graceful::Handover;
 use ndc_model_cells::shard_of;
 use ndc_node_frames::Offer;
+use ndc_node_store::UsedVersion;
 use ndc_progress::Progress;
 use ndc_shard::Shard;
 use std::alloc::{AllocError, Global};
@@ -32,8 +34,12 @@ pub struct Node {
     /// The handovers that were told to this node, one a domain.
     pub(crate) offers: Vec<Offer>,
     pub(crate) letters: Vec<Letter>,
-    /// Whether a reader knows more of what the node has given out than the node itself.
-    pub(crate) is_behind: bool,
+    /// Whether it has all that it has given out.
+    pub(crate) past: Past,
+    /// The greatest epoch of its queues that a reader has told.
+    pub(crate) newest: u64,
+    /// With which versions of its own it may have written to domains before it lost something, one a domain.
+    pub(crate) used: Vec<UsedVersion>,
     /// Whether a call ran out of memory.
     pub(crate) is_spent: bool,
 }
@@ -54,7 +60,9 @@ impl Drop for Node {
             open: _open,
             offers: _offers,
             letters: _letters,
-            is_behind: _is_behind,
+            past: _past,
+            newest: _newest,
+            used: _used,
             is_spent: _is_spent,
         } = self;
     }
@@ -144,7 +152,9 @@ impl Node {
             open: Vec::new(alloc),
             offers: Vec::new(alloc),
             letters: Vec::new(alloc),
-            is_behind: false,
+            past: Past::Whole,
+            newest: 0,
+            used: Vec::new(alloc),
             is_spent: false,
         })
     }
@@ -182,9 +192,10 @@ impl Node {
         self.is_spent
     }
 
-    /// Whether a reader knows more of what the node has given out than the node itself: it writes nothing then.
+    /// Whether another node knows more of what this one has given out than the node itself: it writes nothing until the
+    /// others have sent it what it lacks, or [`Node::force`] is called.
     pub fn is_behind_its_past(&self) -> bool {
-        self.is_behind
+        self.past != Past::Whole
     }
 
     /// The cell in which a workflow lives, to be read.
@@ -235,15 +246,18 @@ impl Node {
         Ok(())
     }
 
-    /// Begins a call that writes: refused where the node is spent, or behind its past.
+    /// Ends the node, and gives its memory back.
+    pub fn close(self) {}
+
+    /// Begins a call that writes: refused where the node is spent, or behind its past, or others have to poll before.
     pub(crate) fn begin_writing<E>(&mut self) -> Result<(), CallError<E>> {
         if self.is_spent {
             return Err(CallError::Spent);
         }
-        if self.is_behind {
+        if self.past != Past::Whole {
             return Err(CallError::BehindItsPast);
         }
-        if self.peers.iter().any(|peer| peer.is_awaited) {
+        if self.is_awaiting() {
             return Err(CallError::Awaiting);
         }
         self.is_spent = true;

@@ -1,6 +1,6 @@
 use crate::lane::Lane;
 use ndc_event::{Name, OutOfMemory};
-use ndc_node_frames::{Late, Place};
+use ndc_node_frames::{Late, Place, Spot};
 use std::alloc::Global;
 
 /// What a node keeps of another one: as its reader, and as its source.
@@ -19,8 +19,14 @@ pub(crate) struct Peer {
     pub(crate) same_reports: bool,
     /// The greatest frame that the other node takes.
     pub(crate) largest: u64,
-    /// Whether the other node has not polled since this one was loaded.
+    /// Whether the other node has not polled since this one was loaded, or found itself behind its past.
     pub(crate) is_awaited: bool,
+    /// Whether the other node was last heard to follow the epochs of this one's queues.
+    pub(crate) follows: bool,
+    /// Whether the other node has sent all that it has for the recall.
+    pub(crate) is_recalled: bool,
+    /// How far the other node has come with what it sends for the recall.
+    pub(crate) spot: Option<Spot>,
 }
 
 /// The greatest frame that is sent to a node that has not said yet what it takes.
@@ -37,6 +43,9 @@ impl Drop for Peer {
             same_reports: _same_reports,
             largest: _largest,
             is_awaited: _is_awaited,
+            follows: _follows,
+            is_recalled: _is_recalled,
+            spot: _spot,
         } = self;
     }
 }
@@ -67,7 +76,17 @@ impl Peer {
             same_reports: false,
             largest: FIRST_LARGEST,
             is_awaited: false,
+            follows: false,
+            is_recalled: false,
+            spot: None,
         })
+    }
+
+    /// A recall begins: nothing was sent for it, and the other node has not told the epochs of this one's queues.
+    pub(crate) fn begin_recall(&mut self) {
+        self.follows = false;
+        self.is_recalled = false;
+        self.spot = None;
     }
 
     /// How far this node has come in a domain in which it is late there. None where it is not late.
@@ -78,6 +97,13 @@ impl Peer {
     /// The other node holds this one late in these domains: it is late in those of which it has not come to have all, and
     /// no longer keeps in mind that it has all of the others.
     pub(crate) fn hold_late(&mut self, domains: &[Name]) -> Result<(), OutOfMemory> {
+        self.fall_late(domains)?;
+        self.has_all.retain(|one| has_name(domains, one));
+        Ok(())
+    }
+
+    /// This node is late there in those of these domains of which it has not come to have all.
+    pub(crate) fn fall_late(&mut self, domains: &[Name]) -> Result<(), OutOfMemory> {
         for domain in domains {
             if !has_name(self.has_all.as_slice(), domain) && self.lack(domain).is_none() {
                 let domain = domain.try_copy()?;
@@ -87,7 +113,6 @@ impl Peer {
                 })?;
             }
         }
-        self.has_all.retain(|one| has_name(domains, one));
         Ok(())
     }
 

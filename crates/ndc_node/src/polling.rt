@@ -1,17 +1,14 @@
 use crate::heard::Heard;
 use crate::node::Node;
+use crate::past::Past;
 use crate::peer::{drop_name, has_name};
 use ndc_domain::ClusterNo;
 use ndc_event::{Items, Name, OutOfMemory};
 use ndc_node_frames::{
-    Body, Domains, Entries, Entry, EntryList, Frame, Late, Lates, Place, Poll, Polled, Polls,
-    frame_text,
+    Body, Domains, Entries, Entry, EntryList, Late, Lates, Place, Poll, Polled, Polls,
 };
 use ndc_node_lanes::Telling;
 use ndc_node_messages::message_text;
-
-/// How often what is to be told is halved, so that its frame fits: a frame has not more than 2^64 entries.
-pub(crate) const MAX_HALVES: u32 = 64;
 
 impl Node {
     /// What this node polls of a source.
@@ -52,6 +49,10 @@ impl Node {
         let mut tells_late = self.knows_other_late(from, &poll);
         let mut shard: u32 = 0;
         for polled in poll.shards.as_slice() {
+            if self.has_lost(shard, polled) {
+                self.owe_all(from)?;
+                heard.changed = true;
+            }
             let text = self.next_entries(from, shard, polled, poll.largest, tells_late)?;
             if let Some(text) = text {
                 heard.answers.push(text)?;
@@ -61,7 +62,7 @@ impl Node {
         }
         for late in poll.late.as_slice() {
             if self.is_late(from, &late.domain) {
-                let text = self.next_bootstrap(from, late, poll.largest)?;
+                let text = self.next_bootstrap(from, late, &poll)?;
                 heard.answers.push(text)?;
             }
         }
@@ -71,23 +72,36 @@ impl Node {
     /// The levels of a reader are noted. One that this node can't know of tells that the node is behind its past.
     fn note_levels(&mut self, from: ClusterNo, polls: &[Polled], heard: &mut Heard) {
         let reader = self.reader_of(from);
+        let mut is_ahead = false;
+        let mut follows = true;
         for (seat, polled) in self.seats.as_mut_slice().iter_mut().zip(polls.iter()) {
-            let before = seat.levels.trim_level();
-            match seat.tell(reader, polled) {
-                Telling::Ahead => {
-                    if !self.is_behind {
-                        self.is_behind = true;
-                        heard.changed = true;
-                    }
-                }
-                Telling::Noted => {
-                    if before != seat.levels.trim_level() {
-                        heard.changed = true;
-                    }
-                }
-                Telling::OtherEpoch => {}
+            let before = seat.level(reader);
+            let telling = seat.tell(reader, polled);
+            is_ahead = is_ahead || telling == Telling::Ahead;
+            follows = follows && seat.levels.epoch() == polled.epoch;
+            heard.changed = heard.changed || before != seat.level(reader);
+            if seat.levels.epoch() < polled.epoch {
+                self.newest = self.newest.max(polled.epoch);
+                heard.changed = true;
             }
         }
+        if is_ahead && self.past != Past::Behind {
+            self.fall_behind();
+            heard.changed = true;
+        }
+        self.note_polled(from, follows, heard);
+    }
+
+    /// A reader has polled: it is not awaited any more, and it is kept whether it follows the epochs of this node's queues.
+    fn note_polled(&mut self, from: ClusterNo, follows: bool, heard: &mut Heard) {
+        let was = self.past;
+        if let Some(peer) = self.peers.get_mut(from.number as usize) {
+            heard.changed = heard.changed || peer.is_awaited || peer.follows != follows;
+            peer.is_awaited = false;
+            peer.follows = follows;
+        }
+        self.begin_recall_if_due();
+        heard.changed = heard.changed || was != self.past;
     }
 
     /// A reader tells in which domains it is late, and of which it has come to have all.
@@ -106,8 +120,10 @@ impl Node {
         let Some(peer) = self.peers.get_mut(from.number as usize) else {
             return Ok(());
         };
-        peer.largest = poll.largest;
-        peer.is_awaited = false;
+        if peer.largest != poll.largest {
+            peer.largest = poll.largest;
+            heard.changed = true;
+        }
         for domain in poll.all.as_slice() {
             if has_name(peer.owes.as_slice(), domain) {
                 drop_name(&mut peer.owes, domain);
@@ -149,7 +165,7 @@ impl Node {
     /// The frame with what is new for a reader in a shard. None where nothing is, and the reader knows in which domains it
     /// is late.
     fn next_entries(
-        &mut self,
+        &self,
         to: ClusterNo,
         shard: u32,
         polled: &Polled,
@@ -165,12 +181,18 @@ impl Node {
         if is_same && seat.queue.len() <= from && !tells_late {
             return Ok(None);
         }
-        if is_same && from < seat.queue.first() {
-            self.owe_all(to)?;
-        }
         let piece = self.piece_from(to, shard, epoch, from, largest)?;
-        let text = self.fitting(to, piece, largest)?;
+        let text = self.fitting(to, Body::Entries(piece), largest)?;
         Ok(Some(text))
+    }
+
+    /// Whether a reader has not read entries that were dropped, under whatever epoch: it told to be done with them before, and
+    /// has lost what it had.
+    fn has_lost(&self, shard: u32, polled: &Polled) -> bool {
+        match self.seats.get(shard as usize) {
+            Some(seat) => polled.read < seat.queue.first(),
+            None => false,
+        }
     }
 
     /// A reader has lost what it had: it is late in all domains that name it.
@@ -248,58 +270,6 @@ impl Node {
         }
         Ok((entries, place))
     }
-
-    /// The frame of a piece, or of as many of its entries as the reader takes, one at least.
-    fn fitting(
-        &self,
-        to: ClusterNo,
-        piece: Entries,
-        largest: u64,
-    ) -> Result<Items<u8>, OutOfMemory> {
-        let mut piece = piece;
-        for _half in 0..MAX_HALVES {
-            let count = piece.entries.as_slice().len();
-            let frame = self.frame_of(to, Body::Entries(piece))?;
-            let text = frame_text(self.alloc, &frame)?;
-            if text.len() as u64 <= largest || count < 2 {
-                return Ok(Items::new(text));
-            }
-            let Frame { body, .. } = frame;
-            match body {
-                Body::Entries(whole) => {
-                    piece = front_of(whole, count / 2);
-                }
-                _ => return Ok(Items::new(text)),
-            }
-        }
-        self.frame(to, Body::Entries(piece))
-    }
-}
-
-/// A piece with its first entries alone.
-fn front_of(whole: Entries, kept: usize) -> Entries {
-    let Entries {
-        shard,
-        epoch,
-        from,
-        next,
-        late,
-        entries,
-    } = whole;
-    let next = match entries.as_slice().get(kept) {
-        Some(entry) => entry.place,
-        None => next,
-    };
-    let mut entries = entries.into_vec();
-    entries.truncate(kept);
-    Entries {
-        shard,
-        epoch,
-        from,
-        next,
-        late,
-        entries: EntryList::new(entries),
-    }
 }
 
 /// The same place.
@@ -312,7 +282,7 @@ pub(crate) fn copy_place(place: &Place) -> Result<Place, OutOfMemory> {
 }
 
 /// The same domain and place.
-fn copy_late(late: &Late) -> Result<Late, OutOfMemory> {
+pub(crate) fn copy_late(late: &Late) -> Result<Late, OutOfMemory> {
     let place = match &late.place {
         Some(place) => Some(copy_place(place)?),
         None => None,

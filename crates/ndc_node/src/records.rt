@@ -23,7 +23,7 @@ pub enum RecordFault {
 }
 
 /// The greatest version of a record, and the greatest number of its changes.
-const MAX_VERSION: u64 = 10_000_000_000_000;
+pub(crate) const MAX_VERSION: u64 = 10_000_000_000_000;
 
 const MAX_CONFIG: u64 = 100_000;
 
@@ -95,6 +95,7 @@ impl Node {
         }
         let is_same = self.table.same(&theirs);
         if let Some(peer) = self.peers.get_mut(from.number as usize) {
+            heard.changed = heard.changed || peer.same_records != is_same;
             peer.same_records = is_same;
         }
         Ok(())

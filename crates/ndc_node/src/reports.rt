@@ -104,6 +104,7 @@ impl Node {
         id: &Name,
         details: &Name,
     ) -> Result<(u64, u64), CallError<ReportError>> {
+        self.writes_anew(domain)?;
         let (version, started) = match self.beating(domain, workflow, id) {
             Ok(found) => found,
             Err(CommandError::Memory) => return Err(CallError::Memory),
@@ -181,8 +182,10 @@ impl Node {
             heard.changed = true;
         }
         let count = self.progress.list(self.alloc)?.len();
+        let is_same = held == count && told.reports.as_slice().len() == count;
         if let Some(peer) = self.peers.get_mut(from.number as usize) {
-            peer.same_reports = held == count && told.reports.as_slice().len() == count;
+            heard.changed = heard.changed || peer.same_reports != is_same;
+            peer.same_reports = is_same;
         }
         Ok(())
     }

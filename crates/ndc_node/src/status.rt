@@ -1,10 +1,5 @@
-use crate::admitting::Came;
-use crate::error::CallError;
-use crate::heard::Heard;
-use crate::letter::Letter;
 use crate::node::Node;
 use ndc_domain::ClusterNo;
-use std::mem;
 
 /// How far a shard of a node has come.
 #[derive(Clone, Copy, Debug)]
@@ -42,7 +37,7 @@ impl Node {
             entries: seat.queue.len(),
             dropped: seat.queue.first(),
             least: seat.levels.trim_level(),
-            put_off: seat.waiting,
+            put_off: seat.waiting(),
         })
     }
 
@@ -57,61 +52,5 @@ impl Node {
             lacks: peer.lacks.len(),
             owes: peer.owes.len(),
         })
-    }
-
-    /// The messages that were set aside, in order.
-    pub fn letters(&self) -> &[Letter] {
-        self.letters.as_slice()
-    }
-
-    /// Takes up all letters again, in order: those that are not admitted now are letters again.
-    pub fn retry(&mut self) -> Result<Heard, CallError<()>> {
-        self.begin()?;
-        let heard = self.taken_again();
-        self.end(heard)
-    }
-
-    /// All letters are taken up again.
-    fn taken_again(&mut self) -> Result<Heard, CallError<()>> {
-        let mut heard = Heard::nothing(self.alloc);
-        let letters = mem::replace(&mut self.letters, Vec::new(self.alloc));
-        for letter in letters {
-            let came = self.take_text(letter.source, letter.text.as_slice(), &mut heard)?;
-            if came == Came::In {
-                heard.changed = true;
-            }
-        }
-        Ok(heard)
-    }
-
-    /// The caller vouches that the node has all that it has given out, whatever readers tell: it writes again.
-    pub fn force(&mut self) {
-        self.is_behind = false;
-        for peer in self.peers.as_mut_slice() {
-            peer.is_awaited = false;
-        }
-    }
-
-    /// The node was made again as it was once: it writes when all other nodes have polled, since each of them tells where it
-    /// knows more of this node than the node itself; or when the caller vouches for it ([`Node::force`]).
-    pub fn loaded(&mut self) {
-        let me = self.me.number as usize;
-        for place in 0..self.peers.len() {
-            if place != me {
-                if let Some(peer) = self.peers.get_mut(place) {
-                    peer.is_awaited = true;
-                }
-            }
-        }
-    }
-
-    /// Lets go of a letter, by its place. What was told with it stays held, so that its source drops nothing from there on.
-    /// Whether there was one.
-    pub fn drop_letter(&mut self, place: usize) -> bool {
-        if self.letters.len() <= place {
-            return false;
-        }
-        self.letters.remove(place);
-        true
     }
 }
