@@ -1,13 +1,15 @@
+use crate::reply::{Code, Reply};
 use ndc_event::OutOfMemory;
-use ndc_node::CallError;
 use ndc_text::line::push_number;
 use ndc_world_answers::AnswerText;
 use std::alloc::Global;
 
-/// The lines that are answered to one line.
+/// The lines that are answered to one line, and what became of it.
 pub(crate) struct Answer {
     alloc: Global,
     number: u64,
+    code: Code,
+    has_changed: bool,
     text: Vec<u8>,
 }
 
@@ -16,6 +18,8 @@ impl Drop for Answer {
         let Answer {
             alloc: _alloc,
             number: _number,
+            code: _code,
+            has_changed: _has_changed,
             text: _text,
         } = self;
     }
@@ -27,6 +31,8 @@ impl Answer {
         Answer {
             alloc,
             number,
+            code: Code::Done,
+            has_changed: false,
             text: Vec::new(alloc),
         }
     }
@@ -36,14 +42,26 @@ impl Answer {
         self.alloc
     }
 
-    /// The lines.
-    pub(crate) fn into_text(self) -> Vec<u8> {
+    /// Whether the line changed the node.
+    pub(crate) fn has_changed(&self) -> bool {
+        self.has_changed
+    }
+
+    /// Notes whether the line changed the node.
+    pub(crate) fn note(&mut self, has_changed: bool) {
+        self.has_changed = has_changed;
+    }
+
+    /// The reply that it is.
+    pub(crate) fn into_reply(self) -> Reply {
         let Answer {
             alloc: _alloc,
             number: _number,
+            code,
+            has_changed: _has_changed,
             text,
         } = self;
-        text
+        Reply { code, text }
     }
 
     /// Appends words as they are.
@@ -69,27 +87,32 @@ impl Answer {
         self.text.extend_from_slice(b"\n")
     }
 
-    /// The whole line that says what came of the line.
-    pub(crate) fn say(&mut self, words: &[u8]) -> Result<(), OutOfMemory> {
-        self.begin(words)?;
+    /// The line was done.
+    pub(crate) fn done(&mut self) -> Result<(), OutOfMemory> {
+        self.begin(b"ok")?;
+        self.end()
+    }
+
+    /// The line was done; this many things came of it.
+    pub(crate) fn count(&mut self, number: u64) -> Result<(), OutOfMemory> {
+        self.begin(b"ok")?;
+        self.push_number(number)?;
+        self.end()
+    }
+
+    /// The line was not done, for this cause.
+    pub(crate) fn refuse(&mut self, code: Code, cause: &[u8]) -> Result<(), OutOfMemory> {
+        self.code = code;
+        self.begin(b"refused ")?;
+        self.push(cause)?;
         self.end()
     }
 
     /// What came of the line, as a script's line answers it.
     pub(crate) fn tell(&mut self, answer: AnswerText) -> Result<(), OutOfMemory> {
-        answer.push_behind_number(&mut self.text, self.number)
-    }
-
-    /// Why a call was not done, where it is no refusal of its own: whether it is so.
-    pub(crate) fn tell_other<E>(&mut self, error: &CallError<E>) -> Result<bool, OutOfMemory> {
-        match error {
-            CallError::Spent => self.say(b"refused Spent")?,
-            CallError::BehindItsPast => self.say(b"refused BehindItsPast")?,
-            CallError::Awaiting => self.say(b"refused Awaiting")?,
-            CallError::Full => self.say(b"refused Full")?,
-            CallError::Memory => self.say(b"refused Memory")?,
-            CallError::Refused(_) => return Ok(false),
+        if answer.is_refusal() {
+            self.code = Code::Refused;
         }
-        Ok(true)
+        answer.push_behind_number(&mut self.text, self.number)
     }
 }

@@ -1,5 +1,7 @@
 use crate::answer::Answer;
+use crate::reply::Code;
 use ndc_current::status;
+use ndc_domain::ClusterNo;
 use ndc_event::{Batch, Name, OutOfMemory};
 use ndc_node::Node;
 use ndc_script_types::{Act, Header};
@@ -51,7 +53,7 @@ pub(crate) fn read(
             workflow,
             ..
         } => tell_runs(node, domain, workflow, Shown::Dump, answer),
-        _ => answer.say(b"refused NotOfANode"),
+        _ => answer.refuse(Code::Unreadable, b"NotOfANode"),
     }
 }
 
@@ -159,13 +161,13 @@ fn dump(
 /// The members of a domain, by the node's record of it.
 fn members(node: &Node, domain: &Name, answer: &mut Answer) -> Result<(), OutOfMemory> {
     let Some(record) = node.records().find(domain) else {
-        return answer.say(b"refused UnknownDomain");
+        return answer.refuse(Code::Refused, b"UnknownDomain");
     };
     answer.begin(b"ok ")?;
     let clusters = node.clusters();
     let mut is_first = true;
     for number in 0..clusters.count() {
-        let cluster = ndc_domain::ClusterNo { number };
+        let cluster = ClusterNo { number };
         if record.members.has(cluster) {
             if !is_first {
                 answer.push(b",")?;

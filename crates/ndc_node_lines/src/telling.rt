@@ -1,12 +1,14 @@
 use crate::answer::Answer;
+use crate::learning::{tell_batch, tell_learned};
+use crate::reply::Code;
+use crate::told::tell_error;
 use crate::words::split_word;
 use ndc_domain::ClusterNo;
-use ndc_event::{Batch, BatchKey, Items, Name, OutOfMemory};
+use ndc_event::{BatchKey, Items, Name, OutOfMemory};
 use ndc_node::{FrameError, Heard, Node};
 use ndc_script_types::Header;
 use ndc_script_words::number_of;
-use ndc_text::print_batch;
-use std::alloc::{AllocError, Global};
+use std::alloc::AllocError;
 
 /// Answers a line for the node itself: whether it is one.
 pub(crate) fn tell_node(
@@ -22,7 +24,8 @@ pub(crate) fn tell_node(
         ask(node, header, rest, answer)?;
     } else if word == b"trim".as_slice() {
         let dropped = node.trim();
-        count(answer, dropped)?;
+        answer.note(dropped > 0);
+        answer.count(dropped)?;
     } else if word == b"reapply".as_slice() {
         reapply(node, answer)?;
     } else {
@@ -51,10 +54,12 @@ fn tell_aside(
         drop_letter(node, rest, answer)?;
     } else if word == b"force".as_slice() {
         node.force();
-        answer.say(b"ok")?;
+        answer.note(true);
+        answer.done()?;
     } else if word == b"loaded".as_slice() {
         node.loaded();
-        answer.say(b"ok")?;
+        answer.note(true);
+        answer.done()?;
     } else if word == b"status".as_slice() {
         status(node, answer)?;
     } else {
@@ -67,52 +72,37 @@ fn tell_aside(
 fn retry(node: &mut Node, answer: &mut Answer) -> Result<(), OutOfMemory> {
     match node.retry() {
         Ok(heard) => tell_heard(&heard, answer),
-        Err(error) => {
-            answer.tell_other(&error)?;
-            Ok(())
-        }
+        Err(error) => tell_error(answer, error),
     }
-}
-
-/// `ok`, and a number.
-fn count(answer: &mut Answer, number: u64) -> Result<(), OutOfMemory> {
-    answer.begin(b"ok")?;
-    answer.push_number(number)?;
-    answer.end()
-}
-
-/// The cluster of a name, where there is one.
-fn cluster(header: &Header, name: &[u8]) -> Option<ClusterNo> {
-    header.clusters.find(name)
 }
 
 /// `hear FRAME`: what became learned, frames to be sent, and what came of it in numbers.
 fn hear(node: &mut Node, frame: &[u8], answer: &mut Answer) -> Result<(), OutOfMemory> {
     match node.hear(frame) {
         Ok(heard) => tell_heard(&heard, answer),
-        Err(FrameError::Memory) => Err(AllocError),
-        Err(error) => answer.say(word_of(error)),
+        Err(error) => tell_unheard(error, answer),
     }
 }
 
-/// The answer of a frame that is not heard.
-fn word_of(error: FrameError) -> &'static [u8] {
+/// Answers a frame that is not heard.
+fn tell_unheard(error: FrameError, answer: &mut Answer) -> Result<(), OutOfMemory> {
     match error {
-        FrameError::Spent => b"refused Spent",
-        FrameError::TooLong => b"refused TooLong",
-        FrameError::Text { .. } => b"refused NoFrame",
-        FrameError::OtherNode => b"refused OtherNode",
-        FrameError::UnknownSender => b"refused UnknownSender",
-        FrameError::OtherHeader => b"refused OtherHeader",
-        FrameError::Shards => b"refused Shards",
-        FrameError::Handover => b"refused Handover",
-        FrameError::Record(_) => b"refused Record",
-        FrameError::Memory => b"refused Memory",
+        FrameError::Spent => answer.refuse(Code::Spent, b"Spent"),
+        FrameError::TooLong => answer.refuse(Code::Refused, b"TooLong"),
+        FrameError::Text { .. } => answer.refuse(Code::Unreadable, b"NoFrame"),
+        FrameError::OtherNode => answer.refuse(Code::Refused, b"OtherNode"),
+        FrameError::UnknownSender => answer.refuse(Code::Refused, b"UnknownSender"),
+        FrameError::OtherHeader => answer.refuse(Code::Refused, b"OtherHeader"),
+        FrameError::Shards => answer.refuse(Code::Refused, b"Shards"),
+        FrameError::Handover => answer.refuse(Code::Refused, b"Handover"),
+        FrameError::Record(_) => answer.refuse(Code::Refused, b"Record"),
+        FrameError::Memory => Err(AllocError),
     }
 }
 
 /// What was heard: each batch that became learned, each frame that is to be sent, and the numbers.
 fn tell_heard(heard: &Heard, answer: &mut Answer) -> Result<(), OutOfMemory> {
+    answer.note(heard.changed);
     for batch in heard.learned.as_slice() {
         tell_learned(batch, answer)?;
     }
@@ -124,18 +114,6 @@ fn tell_heard(heard: &Heard, answer: &mut Answer) -> Result<(), OutOfMemory> {
     if heard.is_full {
         answer.push(b" full")?;
     }
-    answer.end()
-}
-
-/// A batch that became learned.
-fn tell_learned(batch: &Batch, answer: &mut Answer) -> Result<(), OutOfMemory> {
-    let text = print_batch(answer.alloc(), batch)?;
-    answer.push(b"learned ")?;
-    answer.push(batch.domain.as_bytes())?;
-    answer.push(b" ")?;
-    answer.push(batch.workflow.as_bytes())?;
-    answer.push(b" ")?;
-    answer.push(text.as_slice())?;
     answer.end()
 }
 
@@ -151,12 +129,12 @@ fn tell_frames(frames: &[Items<u8>], answer: &mut Answer) -> Result<(), OutOfMem
 
 /// `ask NAME`: what the node would say to another one.
 fn ask(node: &Node, header: &Header, name: &[u8], answer: &mut Answer) -> Result<(), OutOfMemory> {
-    let Some(to) = cluster(header, name) else {
-        return answer.say(b"refused UnknownName");
+    let Some(to) = header.clusters.find(name) else {
+        return answer.refuse(Code::Refused, b"UnknownName");
     };
     let frames = node.ask(to)?;
     tell_frames(frames.as_slice(), answer)?;
-    count(answer, frames.len() as u64)
+    answer.count(frames.len() as u64)
 }
 
 /// `rewind NAME`: all that a source has told and that is not done is asked for again.
@@ -166,22 +144,25 @@ fn rewind(
     name: &[u8],
     answer: &mut Answer,
 ) -> Result<(), OutOfMemory> {
-    let Some(source) = cluster(header, name) else {
-        return answer.say(b"refused UnknownName");
+    let Some(source) = header.clusters.find(name) else {
+        return answer.refuse(Code::Refused, b"UnknownName");
     };
     node.rewind(source);
-    answer.say(b"ok")
+    answer.note(true);
+    answer.done()
 }
 
-/// `reapply`: how many batches were written.
+/// `reapply`: the batches that were written, for an index, and how many.
 fn reapply(node: &mut Node, answer: &mut Answer) -> Result<(), OutOfMemory> {
-    match node.reapply() {
-        Ok(written) => count(answer, written.len() as u64),
-        Err(error) => {
-            answer.tell_other(&error)?;
-            Ok(())
-        }
+    let written = match node.reapply() {
+        Ok(written) => written,
+        Err(error) => return tell_error(answer, error),
+    };
+    answer.note(!written.is_empty());
+    for (domain, workflow, key) in written.as_slice() {
+        tell_batch(node, domain, workflow, *key, answer)?;
     }
+    answer.count(written.len() as u64)
 }
 
 /// `forget DOMAIN WORKFLOW VERSION.TASK`: drops the message of a batch that is put off.
@@ -194,15 +175,15 @@ fn forget(node: &mut Node, rest: &[u8], answer: &mut Answer) -> Result<(), OutOf
         Name::new(alloc, workflow),
         key_of(key),
     ) else {
-        return answer.say(b"refused NoLine");
+        return answer.refuse(Code::Unreadable, b"NoLine");
     };
     match node.forget(&domain, &workflow, key) {
-        Ok(true) => answer.say(b"ok"),
-        Ok(false) => answer.say(b"refused NotPutOff"),
-        Err(error) => {
-            answer.tell_other(&error)?;
-            Ok(())
+        Ok(true) => {
+            answer.note(true);
+            answer.done()
         }
+        Ok(false) => answer.refuse(Code::Refused, b"NotPutOff"),
+        Err(error) => tell_error(answer, error),
     }
 }
 
@@ -221,13 +202,12 @@ fn key_of(text: &[u8]) -> Option<BatchKey> {
 
 /// `letters`: how many there are, and a line for each.
 fn letters(node: &Node, answer: &mut Answer) -> Result<(), OutOfMemory> {
-    count(answer, node.letters().len() as u64)?;
+    answer.count(node.letters().len() as u64)?;
     for letter in node.letters() {
-        let cause = format!(in answer.alloc(); "{:?}", letter.cause)?;
         answer.push(b"letter from")?;
         answer.push_number(u64::from(letter.source.number))?;
         answer.push(b" ")?;
-        answer.push(cause.as_bytes())?;
+        answer.push(letter.cause.as_slice())?;
         answer.end()?;
     }
     Ok(())
@@ -236,12 +216,13 @@ fn letters(node: &Node, answer: &mut Answer) -> Result<(), OutOfMemory> {
 /// `drop N`: lets go of a letter, counted from 0.
 fn drop_letter(node: &mut Node, rest: &[u8], answer: &mut Answer) -> Result<(), OutOfMemory> {
     let Some(number) = number_of(rest) else {
-        return answer.say(b"refused NoNumber");
+        return answer.refuse(Code::Unreadable, b"NoNumber");
     };
     if node.drop_letter(number as usize) {
-        answer.say(b"ok")
+        answer.note(true);
+        answer.done()
     } else {
-        answer.say(b"refused NoLetter")
+        answer.refuse(Code::Refused, b"NoLetter")
     }
 }
 

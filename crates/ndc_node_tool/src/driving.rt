@@ -1,8 +1,8 @@
 use crate::input::{LineError, Lines};
 use crate::journal::Journal;
-use ndc_event::OutOfMemory;
+use crate::keeping::Keeper;
 use ndc_node::Bounds;
-use ndc_node_lines::{OpenError, Session, may_change};
+use ndc_node_lines::{Code, LoadError, Loaded, OpenError, Reply, Session};
 use ndc_port::{Sink, Source, write_all};
 use std::alloc::{AllocError, AllocFailed, Global};
 
@@ -14,16 +14,14 @@ const BOUNDS: Bounds = Bounds {
     letters: 1_000,
 };
 
-/// The line by which a node knows that it was brought to where it was: it is kept like each other one, so that what comes
-/// after it comes to the same when the lines are done again.
-const LOADED: &[u8] = b"loaded";
-
 /// The statuses that the program ends with.
 const OK: u8 = 0;
 
+const WORDS: u8 = 2;
+
 const NO_NODE: u8 = 2;
 
-const OTHER_STORE: u8 = 3;
+const NO_STORE: u8 = 3;
 
 const NOT_WRITTEN: u8 = 4;
 
@@ -41,9 +39,12 @@ pub(crate) struct Streams<S: Source + Drop, O: Sink + Drop, E: Sink + Drop> {
 
 /// Why the program ends before its lines do.
 #[derive(Clone, Copy, Debug, PartialEq, Eq)]
-enum Stop {
+pub(crate) enum Stop {
+    Words,
+    NoFile,
     NoNode,
     OtherStore,
+    BadStore,
     NotWritten,
     NotKept,
     NotRead,
@@ -74,8 +75,11 @@ impl From<LineError> for Stop {
 /// The status of a program that ends so, and what it tells.
 fn told_of(stop: Stop) -> (u8, &'static str) {
     match stop {
+        Stop::Words => (WORDS, "ndc_node: words: [FILE]\n"),
+        Stop::NoFile => (NOT_READ, "ndc_node: the file is not opened or read\n"),
         Stop::NoNode => (NO_NODE, "ndc_node: no header with a node\n"),
-        Stop::OtherStore => (OTHER_STORE, "ndc_node: the file is of another node\n"),
+        Stop::OtherStore => (NO_STORE, "ndc_node: the file is of another node\n"),
+        Stop::BadStore => (NO_STORE, "ndc_node: the file is no store with its units\n"),
         Stop::NotWritten => (NOT_WRITTEN, "ndc_node: output failed\n"),
         Stop::NotKept => (NOT_WRITTEN, "ndc_node: the file is not written\n"),
         Stop::NotRead => (NOT_READ, "ndc_node: input failed\n"),
@@ -90,12 +94,16 @@ pub(crate) fn drive<J: Journal, S: Source + Drop, O: Sink + Drop, E: Sink + Drop
     journal: &mut J,
     streams: &mut Streams<S, O, E>,
 ) -> u8 {
-    let stop = match run(alloc, kept, journal, streams) {
-        Ok(()) => return OK,
-        Err(stop) => stop,
-    };
+    match run(alloc, kept, journal, streams) {
+        Ok(()) => OK,
+        Err(stop) => tell(&mut streams.err, stop),
+    }
+}
+
+/// Tells why the program ends, and gives the status that it ends with.
+pub(crate) fn tell<E: Sink>(err: &mut E, stop: Stop) -> u8 {
     let (status, words) = told_of(stop);
-    match write_all(&mut streams.err, words.as_bytes()) {
+    match write_all(err, words.as_bytes()) {
         Ok(()) => status,
         Err(_) => status,
     }
@@ -109,24 +117,15 @@ fn run<J: Journal, S: Source + Drop, O: Sink + Drop, E: Sink + Drop>(
     streams: &mut Streams<S, O, E>,
 ) -> Result<(), Stop> {
     let mut lines = Lines::new(alloc);
-    let opened = open(alloc, &mut lines, &mut streams.source)?;
-    let Opened { session, text } = opened;
-    let mut session = session;
-    begin(
-        alloc,
-        &mut session,
-        text.as_slice(),
-        kept,
-        journal,
-        &mut streams.err,
-    )?;
+    let named = read_named(alloc, &mut lines, &mut streams.source)?;
+    let (mut session, mut keeper) = begin(alloc, &named, kept, journal, &mut streams.err)?;
     for _line in 0..u64::MAX {
         let Some(line) = lines.next(&mut streams.source)? else {
             return Ok(());
         };
-        let mut text = session.line(line.as_slice())?;
+        let mut text = text_of(session.line(line.as_slice()))?;
         text.extend_from_slice(b".\n")?;
-        keep(alloc, line.as_slice(), journal)?;
+        keeper.keep(&mut session, journal)?;
         if write_all(&mut streams.out, text.as_slice()).is_err() {
             return Err(Stop::NotWritten);
         }
@@ -134,109 +133,109 @@ fn run<J: Journal, S: Source + Drop, O: Sink + Drop, E: Sink + Drop>(
     Ok(())
 }
 
-/// Keeps a line that may have changed the node.
-fn keep<J: Journal>(alloc: Global, line: &[u8], journal: &mut J) -> Result<(), Stop> {
-    if !may_change(line) {
-        return Ok(());
-    }
-    let mut bytes = Vec::new(alloc);
-    bytes.extend_from_slice(line)?;
-    bytes.extend_from_slice(b"\n")?;
-    keep_all(bytes.as_slice(), journal)
-}
-
-/// Keeps bytes.
-fn keep_all<J: Journal>(bytes: &[u8], journal: &mut J) -> Result<(), Stop> {
-    match journal.keep(bytes) {
-        Ok(()) => Ok(()),
-        Err(_) => Err(Stop::NotKept),
+/// The lines of a reply, unless memory ran out.
+pub(crate) fn text_of(reply: Reply) -> Result<Vec<u8>, Stop> {
+    let Reply { code, text } = reply;
+    if code == Code::Memory {
+        Err(Stop::Memory)
+    } else {
+        Ok(text)
     }
 }
 
-/// A node that was made, and the lines that said which.
+/// Which node it is, as the first lines say it.
 #[derive(Drop)]
-struct Opened {
-    session: Session,
-    text: Vec<u8>,
+struct Named {
+    /// The lines of the header, each with its end.
+    header: Vec<u8>,
+    /// The node's name.
+    name: Vec<u8>,
 }
 
-/// Reads the header and which node it is, and makes it.
-fn open<S: Source>(alloc: Global, lines: &mut Lines, source: &mut S) -> Result<Opened, Stop> {
-    let mut text = Vec::new(alloc);
+/// Reads the header and which node it is.
+fn read_named<S: Source>(alloc: Global, lines: &mut Lines, source: &mut S) -> Result<Named, Stop> {
+    let mut header = Vec::new(alloc);
     for _line in 0..u64::MAX {
         let Some(line) = lines.next(source)? else {
             return Err(Stop::NoNode);
         };
-        if let Some(name) = line.as_slice().strip_prefix(b"node ") {
-            let session = match Session::open(alloc, text.as_slice(), name, BOUNDS) {
-                Ok(session) => session,
-                Err(OpenError::Memory) => return Err(Stop::Memory),
-                Err(_) => return Err(Stop::NoNode),
-            };
-            text.extend_from_slice(line.as_slice())?;
-            text.extend_from_slice(b"\n")?;
-            return Ok(Opened { session, text });
+        if let Some(word) = line.as_slice().strip_prefix(b"node ") {
+            let mut name = Vec::new(alloc);
+            name.extend_from_slice(word)?;
+            return Ok(Named { header, name });
         }
-        text.extend_from_slice(line.as_slice())?;
-        text.extend_from_slice(b"\n")?;
+        header.extend_from_slice(line.as_slice())?;
+        header.extend_from_slice(b"\n")?;
     }
     Err(Stop::NoNode)
 }
 
-/// Brings a node to where it was, by what was kept; where nothing was, keeps which node it is.
+/// The node, as it was kept; where nothing was, a new one, of which a store is kept.
 fn begin<J: Journal, E: Sink>(
     alloc: Global,
-    session: &mut Session,
-    text: &[u8],
+    named: &Named,
     kept: &[u8],
     journal: &mut J,
     err: &mut E,
-) -> Result<(), Stop> {
+) -> Result<(Session, Keeper), Stop> {
+    let new = new_session(alloc, named)?;
     if kept.is_empty() {
-        return keep_all(text, journal);
+        let mut keeper = Keeper::new();
+        keeper.renew(&new, journal)?;
+        return Ok((new, keeper));
     }
-    let Some(rest) = kept.strip_prefix(text) else {
-        return Err(Stop::OtherStore);
+    let Loaded { session, dropped } = load(alloc, &new, kept)?;
+    let mut session = session;
+    if dropped > 0 {
+        cut(kept.len(), dropped, journal, err)?;
+    }
+    let mut keeper = Keeper::after(&session, kept.len() as u64)?;
+    keeper.keep(&mut session, journal)?;
+    Ok((session, keeper))
+}
+
+/// The node of a name, in which nothing has happened.
+fn new_session(alloc: Global, named: &Named) -> Result<Session, Stop> {
+    match Session::open(
+        alloc,
+        named.header.as_slice(),
+        named.name.as_slice(),
+        BOUNDS,
+    ) {
+        Ok(session) => Ok(session),
+        Err(OpenError::Memory) => Err(Stop::Memory),
+        Err(_) => Err(Stop::NoNode),
+    }
+}
+
+/// What was kept of a node, where it is the one of this session.
+fn load(alloc: Global, new: &Session, kept: &[u8]) -> Result<Loaded, Stop> {
+    let loaded = match Session::load(alloc, kept, BOUNDS) {
+        Ok(loaded) => loaded,
+        Err(LoadError::Memory) => return Err(Stop::Memory),
+        Err(_) => return Err(Stop::BadStore),
     };
-    let left = again(session, rest)?;
-    if left > 0 {
-        cut(kept.len(), left, journal, err)?;
+    if loaded.session.is_of_same_node(new) {
+        Ok(loaded)
+    } else {
+        Err(Stop::OtherStore)
     }
-    session.line(LOADED)?;
-    keep(alloc, LOADED, journal)
 }
 
-/// Does the kept lines again, and answers how many bytes there are behind the last whole one.
-fn again(session: &mut Session, kept: &[u8]) -> Result<usize, Stop> {
-    let mut rest = kept;
-    for _line in 0..kept.len() {
-        let Some(place) = rest.iter().position(|byte| *byte == b'\n') else {
-            return Ok(rest.len());
-        };
-        let (line, after) = rest.split_at(place);
-        session.line(line)?;
-        rest = match after {
-            [_, later @ ..] => later,
-            [] => after,
-        };
-    }
-    Ok(rest.len())
-}
-
-/// Drops a line that was not kept whole, and tells so.
+/// Drops a unit that was not kept whole, of so many bytes, and tells so.
 fn cut<J: Journal, E: Sink>(
     len: usize,
-    left: usize,
+    left: u64,
     journal: &mut J,
     err: &mut E,
 ) -> Result<(), Stop> {
-    let whole = len.saturating_sub(left) as u64;
+    let whole = (len as u64).saturating_sub(left);
     if journal.cut(whole).is_err() {
         return Err(Stop::NotKept);
     }
     match write_all(
         err,
-        b"ndc_node: a line that was not kept whole is dropped\n",
+        b"ndc_node: a unit that was not kept whole is dropped\n",
     ) {
         Ok(()) => Ok(()),
         Err(_) => Ok(()),

@@ -1,24 +1,20 @@
 //! A data centre as a process: lines in, lines out. The first lines are a script's header and `node NAME`; each further one
-//! is answered by lines, the last of which is a dot. Where a file is named, each line that may change the node is appended
-//! there before it is answered, and a node that is begun with the file is as it was.
+//! is answered by lines, the last of which is a dot. Where a file is named, it holds a store of the node, and each line that
+//! changes the node is appended to it before it is answered: a node that is begun with the file is as it was.
 #![tactic(auto)]
 
 mod driving;
 mod input;
 mod journal;
+mod keeping;
 
-use crate::driving::{Streams, drive};
+use crate::driving::{Stop, Streams, drive, tell};
 use crate::journal::{FileJournal, NoJournal};
 use ndc_port::{StdSink, StdSource};
 use std::process::ExitCode;
 use std::{env, io};
 
-/// The status of wrong words, and of a file that is not opened or read.
-const WORDS: u8 = 2;
-
-const NO_FILE: u8 = 5;
-
-/// The words behind the program's name.
+/// The words after the program's name.
 fn words_of(rt: &HostRuntime) -> io::Result<Vec<String>> {
     let mut words = Vec::new(rt.alloc());
     for word in env::args(rt)?.skip(1) {
@@ -41,15 +37,25 @@ fn run(rt: &HostRuntime, words: &[String]) -> u8 {
                 let mut journal = journal;
                 drive(rt.alloc(), kept.as_slice(), &mut journal, &mut streams)
             }
-            Err(_) => NO_FILE,
+            Err(error) => tell(&mut streams.err, stop_of(error, Stop::NoFile)),
         },
-        _ => WORDS,
+        _ => tell(&mut streams.err, Stop::Words),
+    }
+}
+
+/// Why the program ends after such an error: memory ran out, or else this.
+fn stop_of(error: io::Error, otherwise: Stop) -> Stop {
+    if error.kind() == io::ErrorKind::OutOfMemory {
+        Stop::Memory
+    } else {
+        otherwise
     }
 }
 
 fn main(rt: HostRuntime) -> ExitCode {
-    match words_of(&rt) {
-        Ok(words) => ExitCode::from(run(&rt, words.as_slice())),
-        Err(_) => ExitCode::from(WORDS),
-    }
+    let status = match words_of(&rt) {
+        Ok(words) => run(&rt, words.as_slice()),
+        Err(error) => tell(&mut StdSink::err(rt.stderr()), stop_of(error, Stop::Words)),
+    };
+    ExitCode::from(status)
 }
