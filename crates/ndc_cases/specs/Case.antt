@@ -66,7 +66,7 @@ abbrev pub status_of : List ℕ → Result ℕ CaseError
 status_of (digit ∷ []) = if nat_le 48 digit && nat_le digit 57 then Ok (digit - 48) else Err Form
 status_of _ = Err Form
 
--- the case behind a line with this mark and text
+-- the case after a line with this mark and text
 unfoldable pub marked : Case → Mark → List ℕ → Result Case CaseError
 marked case mark.Comment text = Ok case
 marked case mark.Name text = Ok (record case { name = case.name ++ text })
@@ -86,11 +86,11 @@ marked case mark.Status text = do
   status ← status_of text
   Ok (record case { status = status })
 
--- the case behind a line with this mark, where it is one
+-- the case after a line with this mark, where it is one
 abbrev pub marked_by : Case → Option Mark → List ℕ → Result Case CaseError
 marked_by case None text = Err Form
 marked_by case (Some mark) text = marked case mark text
 
--- the case behind a line
+-- the case after a line
 unfoldable pub with_line : Case → List ℕ → Result Case CaseError
 with_line case line = marked_by case (mark_of (take (mark_len line) line)) (text_of line)

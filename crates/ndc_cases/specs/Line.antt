@@ -1,4 +1,4 @@
--- A line of a transcript: its first word, which tells what it is, and the text behind it.
+-- A line of a transcript: its first word, which tells what it is, and the text after it.
 use Rattle.std.specs.Prelude.{ℕ, suc, ◌==◌, drop, Option, None, Some, List, [], ◌∷◌, codes, if◌then◌else◌}
 use Rattle.std.specs.Str.{bytes_eq}
 use Rattle.ndc_cases.specs.declared.line.Mark.{Mark}
@@ -9,7 +9,7 @@ abbrev pub mark_len : List ℕ → ℕ
 mark_len [] = 0
 mark_len (byte ∷ bytes) = if byte == 32 then 0 else suc (mark_len bytes)
 
--- the text behind the first space
+-- the text after the first space
 abbrev pub text_of : List ℕ → List ℕ
 text_of line = drop 1 (drop (mark_len line) line)
 

@@ -153,7 +153,7 @@ fn ndc_answer<R: Threads + Sync, G: Gate>(
     answer_with(rt, alloc, gate, faults, indexers, words, input)
 }
 
-/// What the program answers where something fails that it is given: behind five numbers.
+/// What the program answers where something fails that it is given: after five numbers.
 fn faulty_answer<R: Threads + Sync>(
     rt: &R,
     alloc: Global,

@@ -13,7 +13,7 @@ use std::marker::Model;
 /// Why a line belongs to no transcript.
 #[derive(Clone, Copy, Debug, PartialEq, Eq)]
 pub enum CaseError {
-    /// It is none of a transcript's lines.
+    /// It is not a line of a transcript.
     Form,
     /// There was not memory enough for the case.
     Memory,
@@ -213,7 +213,7 @@ impl Case {
         self.status
     }
 
-    /// The case behind a line with this mark and text.
+    /// The case after a line with this mark and text.
     #[tactic(auto, unfolding(crate::specs::Case::marked))]
     fn marked(self, alloc: Global, mark: Mark, text: &[u8]) -> Result<Case, CaseError>
         ensures { Gives Memory (λ case. case) result (marked self mark text.now) }
@@ -235,7 +235,7 @@ impl Case {
         Ok(case)
     }
 
-    /// The case behind a line that is not empty. Refused where it is no line of a transcript.
+    /// The case after a line that is not empty. Refused where it is not a line of a transcript.
     #[tactic(auto, unfolding(crate::specs::Case::with_line))]
     pub fn with_line(self, alloc: Global, line: &[u8]) -> Result<Case, CaseError>
         ensures { Gives Memory (λ case. case) result (with_line self line.now) }

@@ -1,4 +1,4 @@
-//! A line of a transcript: its first word, which tells what it is, and the text behind it.
+//! A line of a transcript: its first word, which tells what it is, and the text after it.
 ghost use Rattle.std.specs.Prelude.{◌≡◌, ◌≤◌, take, length};
 ghost use Rattle.ndc_cases.specs.Line.{mark_len, mark_of, text_of};
 
@@ -31,7 +31,7 @@ fn mark_len(line: &[u8]) -> usize
     line.len()
 }
 
-/// A line's first word and what stands behind the space behind it.
+/// A line's first word and what stands after the space after it.
 pub fn parts_of(line: &[u8]) -> (&[u8], &[u8])
     ensures mark { result.0.now ≡ take (mark_len line.now) line.now }
     ensures text { result.1.now ≡ text_of line.now }

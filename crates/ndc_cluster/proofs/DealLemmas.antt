@@ -26,7 +26,7 @@ dealt_many [] slots = refl
 dealt_many (asked ∷ jobs) slots =
     dealt_many jobs (set slots asked.shard (with_job asked.job (get_or slots asked.shard (fresh_slot empty_cell)))) ∙ length-set slots asked.shard (with_job asked.job (get_or slots asked.shard (fresh_slot empty_cell)))
 
--- the slot of a shard has its jobs behind those that it had
+-- the slot of a shard has its jobs after those that it had
 dealt-there : (jobs : List ShardJob) (slots : List SlotValue) (shard : ℕ) → shard < length slots → get_or (dealt jobs slots) shard (fresh_slot empty_cell) ≡ slot-more (get_or slots shard (fresh_slot empty_cell)) (jobs_of shard jobs)
 unfolding slot-more
 dealt-there [] slots shard below = let slot : SlotValue = get_or slots shard (fresh_slot empty_cell) in ap (λ js. slot_of slot.cell js slot.replies slot.from slot.sent) (sym (append-nil slot.jobs))
@@ -78,12 +78,12 @@ module _ (home : Desk) (jobs : List ShardJob) (cells : List Cell) where
       dealt-there jobs (map fresh_slot cells) shard (let e = length-map cells fresh_slot in omega (arith, e, below))
       ∙ ap (λ (s : SlotValue). slot-more s (jobs_of shard jobs)) (get_or-map fresh_slot cells shard empty_cell)
 
-  -- the slot of a shard behind its jobs
+  -- the slot of a shard after its jobs
   slot-behind : (shard : ℕ) → shard < length cells
       → get_or (map (slot_done home) slots-dealt) shard (slot_done home (fresh_slot empty_cell)) ≡ slot_done home (slot_of (cell_for shard cells) (jobs_of shard jobs) [] 0 [])
   slot-behind shard below = get_or-map (slot_done home) slots-dealt shard (fresh_slot empty_cell) ∙ ap (slot_done home) (slot-there shard below)
 
-  -- the cells are those behind the jobs done one after the other
+  -- the cells are those after the jobs done one after the other
   pub cells_dealt : map (λ (s : SlotValue). s.cell) (map (slot_done home) slots-dealt) ≡ cells_after home jobs cells
   cells_dealt = ext_get_or empty_cell _ _ many there
     where
@@ -150,7 +150,7 @@ taken-each home (asked ∷ jobs) cells replies below many each =
             get_or-set_other replies asked.shard shard rest [] differ ∙ each shard here ∙ ap (λ js. cell_replies home js (cell_for shard cells)) its
             ∙ ap (cell_replies home (jobs_of shard jobs)) (sym (behind-other home asked cells shard other))
 
--- the replies of slots behind their jobs, in order of the jobs, are those of the jobs done one after the other
+-- the replies of slots after their jobs, in order of the jobs, are those of the jobs done one after the other
 pub replies_dealt : (home : Desk) (jobs : List ShardJob) (cells : List Cell) → AreBelow (length cells) jobs
     → taken jobs (map (λ (s : SlotValue). s.replies) (map (slot_done home) (dealt jobs (map fresh_slot cells)))) ≡ Some (replies_to home jobs cells)
 replies_dealt home jobs cells below = taken-each home jobs cells _ below many each

@@ -1,4 +1,4 @@
--- Items of two lists, one by one; and lists of which a front was changed.
+-- Items of two lists, one by one; and lists of which a prefix was changed.
 use Rattle.std.proofs.Common.{◌≡◌, ℕ, zero, suc, ◌+◌, ◌<◌, List, [], ◌∷◌, ◌++◌, map, take, drop, length, get_or, set, arith, refl, sym, ap, subst, ◌∙◌}
 use Rattle.std.proofs.Math.ListN.{get_or-map}
 use Rattle.std.proofs.lemmas.List.{length-map, map-set, take-append-drop}
@@ -25,7 +25,7 @@ all_there P [] i d below all = absurd (omega (arith, below))
 all_there P (x ∷ xs) zero d below all = all.0
 all_there P (x ∷ xs) (suc i) d below all = all_there P xs i d (omega (arith, below)) all.1
 
--- behind a front that was changed, the next item is as it was
+-- after a prefix that was changed, the next item is as it was
 next-there : {Y : Type 0} (change : Y → Y) (ys : List Y) (i : ℕ) (d : Y) → i < length ys → get_or (map change (take i ys) ++ drop i ys) i d ≡ get_or ys i d
 next-there change [] i d below = absurd (omega (arith, below))
 next-there change (y ∷ ys) zero d below = refl

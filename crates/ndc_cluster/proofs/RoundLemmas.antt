@@ -72,7 +72,7 @@ last_cut left after long many number count done front same is last =
     let zero : long - many / (number + 1) ≡ 0 = omega (arith, same, all) in
     front ∙ ap (λ k. take k left) zero
 
--- a reply more in front
+-- one more reply at the beginning
 reply-before : (out more : List JobReply) (reply : JobReply) (found : Option (List JobReply)) → more ≡ out ++ reply ∷ [] → option_map (λ rest. more ++ rest) found ≡ option_map (λ rest. out ++ rest) (option_map (λ rest. reply ∷ rest) found)
 reply-before out more reply None is = refl
 reply-before out more reply (Some rest) is = ap (λ front. Some (front ++ rest)) is ∙ ap (λ all. Some all) (append_assoc out (reply ∷ []) rest)
@@ -90,7 +90,7 @@ taken_more view jobs i asked now one new out more reply all below at inside is f
     ∙ ap (λ found. option_map (λ rest. out ++ rest) (option_map (λ rest. reply ∷ rest) (taken (drop (i + 1) jobs) found))) (map-set view now asked.shard new)
     ∙ ap (option_map (λ rest. out ++ rest)) (sym next) ∙ done
 
--- the last of some pieces is taken, and its slots go behind those of the pieces before it
+-- the last of some pieces is taken, and its slots go after those of the pieces before it
 pub join_more : {X Y P : Type 0} (view : X → Y) (held : P → List Y) (slots after more : List X) (pieces now : List P) (piece : P) (whole : List Y) → map view slots ++ joined (map held pieces) ≡ whole
     → pieces ≡ now ++ piece ∷ [] → held piece ≡ map view more → after ≡ slots ++ more → map view after ++ joined (map held now) ≡ whole
 join_more view held slots after more pieces now piece whole done last holds longer =

@@ -17,7 +17,7 @@ unfolding cells_after
 cells-many home [] cells = refl
 cells-many home (asked ∷ jobs) cells = cells-many home jobs (cells_behind home asked cells) ∙ length-set cells asked.shard (after_job home asked.job (cell_for asked.shard cells))
 
--- the cell of a shard behind one job: of its own, or of another
+-- the cell of a shard after one job: of its own, or of another
 pub behind-own : (home : Desk) (asked : ShardJob) (cells : List Cell) (shard : ℕ) → shard < length cells → (asked.shard == shard) ≡ true → cell_for shard (cells_behind home asked cells) ≡ after_job home asked.job (cell_for shard cells)
 behind-own home asked cells shard below own =
     let same : asked.shard ≡ shard = eqb-true asked.shard shard own in
@@ -27,7 +27,7 @@ behind-own home asked cells shard below own =
 pub behind-other : (home : Desk) (asked : ShardJob) (cells : List Cell) (shard : ℕ) → (asked.shard == shard) ≡ false → cell_for shard (cells_behind home asked cells) ≡ cell_for shard cells
 behind-other home asked cells shard other = get_or-set_other cells asked.shard shard (after_job home asked.job (cell_for asked.shard cells)) empty_cell (λ same. eqb-false asked.shard shard other (sym same))
 
--- the cell of a shard behind all jobs is that behind its own
+-- the cell of a shard after all jobs is that after its own
 pub cell_by_itself : (home : Desk) (jobs : List ShardJob) (cells : List Cell) (shard : ℕ) → shard < length cells → cell_for shard (cells_after home jobs cells) ≡ cell_after home (jobs_of shard jobs) (cell_for shard cells)
 unfolding cells_after
 cell_by_itself home [] cells shard below = refl

@@ -32,7 +32,7 @@ replies_next : (home : Desk) (asked : ShardJob) (left : List ShardJob) (cells : 
 unfolding replies_to
 replies_next home asked left cells = refl
 
--- behind all jobs
+-- after all jobs
 pub cells_end : {X : Type 0} (allows : Condition) (view : X → Cell) (home : Desk) (jobs : List ShardJob) (i : ℕ) (before now : List X) (replies : List JobReply) → drop i jobs ≡ [] → InTurn allows view home jobs (drop i jobs) before now replies
     → map view now ≡ cells_after home jobs (map view before)
 unfolding cells_after

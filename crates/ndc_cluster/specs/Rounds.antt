@@ -18,7 +18,7 @@ abbrev pub jobs_of : ℕ → List ShardJob → List Job
 jobs_of shard [] = []
 jobs_of shard (asked ∷ jobs) = if asked.shard == shard then asked.job ∷ jobs_of shard jobs else jobs_of shard jobs
 
--- a cell behind jobs of its own
+-- a cell after jobs of its own
 abbrev pub cell_after : Desk → List Job → Cell → Cell
 cell_after home jobs cell = fold (λ before asked. after_job home asked before) cell jobs
 
@@ -62,7 +62,7 @@ abbrev pub dealt : List ShardJob → List SlotValue → List SlotValue
 dealt [] slots = slots
 dealt (asked ∷ jobs) slots = dealt jobs (slice_set slots asked.shard (with_job asked.job (slice_index_or slots asked.shard (fresh_slot empty_cell))))
 
--- the first item of a list, and what is behind it; none, where the list is empty
+-- the first item of a list, and what is after it; none, where the list is empty
 abbrev pub with_first : {X Y : Type 0} → List X → (X → List X → Option Y) → Option Y
 with_first [] next = None
 with_first (x ∷ xs) next = next x xs

@@ -24,7 +24,7 @@ pub trait Cell {
     fn new(alloc: Global, home: &Home) -> Result<Self, OutOfMemory>
         ensures { IfOk result (λ made. cell made ≡ empty_cell) };
 
-    /// Does a job: the cell is then the one behind it, and the reply is that of the cell. After want of memory no more
+    /// Does a job: the cell is then the one after it, and the reply is that of the cell. After want of memory no more
     /// is said of it.
     fn do_job(&mut self, desk: &Desk, job: &Job) -> Result<JobReply, OutOfMemory>
         requires { allows desk.now job.now (cell self.old) }
@@ -37,7 +37,8 @@ pub trait Cell {
 
     /// Whether it has learned the batch of this key of a workflow. Takes no memory.
     fn has_learned(&self, domain: &Name, workflow: &Name, key: BatchKey) -> bool
-        ensures { result ≡ has_key (Some key) (learned_of domain.now workflow.now (cell self.now)) };
+        ensures { result ≡ has_key (Some key)
+            (learned_of domain.now workflow.now (cell self.now)) };
 
     /// How many messages it has written. Takes no memory.
     fn written_len(&self) -> u64
@@ -50,7 +51,9 @@ pub trait Cell {
 
     /// The messages of what it has learned of these domains, in order of place. A carried batch comes with its carrier.
     fn learned_of(&self, alloc: Global, domains: &[Name]) -> Result<Vec<Message>, OutOfMemory>
-        ensures { IfOk result (λ list. list.items ≡ learned_of_domains domains.now (cell self.now)) };
+        ensures { IfOk result (λ list.
+            list.items ≡ learned_of_domains domains.now (cell self.now)) };
 
-    ghost may: { (desk : DeskValue) (asked : Asked) (at : CellValue) → IsAllowed desk asked at → allows desk asked at };
+    ghost may: { (desk : DeskValue) (asked : Asked) (at : CellValue) → IsAllowed desk asked at
+        → allows desk asked at };
 }

@@ -5,8 +5,8 @@ use ndc_event::OutOfMemory;
 use ndc_model_cells::{JobReply, ShardJob};
 use std::marker::Model;
 
-/// Cells by shard. Behind a round that was done in pieces, messages that each of them has written stand beside them, until
-/// they are taken.
+/// Cells by shard. After a round that was done in pieces, messages that each of them has written stand beside them,
+/// until they are taken.
 pub(crate) struct Cells<C: Cell + Drop> {
     cells: Vec<C>,
     fresh: Option<Vec<Fresh>>,
@@ -21,7 +21,8 @@ impl<C: Cell + Drop> Model for Cells<C> {
 
     ghost view = { λ cells. map C.cell cells.cells.items };
 
-    ghost invariant = { λ cells. IfSome cells.fresh (λ fresh. AreFresh fresh.items (map C.cell cells.cells.items)) };
+    ghost invariant = { λ cells.
+        IfSome cells.fresh (λ fresh. AreFresh fresh.items (map C.cell cells.cells.items)) };
 }
 
 impl<C: Cell + Drop> Drop for Cells<C> {
@@ -64,7 +65,7 @@ impl<C: Cell + Drop> Cells<C> {
         cells
     }
 
-    /// What is at hand of what the cells have written; then it is no more. Takes no memory.
+    /// What is at hand of what the cells have written; then it is gone. Takes no memory.
     pub(crate) fn take_fresh(&mut self) -> Option<Vec<Fresh>>
         ensures fresh { IfSome result (λ fresh. AreFresh fresh.items self.old) }
         ensures same { self.new ≡ self.old }
@@ -72,12 +73,13 @@ impl<C: Cell + Drop> Cells<C> {
         self.fresh.take()
     }
 
-    /// The cell of its shard does a job. What is at hand of what the cells have written is no more.
+    /// The cell of its shard does a job. What is at hand of what the cells have written is gone.
     pub(crate) fn do_one(&mut self, desk: &Desk, asked: &ShardJob) -> Result<JobReply, OutOfMemory>
         requires shard { asked.now.shard < length self.old }
         requires allowed { C.allows desk.now asked.now.job (cell_for asked.now.shard self.old) }
         ensures cells { OnOk result (self.new ≡ cells_behind desk.now asked.now self.old) }
-        ensures reply { IfOk result (λ reply. reply ≡ reply_to desk.now asked.now.job (cell_for asked.now.shard self.old)) }
+        ensures reply { IfOk result (λ reply.
+            reply ≡ reply_to desk.now asked.now.job (cell_for asked.now.shard self.old)) }
     {
         self.fresh = None;
         let cell = &mut self.cells[asked.shard as usize];

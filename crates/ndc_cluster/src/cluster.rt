@@ -121,10 +121,14 @@ impl<C: Cell + Drop> Cluster<C> {
         C: Send,
         requires workers { 0 < workers }
         requires shards { AllByRecursion (λ asked. asked.shard < length self.old.cells) jobs.now }
-        requires allowed { AreAllowed C.allows (desk_of home.now self.old.table) jobs.now self.old.cells }
-        ensures cells { OnOk result (self.new ≡ with_cells (cells_after (desk_of home.now self.old.table) jobs.now self.old.cells) self.old) }
+        requires allowed { AreAllowed C.allows
+            (desk_of home.now self.old.table) jobs.now self.old.cells }
+        ensures cells { OnOk result
+            (self.new ≡ with_cells (cells_after
+            (desk_of home.now self.old.table) jobs.now self.old.cells) self.old) }
         ensures err { OnErr result (self.new ≡ with_cells [] self.old) }
-        ensures replies { IfOk result (λ replies. replies.items ≡ replies_to (desk_of home.now self.old.table) jobs.now self.old.cells) }
+        ensures replies { IfOk result (λ replies.
+            replies.items ≡ replies_to (desk_of home.now self.old.table) jobs.now self.old.cells) }
     {
         let no_cells = Cells::new(Vec::new(alloc), None);
         let cells = mem::replace(&mut self.cells, no_cells).into_vec();
@@ -135,7 +139,7 @@ impl<C: Cell + Drop> Cluster<C> {
     }
 
     /// The cell of its shard does one job, which it may do, without a gate. After want of memory there are no cells, and the
-    /// domain records are as they were. What was at hand of what the cells have written (`take_fresh`) is no more.
+    /// domain records are as they were. What was at hand of what the cells have written (`take_fresh`) is gone.
     pub fn do_one(
         &mut self,
         alloc: Global,
@@ -143,10 +147,15 @@ impl<C: Cell + Drop> Cluster<C> {
         asked: &ShardJob,
     ) -> Result<JobReply, OutOfMemory>
         requires shard { asked.now.shard < length self.old.cells }
-        requires allowed { C.allows (desk_of home.now self.old.table) asked.now.job (cell_for asked.now.shard self.old.cells) }
-        ensures cells { OnOk result (self.new ≡ with_cells (cells_behind (desk_of home.now self.old.table) asked.now self.old.cells) self.old) }
+        requires allowed { C.allows (desk_of home.now self.old.table) asked.now.job
+            (cell_for asked.now.shard self.old.cells) }
+        ensures cells { OnOk result
+            (self.new ≡ with_cells (cells_behind
+            (desk_of home.now self.old.table) asked.now self.old.cells) self.old) }
         ensures err { OnErr result (self.new ≡ with_cells [] self.old) }
-        ensures reply { IfOk result (λ reply. reply ≡ reply_to (desk_of home.now self.old.table) asked.now.job (cell_for asked.now.shard self.old.cells)) }
+        ensures reply { IfOk result (λ reply.
+            reply ≡ reply_to (desk_of home.now self.old.table) asked.now.job
+            (cell_for asked.now.shard self.old.cells)) }
     {
         let desk = Desk::new(home.clusters, home.me, home.limit, &self.table);
         match self.cells.do_one(&desk, asked) {

@@ -16,7 +16,8 @@ pub struct Fresh {
 
 /// All that a cell has written from a place on.
 pub(crate) fn fresh_from<C: Cell>(alloc: Global, cell: &C, from: u64) -> Result<Fresh, OutOfMemory>
-    ensures { IfOk result (λ fresh. (fresh.from ≡ from) × (fresh.messages.items ≡ drop from (C.cell cell.now).written)) }
+    ensures { IfOk result (λ fresh.
+        (fresh.from ≡ from) × (fresh.messages.items ≡ drop from (C.cell cell.now).written)) }
 {
     let len = cell.written_len();
     let mut messages = Vec::with_capacity(alloc, len.saturating_sub(from) as usize)?;

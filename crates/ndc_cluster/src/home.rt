@@ -17,7 +17,11 @@ impl<'a> Model for Home<'a> {
 
     ghost Value = { HomeValue };
 
-    ghost view = { λ home. record { clusters = home.clusters.now; me = home.me; limit = home.limit } };
+    ghost view = { λ home. record {
+      clusters = home.clusters.now;
+      me = home.me;
+      limit = home.limit;
+    } };
 }
 
 /// Where they stand while they do jobs: their home, with the domain records of their cluster.
@@ -34,7 +38,12 @@ impl<'a> Model for Desk<'a> {
 
     ghost Value = { DeskValue };
 
-    ghost view = { λ desk. record { clusters = desk.clusters.now; me = desk.me; limit = desk.limit; table = desk.table.now } };
+    ghost view = { λ desk. record {
+      clusters = desk.clusters.now;
+      me = desk.me;
+      limit = desk.limit;
+      table = desk.table.now;
+    } };
 }
 
 impl<'a> Desk<'a> {
@@ -47,7 +56,12 @@ impl<'a> Desk<'a> {
         limit: u64,
         table: &'a DomainTable,
     ) -> Desk<'a>
-        ensures { result ≡ record { clusters = clusters.now; me = me; limit = limit; table = table.now } }
+        ensures { result ≡ record {
+          clusters = clusters.now;
+          me = me;
+          limit = limit;
+          table = table.now;
+        } }
     {
         Desk {
             clusters,

@@ -26,8 +26,10 @@ pub(crate) fn do_in_turn<C: Cell + Drop>(
 ) -> Result<Vec<JobReply>, OutOfMemory>
     requires shards { AllByRecursion (λ asked. asked.shard < length cells.old.items) jobs.now }
     requires allowed { AreAllowed C.allows desk.now jobs.now (map C.cell cells.old.items) }
-    ensures cells { OnOk result (map C.cell cells.new.items ≡ cells_after desk.now jobs.now (map C.cell cells.old.items)) }
-    ensures replies { IfOk result (λ replies. replies.items ≡ replies_to desk.now jobs.now (map C.cell cells.old.items)) }
+    ensures cells { OnOk result
+        (map C.cell cells.new.items ≡ cells_after desk.now jobs.now (map C.cell cells.old.items)) }
+    ensures replies { IfOk result (λ replies.
+        replies.items ≡ replies_to desk.now jobs.now (map C.cell cells.old.items)) }
 {
     let mut replies = Vec::with_capacity(alloc, jobs.len())?;
     for asked in jobs {

@@ -13,7 +13,7 @@ use ndc_port::Gate;
 use std::alloc::Global;
 use std::collections::VecDeque;
 
-/// A cell with the jobs that it is to do, what it replied, and behind these what it has written.
+/// A cell with the jobs that it is to do, what it replied, and after these what it has written.
 #[derive(Drop)]
 pub(crate) struct Slot<'a, C: Drop> {
     pub(crate) cell: C,
@@ -39,10 +39,16 @@ fn make_room(alloc: Global, jobs: usize) {
 
 /// Does the jobs of a slot, in order.
 fn do_each<C: Cell + Drop>(slot: &mut Slot<C>, desk: &Desk) -> Result<(), OutOfMemory>
-    requires { MayDo C.allows desk.now (map (λ job. job.now) slot.old.jobs.items) (C.cell slot.old.cell) }
-    ensures cell { OnOk result (C.cell slot.new.cell ≡ cell_after desk.now (map (λ job. job.now) slot.old.jobs.items) (C.cell slot.old.cell)) }
+    requires { MayDo C.allows desk.now (map (λ job. job.now) slot.old.jobs.items)
+        (C.cell slot.old.cell) }
+    ensures cell { OnOk result
+        (C.cell slot.new.cell ≡ cell_after desk.now (map (λ job. job.now) slot.old.jobs.items)
+        (C.cell slot.old.cell)) }
     ensures jobs { OnOk result (slot.new.jobs ≡ slot.old.jobs) }
-    ensures replies { OnOk result (slot.new.replies.items ≡ slot.old.replies.items ++ cell_replies desk.now (map (λ job. job.now) slot.old.jobs.items) (C.cell slot.old.cell)) }
+    ensures replies { OnOk result
+        (slot.new.replies.items ≡ slot.old.replies.items
+        ++ cell_replies desk.now (map (λ job. job.now) slot.old.jobs.items)
+        (C.cell slot.old.cell)) }
 {
     for place in 0..slot.jobs.len() {
         let job = slot.jobs[place];
@@ -54,9 +60,16 @@ fn do_each<C: Cell + Drop>(slot: &mut Slot<C>, desk: &Desk) -> Result<(), OutOfM
 
 /// Does the jobs of a slot, in order, and puts beside its cell what that has written meanwhile.
 fn do_jobs<C: Cell + Drop>(slot: &mut Slot<C>, desk: &Desk) -> Result<(), OutOfMemory>
-    requires { SlotMay C.allows desk.now (slot_of (C.cell slot.old.cell) (map (λ job. job.now) slot.old.jobs.items) slot.old.replies.items slot.old.fresh.from slot.old.fresh.messages.items) }
-    ensures { OnOk result (slot_of (C.cell slot.new.cell) (map (λ job. job.now) slot.new.jobs.items) slot.new.replies.items slot.new.fresh.from slot.new.fresh.messages.items
-        ≡ slot_done desk.now (slot_of (C.cell slot.old.cell) (map (λ job. job.now) slot.old.jobs.items) slot.old.replies.items slot.old.fresh.from slot.old.fresh.messages.items)) }
+    requires { SlotMay C.allows desk.now
+        (slot_of (C.cell slot.old.cell)
+        (map (λ job. job.now) slot.old.jobs.items) slot.old.replies.items slot.old.fresh.from
+        slot.old.fresh.messages.items) }
+    ensures { OnOk result (slot_of (C.cell slot.new.cell)
+        (map (λ job. job.now) slot.new.jobs.items) slot.new.replies.items slot.new.fresh.from
+        slot.new.fresh.messages.items
+        ≡ slot_done desk.now (slot_of (C.cell slot.old.cell)
+        (map (λ job. job.now) slot.old.jobs.items) slot.old.replies.items slot.old.fresh.from
+        slot.old.fresh.messages.items)) }
 {
     let alloc = *slot.jobs.allocator();
     make_room(alloc, slot.jobs.len());
@@ -68,9 +81,18 @@ fn do_jobs<C: Cell + Drop>(slot: &mut Slot<C>, desk: &Desk) -> Result<(), OutOfM
 
 /// Does the jobs of each slot.
 fn do_all<C: Cell + Drop>(slots: &mut Vec<Slot<C>>, desk: &Desk) -> Result<(), OutOfMemory>
-    requires { AllByRecursion (SlotMay C.allows desk.now) (map (λ slot. slot_of (C.cell slot.cell) (map (λ job. job.now) slot.jobs.items) slot.replies.items slot.fresh.from slot.fresh.messages.items) slots.old.items) }
-    ensures { OnOk result (map (λ slot. slot_of (C.cell slot.cell) (map (λ job. job.now) slot.jobs.items) slot.replies.items slot.fresh.from slot.fresh.messages.items) slots.new.items
-        ≡ map (slot_done desk.now) (map (λ slot. slot_of (C.cell slot.cell) (map (λ job. job.now) slot.jobs.items) slot.replies.items slot.fresh.from slot.fresh.messages.items) slots.old.items)) }
+    requires { AllByRecursion (SlotMay C.allows desk.now)
+        (map (λ slot. slot_of (C.cell slot.cell)
+        (map (λ job. job.now) slot.jobs.items) slot.replies.items slot.fresh.from
+        slot.fresh.messages.items) slots.old.items) }
+    ensures { OnOk result (map (λ slot.
+        slot_of (C.cell slot.cell)
+        (map (λ job. job.now) slot.jobs.items) slot.replies.items slot.fresh.from
+        slot.fresh.messages.items) slots.new.items
+        ≡ map (slot_done desk.now) (map (λ slot.
+        slot_of (C.cell slot.cell)
+        (map (λ job. job.now) slot.jobs.items) slot.replies.items slot.fresh.from
+        slot.fresh.messages.items) slots.old.items)) }
 {
     for slot in slots.iter_mut() {
         do_jobs(slot, desk)?;
@@ -105,11 +127,18 @@ impl<'a, G: Gate, C: Cell + Drop> Work for Piece<'a, G, C> {
     ghost use Rattle.ndc_cluster.specs.Rounds.{SlotMay, slot_done, slot_of};
 
     ghost ready = { λ piece. AllByRecursion (SlotMay C.allows piece.desk.now)
-        (map (λ slot. slot_of (C.cell slot.cell) (map (λ job. job.now) slot.jobs.items) slot.replies.items slot.fresh.from slot.fresh.messages.items) piece.slots.items) };
+        (map (λ slot. slot_of (C.cell slot.cell)
+        (map (λ job. job.now) slot.jobs.items) slot.replies.items slot.fresh.from
+        slot.fresh.messages.items) piece.slots.items) };
 
     ghost worked = { λ before after. after.is_spent ≡ false →
-        map (λ slot. slot_of (C.cell slot.cell) (map (λ job. job.now) slot.jobs.items) slot.replies.items slot.fresh.from slot.fresh.messages.items) after.slots.items
-        ≡ map (slot_done before.desk.now) (map (λ slot. slot_of (C.cell slot.cell) (map (λ job. job.now) slot.jobs.items) slot.replies.items slot.fresh.from slot.fresh.messages.items) before.slots.items) };
+        map (λ slot. slot_of (C.cell slot.cell)
+        (map (λ job. job.now) slot.jobs.items) slot.replies.items slot.fresh.from
+        slot.fresh.messages.items) after.slots.items
+        ≡ map (slot_done before.desk.now) (map (λ slot.
+        slot_of (C.cell slot.cell)
+        (map (λ job. job.now) slot.jobs.items) slot.replies.items slot.fresh.from
+        slot.fresh.messages.items) before.slots.items) };
 
     /// Enters the gate with the number of the piece, and then does the jobs of each cell.
     fn work(&mut self) {

@@ -23,7 +23,10 @@ fn slots_of<'a, C: Cell + Drop>(
     alloc: Global,
     cells: Vec<C>,
 ) -> Result<Vec<Slot<'a, C>>, OutOfMemory>
-    ensures { IfOk result (λ slots. map (λ slot. slot_of (C.cell slot.cell) (map (λ job. job.now) slot.jobs.items) slot.replies.items slot.fresh.from slot.fresh.messages.items) slots.items
+    ensures { IfOk result (λ slots.
+        map (λ slot. slot_of (C.cell slot.cell)
+        (map (λ job. job.now) slot.jobs.items) slot.replies.items slot.fresh.from
+        slot.fresh.messages.items) slots.items
         ≡ map fresh_slot (map C.cell cells.items)) }
 {
     let mut slots = Vec::with_capacity(alloc, cells.len())?;
@@ -47,8 +50,14 @@ fn deal<'a, C: Cell + Drop>(
     jobs: &'a [ShardJob],
 ) -> Result<(), OutOfMemory>
     requires { AllByRecursion (λ asked. asked.shard < length slots.old.items) jobs.now }
-    ensures { OnOk result (map (λ slot. slot_of (C.cell slot.cell) (map (λ job. job.now) slot.jobs.items) slot.replies.items slot.fresh.from slot.fresh.messages.items) slots.new.items
-        ≡ dealt jobs.now (map (λ slot. slot_of (C.cell slot.cell) (map (λ job. job.now) slot.jobs.items) slot.replies.items slot.fresh.from slot.fresh.messages.items) slots.old.items)) }
+    ensures { OnOk result (map (λ slot.
+        slot_of (C.cell slot.cell)
+        (map (λ job. job.now) slot.jobs.items) slot.replies.items slot.fresh.from
+        slot.fresh.messages.items) slots.new.items
+        ≡ dealt jobs.now (map (λ slot.
+        slot_of (C.cell slot.cell)
+        (map (λ job. job.now) slot.jobs.items) slot.replies.items slot.fresh.from
+        slot.fresh.messages.items) slots.old.items)) }
 {
     for asked in jobs {
         slots[asked.shard as usize].jobs.push(&asked.job)?;
@@ -66,9 +75,16 @@ fn cut<'a, G: Gate, C: Cell + Drop>(
     desk: &'a Desk<'a>,
 ) -> Result<Vec<Piece<'a, G, C>>, OutOfMemory>
     requires { 0 < count }
-    ensures slots { IfOk result (λ pieces. joined (map (λ piece. map (λ slot. slot_of (C.cell slot.cell) (map (λ job. job.now) slot.jobs.items) slot.replies.items slot.fresh.from slot.fresh.messages.items) piece.slots.items) pieces.items)
-        ≡ map (λ slot. slot_of (C.cell slot.cell) (map (λ job. job.now) slot.jobs.items) slot.replies.items slot.fresh.from slot.fresh.messages.items) slots.entry.items) }
-    ensures desks { IfOk result (λ pieces. AllByRecursion (λ piece. piece.desk.now ≡ desk.now) pieces.items) }
+    ensures slots { IfOk result (λ pieces.
+        joined (map (λ piece. map (λ slot.
+        slot_of (C.cell slot.cell)
+        (map (λ job. job.now) slot.jobs.items) slot.replies.items slot.fresh.from
+        slot.fresh.messages.items) piece.slots.items) pieces.items)
+        ≡ map (λ slot. slot_of (C.cell slot.cell)
+        (map (λ job. job.now) slot.jobs.items) slot.replies.items slot.fresh.from
+        slot.fresh.messages.items) slots.entry.items) }
+    ensures desks { IfOk result (λ pieces.
+        AllByRecursion (λ piece. piece.desk.now ≡ desk.now) pieces.items) }
 {
     let mut left = slots;
     let mut pieces = Vec::new(alloc);
@@ -92,9 +108,16 @@ fn join<'a, G: Gate, C: Cell + Drop>(
     alloc: Global,
     pieces: Vec<Piece<'a, G, C>>,
 ) -> Result<Vec<Slot<'a, C>>, OutOfMemory>
-    ensures slots { IfOk result (λ slots. map (λ slot. slot_of (C.cell slot.cell) (map (λ job. job.now) slot.jobs.items) slot.replies.items slot.fresh.from slot.fresh.messages.items) slots.items
-        ≡ joined (map (λ piece. map (λ slot. slot_of (C.cell slot.cell) (map (λ job. job.now) slot.jobs.items) slot.replies.items slot.fresh.from slot.fresh.messages.items) piece.slots.items) pieces.entry.items)) }
-    ensures whole { IfOk result (λ _. AllByRecursion (λ piece. piece.is_spent ≡ false) pieces.entry.items) }
+    ensures slots { IfOk result (λ slots.
+        map (λ slot. slot_of (C.cell slot.cell)
+        (map (λ job. job.now) slot.jobs.items) slot.replies.items slot.fresh.from
+        slot.fresh.messages.items) slots.items
+        ≡ joined (map (λ piece. map (λ slot.
+        slot_of (C.cell slot.cell)
+        (map (λ job. job.now) slot.jobs.items) slot.replies.items slot.fresh.from
+        slot.fresh.messages.items) piece.slots.items) pieces.entry.items)) }
+    ensures whole { IfOk result (λ _.
+        AllByRecursion (λ piece. piece.is_spent ≡ false) pieces.entry.items) }
 {
     let mut left = pieces;
     let mut slots = Vec::new(alloc);
@@ -115,8 +138,11 @@ fn collect<C: Cell + Drop>(
     jobs: &[ShardJob],
 ) -> Result<Option<Vec<JobReply>>, OutOfMemory>
     requires { AllByRecursion (λ asked. asked.shard < length slots.old.items) jobs.now }
-    ensures cells { OnOk result (map (λ slot. left_of (C.cell slot.cell) slot.fresh) slots.new.items ≡ map (λ slot. left_of (C.cell slot.cell) slot.fresh) slots.old.items) }
-    ensures replies { IfOk result (λ found. option_map (λ replies. replies.items) found ≡ taken jobs.now (map (λ slot. slot.replies.items) slots.old.items)) }
+    ensures cells { OnOk result (map (λ slot. left_of (C.cell slot.cell) slot.fresh) slots.new.items
+        ≡ map (λ slot. left_of (C.cell slot.cell) slot.fresh) slots.old.items) }
+    ensures replies { IfOk result (λ found.
+        option_map (λ replies. replies.items) found
+        ≡ taken jobs.now (map (λ slot. slot.replies.items) slots.old.items)) }
 {
     let mut replies = Vec::with_capacity(alloc, jobs.len())?;
     for asked in jobs {
@@ -137,8 +163,10 @@ struct Left<C: Drop> {
 
 /// The cells of slots, and beside each what it has written.
 fn left_by<C: Cell + Drop>(alloc: Global, slots: Vec<Slot<C>>) -> Result<Left<C>, OutOfMemory>
-    ensures cells { IfOk result (λ left. map C.cell left.cells.items ≡ map (λ slot. C.cell slot.cell) slots.entry.items) }
-    ensures fresh { IfOk result (λ left. left.fresh.items ≡ map (λ slot. slot.fresh) slots.entry.items) }
+    ensures cells { IfOk result (λ left.
+        map C.cell left.cells.items ≡ map (λ slot. C.cell slot.cell) slots.entry.items) }
+    ensures fresh { IfOk result (λ left.
+        left.fresh.items ≡ map (λ slot. slot.fresh) slots.entry.items) }
 {
     let mut cells = Vec::with_capacity(alloc, slots.len())?;
     let mut fresh = Vec::with_capacity(alloc, slots.len())?;
@@ -191,9 +219,12 @@ fn in_pieces<R: Threads + Sync, G: Gate, C: Cell + Drop + Send>(
     requires count { 0 < count }
     requires shards { AllByRecursion (λ asked. asked.shard < length cells.items) jobs.now }
     requires allowed { AreAllowed C.allows desk.now jobs.now (map C.cell cells.items) }
-    ensures cells { IfOk result (λ rounded. map C.cell rounded.cells.items ≡ cells_after desk.now jobs.now (map C.cell cells.items)) }
-    ensures replies { IfOk result (λ rounded. rounded.replies.items ≡ replies_to desk.now jobs.now (map C.cell cells.items)) }
-    ensures fresh { IfOk result (λ rounded. IfSome rounded.fresh (λ fresh. AreFresh fresh.items (map C.cell rounded.cells.items))) }
+    ensures cells { IfOk result (λ rounded.
+        map C.cell rounded.cells.items ≡ cells_after desk.now jobs.now (map C.cell cells.items)) }
+    ensures replies { IfOk result (λ rounded.
+        rounded.replies.items ≡ replies_to desk.now jobs.now (map C.cell cells.items)) }
+    ensures fresh { IfOk result (λ rounded.
+        IfSome rounded.fresh (λ fresh. AreFresh fresh.items (map C.cell rounded.cells.items))) }
 {
     let mut slots = slots_of(alloc, cells)?;
     deal(&mut slots, jobs)?;
@@ -229,9 +260,12 @@ pub(crate) fn round<R: Threads + Sync, G: Gate, C: Cell + Drop + Send>(
     requires workers { 0 < workers }
     requires shards { AllByRecursion (λ asked. asked.shard < length cells.items) jobs.now }
     requires allowed { AreAllowed C.allows desk.now jobs.now (map C.cell cells.items) }
-    ensures cells { IfOk result (λ rounded. map C.cell rounded.cells.items ≡ cells_after desk.now jobs.now (map C.cell cells.items)) }
-    ensures replies { IfOk result (λ rounded. rounded.replies.items ≡ replies_to desk.now jobs.now (map C.cell cells.items)) }
-    ensures fresh { IfOk result (λ rounded. IfSome rounded.fresh (λ fresh. AreFresh fresh.items (map C.cell rounded.cells.items))) }
+    ensures cells { IfOk result (λ rounded.
+        map C.cell rounded.cells.items ≡ cells_after desk.now jobs.now (map C.cell cells.items)) }
+    ensures replies { IfOk result (λ rounded.
+        rounded.replies.items ≡ replies_to desk.now jobs.now (map C.cell cells.items)) }
+    ensures fresh { IfOk result (λ rounded.
+        IfSome rounded.fresh (λ fresh. AreFresh fresh.items (map C.cell rounded.cells.items))) }
 {
     let count = workers
         .min(cells.len().try_into().unwrap_or(workers))

@@ -74,7 +74,7 @@ one_lane reader table cells queues whole lanes shard new alike below within rest
     ∙ idle-lane reader table (cells k) (whole k) (lane_at lanes k) (within k less).done_most
     (others k less differs ∙ len_kept (queue_at queues k) (whole k) (rests k (omega (arith, alike, less))))))
 
--- behind the end of a queue there is nothing
+-- after the end of a queue there is nothing
 nothing-behind : (kept : QueueValue) (whole : List Message) → IsRestOf kept whole → (count : Option ℕ) (level : ℕ) → level ≡ queue_len kept → entries_from count level whole ≡ []
 nothing-behind kept whole it None level e = let len = len_kept kept whole it in drop_all level whole (omega (arith, e, len))
 nothing-behind kept whole it (Some count) level e =

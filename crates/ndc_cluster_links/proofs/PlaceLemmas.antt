@@ -4,7 +4,7 @@ use Rattle.std.proofs.lemmas.List.{append-nil, drop-drop, drop-set-lt, drop_all,
 use Rattle.std.proofs.lemmas.List.Sums.{sum_by_push}
 use Rattle.ndc_model.specs.Moves.{map_from}
 
--- a list of which a front was changed, each item by its place
+-- a list of which a prefix was changed, each item by its place
 abbrev pub changed_front : {X : Type 0} → (ℕ → X → X) → ℕ → ℕ → List X → List X
 changed_front f from i xs = map_from f from (take i xs) ++ drop i xs
 
@@ -27,7 +27,7 @@ still now old i d rest =
     let place : i ≡ i + 0 = omega arith in
     ap (λ n. get_or now n d) place ∙ sym (get_or-drop i now 0 d) ∙ ap (λ zs. get_or zs 0 d) rest ∙ get_or-drop i old 0 d ∙ ap (λ n. get_or old n d) (sym place)
 
--- nor does anything change behind that place, when the item there does
+-- nor does anything change after that place, when the item there does
 pub rest_more : {X : Type 0} (now old : List X) (i : ℕ) (new : X) → drop i now ≡ drop i old → drop (i + 1) (set now i new) ≡ drop (i + 1) old
 rest_more now old i new rest =
     drop-set-lt (i + 1) now i new (omega arith) ∙ sym (drop-drop 1 i now) ∙ ap (drop 1) rest ∙ drop-drop 1 i old
@@ -42,7 +42,7 @@ changed_more f i old now x new below kept is step =
     ap (λ zs. set zs i new) kept ∙ ap (λ y. set (changed_front f 0 i old) i y) (step ∙ ap (f i) there)
     ∙ changed_next f 0 i i old x below place ∙ ap (λ n. changed_front f 0 n old) more
 
--- behind the whole list, all items are changed
+-- after the whole list, all items are changed
 pub changed_all : {X : Type 0} (f : ℕ → X → X) (i : ℕ) (xs : List X) → length xs ≤ i → changed_front f 0 i xs ≡ map_from f 0 xs
 changed_all f i xs past = ap (λ (zs : List _). map_from f 0 zs ++ drop i xs) (take_all i xs past) ∙ ap (λ zs. map_from f 0 xs ++ zs) (drop_all i xs past) ∙ append-nil (map_from f 0 xs)
 

@@ -11,7 +11,7 @@ use Rattle.ndc_cluster_links.proofs.QuietLemmas.{all_set}
 use Rattle.ndc_cluster_links.proofs.RestLemmas.{len_kept}
 use Rattle.ndc_cluster_links.specs.Rest.{IsFrontOf, IsRestOf, queue_at}
 
--- with the next message, what is kept is the front of one more
+-- with the next message, what is kept is the prefix of one more
 pub front_step : (kept : QueueValue) (whole : List Message) (sent : Message) → queue_len kept < length whole → IsFrontOf kept whole → get_or whole (queue_len kept) sent ≡ sent
     → IsFrontOf (pushed sent kept) whole
 front_step kept whole sent below it got =
@@ -29,7 +29,7 @@ pub front_more : (kept : QueueValue) (whole : List Message) (sent : Message) →
     → IsFrontOf (pushed sent kept) whole
 front_more kept whole sent below it got = front_step kept whole sent below it (get_or_from_slice_get whole (queue_len kept) sent sent got)
 
--- where a list goes on with an item, it is there, and the rest behind it
+-- where a list goes on with an item, it is there, and the rest after it
 pub next_there : {X : Type 0} (xs : List X) (n : ℕ) (x : X) (rest : List X) → drop n xs ≡ x ∷ rest → (n < length xs) × (get_or xs n x ≡ x) × (drop (n + 1) xs ≡ rest)
 next_there xs n x rest is =
     let below : n < length xs = omega (arith, ap length is, length-drop n xs) in
@@ -45,7 +45,7 @@ len_pushed sent kept = omega (arith, length-append kept.kept (sent ∷ []))
 pub front_all : (kept : QueueValue) (whole : List Message) → length whole ≤ queue_len kept → IsFrontOf kept whole → IsRestOf kept whole
 front_all kept whole past it = subst (IsRestOf kept) (take_all (queue_len kept) whole past) it
 
--- and the rest of a queue is its front too
+-- and the rest of a queue is its prefix too
 pub front_rest : (kept : QueueValue) (whole : List Message) → IsRestOf kept whole → IsFrontOf kept whole
 front_rest kept whole it =
     let past : length whole ≤ queue_len kept = omega (arith, len_kept kept whole it) in

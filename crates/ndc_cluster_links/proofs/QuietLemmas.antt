@@ -49,7 +49,7 @@ pub flights_rewound : (lanes : List Lane) → flights_of (map after_rewind lanes
 flights_rewound [] = refl
 flights_rewound (lane ∷ lanes) = ap (λ (flights : List (List Message)). lane.flight ∷ flights) (flights_rewound lanes)
 
--- the next lane is quiet, and those behind it
+-- the next lane is quiet, and those after it
 pub quiet_more : (lanes : List Lane) (i : ℕ) (lane : Lane) → i < length lanes → lane ≡ get_or lanes i lane → lane.flight ≡ [] → AreQuiet (drop (i + 1) lanes) → AreQuiet (drop i lanes)
 quiet_more lanes i lane below is none quiet =
     subst (λ (ls : List Lane). AreQuiet ls) (sym (at_drop_more (λ (ls : List Lane). ls) lanes i lane below ∙ ap (λ (l : Lane). l ∷ drop (i + 1) lanes) (sym is))) (none, quiet)

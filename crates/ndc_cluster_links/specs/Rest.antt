@@ -9,7 +9,7 @@ pub record IsRestOf (kept : QueueValue) (queue : List Message) : Type 0 where
   pub rest : kept.kept ≡ drop kept.first queue
   pub first_most : kept.first ≤ length queue
 
--- what is kept of a queue is the front of a whole one without its first entries
+-- what is kept of a queue is the prefix of a whole one without its first entries
 abbrev pub IsFrontOf : QueueValue → List Message → Type 0
 IsFrontOf kept queue = IsRestOf kept (take (queue_len kept) queue)
 
@@ -30,7 +30,7 @@ lane_at lanes shard = slice_index_or lanes shard new_lane
 abbrev pub AreRests : List QueueValue → (ℕ → List Message) → Type 0
 AreRests queues whole = (shard : ℕ) → shard < length queues → IsRestOf (queue_at queues shard) (whole shard)
 
--- what is kept of the queue of each shard is the front of a whole one
+-- what is kept of the queue of each shard is the prefix of a whole one
 abbrev pub AreFronts : List QueueValue → (ℕ → List Message) → Type 0
 AreFronts queues whole = (shard : ℕ) → shard < length queues → IsFrontOf (queue_at queues shard) (whole shard)
 

@@ -41,7 +41,8 @@ pub(crate) fn addressed(
     reader: ClusterNo,
     entries: &[Message],
 ) -> Result<Vec<Message>, OutOfMemory>
-    ensures { IfOk result (λ list. list.items ≡ filter (is_addressed reader table.now) entries.now) }
+    ensures { IfOk result (λ list.
+        list.items ≡ filter (is_addressed reader table.now) entries.now) }
 {
     if entries.is_empty() {
         return Ok(Vec::new(alloc));
@@ -56,7 +57,8 @@ fn copies_addressed(
     reader: ClusterNo,
     entries: &[Message],
 ) -> Result<Vec<Message>, OutOfMemory>
-    ensures { IfOk result (λ list. list.items ≡ filter (is_addressed reader table.now) entries.now) }
+    ensures { IfOk result (λ list.
+        list.items ≡ filter (is_addressed reader table.now) entries.now) }
 {
     let mut list = Vec::new(alloc);
     for entry in entries {
@@ -101,7 +103,8 @@ pub(crate) fn settled_front<C: Cell>(
     cell: &C,
     entries: &[Message],
 ) -> usize
-    ensures front { result ≡ prefix_len (needs_nothing reader table.now (C.cell cell.now)) entries.now }
+    ensures front { result ≡ prefix_len
+        (needs_nothing reader table.now (C.cell cell.now)) entries.now }
     ensures most { result ≤ length entries.now }
 {
     let mut count = 0;

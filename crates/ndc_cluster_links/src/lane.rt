@@ -39,7 +39,8 @@ impl Model for Lane {
 fn taken(queue: &Queue, level: u64, count: Option<u64>) -> Result<Vec<Message>, OutOfMemory>
     requires first { queue.now.first ≤ level }
     requires last { level ≤ queue_len queue.now }
-    ensures entries { IfOk result (λ taken. taken.items ≡ entries_from count (level - queue.now.first) queue.now.kept) }
+    ensures entries { IfOk result (λ taken.
+        taken.items ≡ entries_from count (level - queue.now.first) queue.now.kept) }
     ensures most { IfOk result (λ taken. level + length taken.items ≤ 10 ^ 12) }
 {
     let len = queue.len();
@@ -69,7 +70,9 @@ fn settled_from<C: Cell>(
 ) -> usize
     requires first { queue.now.first ≤ level }
     requires last { level ≤ queue_len queue.now }
-    ensures front { (whole : List Sent) → IsRestOf queue.now whole → result ≡ prefix_len (needs_nothing reader table.now (C.cell cell.now)) (drop level whole) }
+    ensures front { (whole : List Sent) → IsRestOf queue.now whole
+        → result ≡ prefix_len (needs_nothing reader table.now (C.cell cell.now))
+        (drop level whole) }
     ensures most { level + result ≤ 10 ^ 12 }
     ensures end { level + result ≤ queue_len queue.now }
 {
@@ -116,8 +119,8 @@ impl Lane {
 
     /// Takes the entries from `read` on, all or at most so many; those that are addressed to the reader go last in
     /// flight, and are counted. What is kept of the queue reaches from `read` or before it to its end, and `read` does
-    /// not lie behind this. Where memory runs out, the lane stays as it was. Where nothing was written behind `read`, this is
-    /// one comparison.
+    /// not lie beyond this. Where memory runs out, the lane stays as it was. Where nothing was written after `read`,
+    /// this is one comparison.
     pub fn pull(
         &mut self,
         table: &DomainTable,
@@ -127,8 +130,11 @@ impl Lane {
     ) -> Result<u64, OutOfMemory>
         requires first { queue.now.first ≤ self.old.levels.read }
         requires last { self.old.levels.read ≤ queue_len queue.now }
-        ensures pulled { OnOk result ((whole : List Sent) → IsRestOf queue.now whole → self.new ≡ after_pull reader table.now count whole self.old) }
-        ensures count { IfOk result (λ sent. (whole : List Sent) → IsRestOf queue.now whole → sent ≡ length (put_in_flight reader table.now count whole self.old)) }
+        ensures pulled { OnOk result ((whole : List Sent) → IsRestOf queue.now whole
+            → self.new ≡ after_pull reader table.now count whole self.old) }
+        ensures count { IfOk result (λ sent.
+            (whole : List Sent) → IsRestOf queue.now whole
+            → sent ≡ length (put_in_flight reader table.now count whole self.old)) }
         ensures most { IfOk result (λ sent. sent ≤ 10 ^ 12) }
         ensures done { self.new.levels.done ≡ self.old.levels.done }
         ensures unchanged { OnErr result (self.new ≡ self.old) }
@@ -163,8 +169,11 @@ impl Lane {
     ) -> Result<u64, OutOfMemory>
         requires first { queue.now.first ≤ self.old.levels.read }
         requires last { self.old.levels.read ≤ queue_len queue.now }
-        ensures pulled { OnOk result ((whole : List Sent) → IsRestOf queue.now whole → self.new ≡ after_pull reader table.now count whole self.old) }
-        ensures count { IfOk result (λ sent. (whole : List Sent) → IsRestOf queue.now whole → sent ≡ length (put_in_flight reader table.now count whole self.old)) }
+        ensures pulled { OnOk result ((whole : List Sent) → IsRestOf queue.now whole
+            → self.new ≡ after_pull reader table.now count whole self.old) }
+        ensures count { IfOk result (λ sent.
+            (whole : List Sent) → IsRestOf queue.now whole
+            → sent ≡ length (put_in_flight reader table.now count whole self.old)) }
         ensures most { IfOk result (λ sent. sent ≤ 10 ^ 12) }
         ensures done { self.new.levels.done ≡ self.old.levels.done }
         ensures unchanged { OnErr result (self.new ≡ self.old) }
@@ -193,7 +202,8 @@ impl Lane {
     ) -> u64
         requires first { queue.now.first ≤ self.old.levels.done }
         requires last { self.old.levels.done ≤ queue_len queue.now }
-        ensures renewed { (whole : List Sent) → IsRestOf queue.now whole → self.new ≡ after_renewal reader table.now (C.cell cell.now) whole self.old }
+        ensures renewed { (whole : List Sent) → IsRestOf queue.now whole
+            → self.new ≡ after_renewal reader table.now (C.cell cell.now) whole self.old }
         ensures flight { self.new.flight ≡ self.old.flight }
         ensures done { result ≡ self.new.levels.done }
         ensures most { result ≤ 10 ^ 12 }
@@ -217,7 +227,10 @@ impl Lane {
     ) -> Result<Vec<Message>, OutOfMemory>
         requires first { queue.now.first ≤ self.now.levels.done }
         requires last { self.now.levels.done ≤ queue_len queue.now }
-        ensures { IfOk result (λ list. (whole : List Sent) → IsRestOf queue.now whole → list.items ≡ filter (is_addressed reader table.now) (drop self.now.levels.done whole)) }
+        ensures { IfOk result (λ list.
+            (whole : List Sent) → IsRestOf queue.now whole
+            → list.items ≡ filter (is_addressed reader table.now)
+            (drop self.now.levels.done whole)) }
     {
         let entries = entries_of(queue, self.levels.done);
         let list = addressed(alloc, table, reader, entries)?;
@@ -247,8 +260,10 @@ impl Lane {
     /// there is none, [`FlightError::Memory`] where memory runs out. Where it is refused, the lane stays as it was.
     pub fn repeat(&mut self, place: usize) -> Result<(), FlightError>
         ensures repeated { OnOk result (after_repeat place self.old.flight ≡ Some self.new.flight) }
-        ensures refused { IfErr result (λ e. e ≢ error.Memory → after_repeat place self.old.flight ≡ None) }
-        ensures no_place { after_repeat place self.old.flight ≡ None → result ≡ Err error.NoSuchPlace }
+        ensures refused { IfErr result (λ e.
+            e ≢ error.Memory → after_repeat place self.old.flight ≡ None) }
+        ensures no_place { after_repeat place self.old.flight ≡ None
+            → result ≡ Err error.NoSuchPlace }
         ensures levels { self.new.levels ≡ self.old.levels }
         ensures unchanged { OnErr result (self.new ≡ self.old) }
     {
@@ -256,7 +271,7 @@ impl Lane {
     }
 
     /// Takes the message at one place in flight out and puts it back so that it stands at another. Refused exactly
-    /// where one of both is no place, and then the lane stays as it was. Takes no memory.
+    /// where one of the two is not a place, and then the lane stays as it was. Takes no memory.
     pub fn move_to(&mut self, from: usize, to: usize) -> Result<(), NoSuchPlace>
         ensures moved { MatchResult result
             (λ _. after_move from to self.old.flight ≡ Some self.new.flight)

@@ -36,7 +36,12 @@ impl Model for Link {
 
     ghost Value = { LinkValue };
 
-    ghost view = { λ link. record { reader = link.reader; source = link.source; lanes = link.lanes.items; late = link.late.items } };
+    ghost view = { λ link. record {
+      reader = link.reader;
+      source = link.source;
+      lanes = link.lanes.items;
+      late = link.late.items;
+    } };
 
     ghost use Rattle.ndc_cluster_links.specs.LinkFields.{IsLinkInside};
 
@@ -54,9 +59,11 @@ fn pull_lanes(
     requires few { length lanes.old.items ≤ 64 }
     requires within { AreWithin queues.now lanes.old.items }
     ensures pulled { OnOk result ((whole : ℕ → List Sent) → AreRests queues.now whole
-        → lanes.new.items ≡ map_from (λ shard lane. after_pull reader table.now None (whole shard) lane) 0 lanes.old.items) }
+        → lanes.new.items ≡ map_from (λ shard lane.
+        after_pull reader table.now None (whole shard) lane) 0 lanes.old.items) }
     ensures count { IfOk result (λ sent. (whole : ℕ → List Sent) → AreRests queues.now whole
-        → sent ≡ sum (map_from (λ shard lane. length (put_in_flight reader table.now None (whole shard) lane)) 0 lanes.old.items)) }
+        → sent ≡ sum (map_from (λ shard lane.
+        length (put_in_flight reader table.now None (whole shard) lane)) 0 lanes.old.items)) }
     ensures shards { length lanes.new.items ≡ length lanes.old.items }
     ensures done { done_of lanes.new.items ≡ done_of lanes.old.items }
 {
@@ -85,7 +92,9 @@ fn renew_lanes<C: Cell>(
     requires alike { length queues.now ≡ length lanes.old.items }
     requires within { AreWithin queues.now lanes.old.items }
     ensures renewed { (whole : ℕ → List Sent) → AreRests queues.now whole
-        → lanes.new.items ≡ map_from (λ shard lane. after_renewal reader table.now (cell_for shard (map C.cell cells.now)) (whole shard) lane) 0 lanes.old.items }
+        → lanes.new.items ≡ map_from (λ shard lane.
+        after_renewal reader table.now (cell_for shard (map C.cell cells.now))
+        (whole shard) lane) 0 lanes.old.items }
     ensures shards { length lanes.new.items ≡ length lanes.old.items }
     ensures flights { flights_of lanes.new.items ≡ flights_of lanes.old.items }
     ensures done { result ≡ done_of lanes.new.items }
@@ -174,7 +183,13 @@ impl Link {
         shards: u32,
     ) -> Result<Link, OutOfMemory>
         requires { shards ≤ 64 }
-        ensures { IfOk result (λ link. link ≡ record { reader = reader; source = source; lanes = replicate shards new_lane; late = [] }) }
+        ensures { IfOk result (λ link.
+            link ≡ record {
+              reader = reader;
+              source = source;
+              lanes = replicate shards new_lane;
+              late = [];
+            }) }
     {
         let mut lanes = Vec::new(alloc);
         while lanes.len() < shards as usize {
@@ -225,7 +240,8 @@ impl Link {
     pub fn is_done(&self, queues: &Queues) -> bool
         requires alike { length queues.now ≡ length self.now.lanes }
         requires within { AreWithin queues.now self.now.lanes }
-        ensures { IsTrue result → (shard : ℕ) → shard < length self.now.lanes → (lane_in self.now shard).levels.done ≡ queue_len (queue_at queues.now shard) }
+        ensures { IsTrue result → (shard : ℕ) → shard < length self.now.lanes
+            → (lane_in self.now shard).levels.done ≡ queue_len (queue_at queues.now shard) }
     {
         let written = queues.written();
         if self.done == written {
@@ -274,9 +290,14 @@ impl Link {
         requires alike { length queues.now ≡ length self.old.lanes }
         requires within { AreWithin queues.now self.old.lanes }
         ensures pulled { OnOk result ((whole : ℕ → List Sent) → AreRests queues.now whole
-            → self.new ≡ record self.old { lanes = map_from (λ shard lane. after_pull self.old.reader table.now None (whole shard) lane) 0 self.old.lanes }) }
+            → self.new ≡ record self.old {
+              lanes = map_from (λ shard lane.
+                  after_pull self.old.reader table.now None (whole shard) lane) 0 self.old.lanes;
+            }) }
         ensures count { IfOk result (λ sent. (whole : ℕ → List Sent) → AreRests queues.now whole
-            → sent ≡ sum (map_from (λ shard lane. length (put_in_flight self.old.reader table.now None (whole shard) lane)) 0 self.old.lanes)) }
+            → sent ≡ sum (map_from (λ shard lane.
+            length (put_in_flight self.old.reader table.now None (whole shard) lane)) 0
+            self.old.lanes)) }
     {
         let queues = queues.as_slice();
         self.quiet = false;
@@ -295,9 +316,11 @@ impl Link {
         requires shard { shard < length self.old.lanes }
         requires within { IsWithin queue.now (lane_in self.old shard) }
         ensures pulled { OnOk result ((whole : List Sent) → IsRestOf queue.now whole
-            → self.new ≡ with_lane_in shard (after_pull self.old.reader table.now (Some count) whole (lane_in self.old shard)) self.old) }
+            → self.new ≡ with_lane_in shard (after_pull self.old.reader table.now (Some count) whole
+            (lane_in self.old shard)) self.old) }
         ensures count { IfOk result (λ sent. (whole : List Sent) → IsRestOf queue.now whole
-            → sent ≡ length (put_in_flight self.old.reader table.now (Some count) whole (lane_in self.old shard))) }
+            → sent ≡ length (put_in_flight self.old.reader table.now (Some count) whole
+            (lane_in self.old shard))) }
         ensures unchanged { OnErr result (self.new ≡ self.old) }
     {
         let reader = self.reader;
@@ -318,7 +341,8 @@ impl Link {
         requires shard { shard < length self.now.lanes }
         requires within { IsWithin queue.now (lane_in self.now shard) }
         ensures { IfOk result (λ list. (whole : List Sent) → IsRestOf queue.now whole
-            → list.items ≡ filter (is_addressed self.now.reader table.now) (drop (lane_in self.now shard).levels.done whole)) }
+            → list.items ≡ filter (is_addressed self.now.reader table.now) (drop
+            (lane_in self.now shard).levels.done whole)) }
     {
         let lane = &self.lanes[shard];
         let list = lane.due(alloc, table, self.reader, queue)?;
@@ -333,7 +357,11 @@ impl Link {
         requires alike { length queues.now ≡ length self.old.lanes }
         requires within { AreWithin queues.now self.old.lanes }
         ensures { (whole : ℕ → List Sent) → AreRests queues.now whole
-            → self.new ≡ record self.old { lanes = map_from (λ shard lane. after_renewal self.old.reader table.now (cell_for shard (map C.cell cells.now)) (whole shard) lane) 0 self.old.lanes } }
+            → self.new ≡ record self.old {
+              lanes = map_from (λ shard lane.
+                  after_renewal self.old.reader table.now (cell_for shard (map C.cell cells.now))
+                  (whole shard) lane) 0 self.old.lanes;
+            } }
     {
         if self.done == queues.written() {
             return;
@@ -375,7 +403,11 @@ impl Link {
         requires within { AreWithin queues.now self.old.lanes }
         requires others { AreDoneBut shard queues.now self.old.lanes }
         ensures { (whole : ℕ → List Sent) → AreRests queues.now whole
-            → self.new ≡ record self.old { lanes = map_from (λ shard lane. after_renewal self.old.reader table.now (cell_for shard (map C.cell cells.now)) (whole shard) lane) 0 self.old.lanes } }
+            → self.new ≡ record self.old {
+              lanes = map_from (λ shard lane.
+                  after_renewal self.old.reader table.now (cell_for shard (map C.cell cells.now))
+                  (whole shard) lane) 0 self.old.lanes;
+            } }
     {
         let queue = &queues.as_slice()[shard];
         let lane = &mut self.lanes[shard];
@@ -409,9 +441,12 @@ impl Link {
     /// where there is none, [`FlightError::Memory`] where memory runs out. Where it is refused, the link stays as it was.
     pub fn repeat(&mut self, shard: usize, place: usize) -> Result<(), FlightError>
         requires { shard < length self.old.lanes }
-        ensures repeated { OnOk result (after_repeat place (flight_in shard self.old) ≡ Some (flight_in shard self.new)) }
-        ensures refused { IfErr result (λ e. e ≢ error.Memory → after_repeat place (flight_in shard self.old) ≡ None) }
-        ensures no_place { after_repeat place (flight_in shard self.old) ≡ None → result ≡ Err error.NoSuchPlace }
+        ensures repeated { OnOk result
+            (after_repeat place (flight_in shard self.old) ≡ Some (flight_in shard self.new)) }
+        ensures refused { IfErr result (λ e.
+            e ≢ error.Memory → after_repeat place (flight_in shard self.old) ≡ None) }
+        ensures no_place { after_repeat place (flight_in shard self.old) ≡ None
+            → result ≡ Err error.NoSuchPlace }
         ensures rest { self.new ≡ with_flight_in shard (flight_in shard self.new) self.old }
         ensures unchanged { OnErr result (self.new ≡ self.old) }
     {
@@ -421,7 +456,7 @@ impl Link {
     }
 
     /// Takes the message at one place in flight for a shard out and puts it back so that it stands at another. Refused
-    /// exactly where one of both is no place, and then the link stays as it was. Takes no memory.
+    /// exactly where one of the two is not a place, and then the link stays as it was. Takes no memory.
     pub fn move_to(&mut self, shard: usize, from: usize, to: usize) -> Result<(), NoSuchPlace>
         requires { shard < length self.old.lanes }
         ensures moved { MatchResult result
@@ -473,7 +508,10 @@ impl Link {
         before: &DomainTable,
         after: &DomainTable,
     ) -> Result<(), OutOfMemory>
-        ensures noted { OnOk result (self.new ≡ record self.old { late = self.old.late ++ newly_naming self.old.reader before.now after.now }) }
+        ensures noted { OnOk result
+            (self.new ≡ record self.old {
+              late = self.old.late ++ newly_naming self.old.reader before.now after.now;
+            }) }
         ensures unchanged { OnErr result (self.new ≡ self.old) }
     {
         let mut names = newly_naming(alloc, self.reader, before.records(), after)?;
@@ -484,7 +522,8 @@ impl Link {
     /// One domain more goes last among those of which the reader is a member late. Where memory runs out, the link stays as it
     /// was.
     pub fn add_late(&mut self, domain: Name) -> Result<(), OutOfMemory>
-        ensures added { OnOk result (self.new ≡ record self.old { late = self.old.late ++ domain ∷ [] }) }
+        ensures added { OnOk result
+            (self.new ≡ record self.old { late = self.old.late ++ domain ∷ [] }) }
         ensures unchanged { OnErr result (self.new ≡ self.old) }
     {
         self.late.push(domain)?;

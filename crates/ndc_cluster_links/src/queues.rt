@@ -50,8 +50,8 @@ fn push_fresh<C: Cell>(queue: &mut Queue, cell: &C, fresh: Fresh) -> Result<(), 
     Ok(())
 }
 
-/// Puts the messages last that a cell has written behind those of its queue, some of which may be at hand. Where memory runs
-/// out, some of them are there.
+/// Puts the messages last that a cell has written after those of its queue, some of which may be at hand. Where memory
+/// runs out, some of them are there.
 fn push_all<C: Cell>(queue: &mut Queue, cell: &C, fresh: Option<Fresh>) -> Result<(), OutOfMemory>
     requires front { IsFrontOf queue.old (C.cell cell.now).written }
     requires fresh { IfSome fresh (λ fresh. IsFresh fresh (C.cell cell.now)) }
@@ -68,7 +68,8 @@ fn push_all<C: Cell>(queue: &mut Queue, cell: &C, fresh: Option<Fresh>) -> Resul
     }
 }
 
-/// Puts the messages last that a cell has written behind those of its queue. Where memory runs out, some of them are there.
+/// Puts the messages last that a cell has written after those of its queue. Where memory runs out, some of them are
+/// there.
 fn push_written<C: Cell>(queue: &mut Queue, cell: &C) -> Result<(), OutOfMemory>
     requires { IsFrontOf queue.old (C.cell cell.now).written }
     ensures rest { OnOk result (IsRestOf queue.new (C.cell cell.now).written) }
@@ -148,8 +149,10 @@ impl Queues {
     pub fn trim(&mut self, shard: usize, level: u64) -> u64
         requires shard { shard < length self.old }
         requires level { level ≤ queue_len (queue_at self.old shard) }
-        ensures trimmed { self.new ≡ slice_set self.old shard (trimmed level (queue_at self.old shard)) }
-        ensures count { result ≡ max (queue_at self.old shard).first level - (queue_at self.old shard).first }
+        ensures trimmed { self.new
+            ≡ slice_set self.old shard (trimmed level (queue_at self.old shard)) }
+        ensures count { result ≡ max (queue_at self.old shard).first level
+            - (queue_at self.old shard).first }
     {
         let queue = &mut self.items[shard];
         let first = queue.first();
@@ -157,8 +160,9 @@ impl Queues {
         queue.first() - first
     }
 
-    /// Puts the messages last in the queue of a shard that its cell has written behind those that are there. Messages that it
-    /// has written from a place on may be at hand: they are not made again. Where memory runs out, some of them are there.
+    /// Puts the messages last in the queue of a shard that its cell has written after those that are there. Messages
+    /// that it has written from a place on may be at hand: they are not made again. Where memory runs out, some of them
+    /// are there.
     pub fn extend<C: Cell>(
         &mut self,
         shard: usize,

@@ -23,8 +23,10 @@ pub trait Reads: Cell {
     /// What it has learned of a workflow, with its states. There is none only where it has learned nothing of it. Takes no
     /// memory.
     fn runs(&self, domain: &Name, workflow: &Name) -> Option<&Runs>
-        ensures found { IfSome result (λ runs. runs.now ≡ learned_of domain.now workflow.now (Self.cell self.now)) }
-        ensures none { IfNone result (learned_of domain.now workflow.now (Self.cell self.now) ≡ []) };
+        ensures found { IfSome result (λ runs.
+            runs.now ≡ learned_of domain.now workflow.now (Self.cell self.now)) }
+        ensures none { IfNone result (learned_of domain.now workflow.now (Self.cell self.now)
+            ≡ []) };
 
     /// The version with which it may write to a workflow that has begun: that of its cluster's record of the domain. Takes no
     /// memory. Refused with the first of these that holds: [`Refusal::UnknownDomain`] where there is no record,
@@ -38,15 +40,19 @@ pub trait Reads: Cell {
         domain: &Name,
         workflow: &Name,
     ) -> Result<u64, Refusal>
-        ensures { result ≡ may_go_on (desk_of home.now table.now) domain.now workflow.now (Self.cell self.now) };
+        ensures { result ≡ may_go_on (desk_of home.now table.now) domain.now workflow.now
+            (Self.cell self.now) };
 
     /// Whether the batch of this key of a workflow has arrived. Takes no memory.
     fn has_arrived(&self, domain: &Name, workflow: &Name, key: BatchKey) -> bool
-        ensures { result ≡ is_some (batch_there (Self.cell self.now).arrived (record { domain = domain.now; workflow = workflow.now; key = key })) };
+        ensures { result ≡ is_some
+            (batch_there (Self.cell self.now).arrived
+            (record { domain = domain.now; workflow = workflow.now; key = key })) };
 
     /// Of each workflow of which something is put off the place of the first batch that is, in order of place.
     fn behind(&self, alloc: Global) -> Result<Vec<Place>, OutOfMemory>
-        ensures { IfOk result (λ list. list.items ≡ map place_of (workflows_of (put_off_in (Self.cell self.now)))) };
+        ensures { IfOk result (λ list.
+            list.items ≡ map place_of (workflows_of (put_off_in (Self.cell self.now)))) };
 
     /// What is put off, in order of place, each batch with the gap before it.
     fn gaps(&self, alloc: Global) -> Result<Vec<GapOf>, OutOfMemory>
@@ -59,9 +65,10 @@ pub trait Reads: Cell {
         domain: &Name,
         workflow: &Name,
     ) -> Result<Vec<GapOf>, OutOfMemory>
-        ensures { IfOk result (λ list. list.items ≡ gaps_in (workflow_of domain.now workflow.now (Self.cell self.now))) };
+        ensures { IfOk result (λ list.
+            list.items ≡ gaps_in (workflow_of domain.now workflow.now (Self.cell self.now))) };
 
-    /// What it serves for a gap of another cell: the messages of the batches in it, in path order, behind those of the
+    /// What it serves for a gap of another cell: the messages of the batches in it, in path order, after those of the
     /// carriers above the first of them. Nothing, where the batch that is put off there is not learned here.
     fn serve(&self, alloc: Global, asked: &GapOf) -> Result<Vec<Message>, OutOfMemory>
         ensures { IfOk result (λ list. list.items ≡ served_for asked.now (Self.cell self.now)) };
@@ -74,5 +81,7 @@ pub trait Reads: Cell {
         workflow: &Name,
         key: BatchKey,
     ) -> Result<Option<Message>, OutOfMemory>
-        ensures { IfOk result (λ sent. sent ≡ message_at (Self.cell self.now) (record { domain = domain.now; workflow = workflow.now; key = key })) };
+        ensures { IfOk result (λ sent.
+            sent ≡ message_at (Self.cell self.now)
+            (record { domain = domain.now; workflow = workflow.now; key = key })) };
 }

@@ -54,7 +54,7 @@ pub scheduling : (version : ℕ) (s : StateValue) → 1 < s.next → s.running �
 unfolding row
 scheduling version s later running none = (rule-none version s DecisionTaskScheduled refl later running none refl, tt)
 
--- an event that leaves the run open, and what wakes behind it
+-- an event that leaves the run open, and what wakes after it
 pub woken-allowed : (version : ℕ) (s : StateValue) (kind : EventKind) → rule_of s (next_event version s kind) ≡ None → 1 < s.next → (after_kind version s kind).running ≡ true
     → AreAllowed version s (woken version s kind)
 woken-allowed version s kind here later running = (here, by (is_some (after_kind version s kind).decision) refl)

@@ -23,7 +23,7 @@ use Rattle.ndc_command.proofs.JudgeLemmas.{behind-behind}
 use Rattle.ndc_command.proofs.NameLemmas.{pending-put, pending-without}
 use Rattle.ndc_command.proofs.TipLemmas.{judged-like}
 
--- what is pending behind an action's event is what the action makes of what was pending
+-- what is pending after an action's event is what the action makes of what was pending
 names-after : (version : ℕ) (next_run : RunId) (s : StateValue) (action : Action)
     → names_of (after_kind version s (action_kind next_run action)) ≡ noted action (names_of s)
 unfolding row action_kind noted
@@ -43,7 +43,7 @@ unfolding refuse
 not_refused true refusal h = absurd (cc)
 not_refused false refusal h = refl
 
--- what comes behind a first test that allows
+-- what comes after a first test that allows
 pub allowed_then : {A : Type 0} (first : Result (Unit {0}) CommandError) (rest : Result A CommandError) (x : A) → (first >> rest) ≡ Ok x → (first ≡ allowed) × (rest ≡ Ok x)
 allowed_then (Ok tt) rest x h = (refl, h)
 allowed_then (Err error) rest x h = absurd (cc)
@@ -66,7 +66,7 @@ actions-joined version next_run s (action ∷ actions) =
         ap (behind (action_kind next_run action ∷ [])) (rest ∙ ap (λ names. actions_by next_run names actions) (names-after version next_run s action))
     by (Err error) rest = refl
 
--- behind the decision that completes at the tip, the same names are pending as at the tip
+-- after the decision that completes at the tip, the same names are pending as at the tip
 pub response_joined : (version version' : ℕ) (next_run : RunId) (s : StateValue) (actions : List Action)
     → actions_written version next_run (after_kind version (judged_at s version') DecisionTaskCompleted) actions ≡ actions_by next_run (names_of s) actions
 unfolding row

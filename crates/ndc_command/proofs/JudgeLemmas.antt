@@ -12,7 +12,7 @@ use Rattle.ndc_command.specs.Actions.{Names, action_kind, judged, behind}
 use Rattle.ndc_command.specs.Judge.{noted, actions_by}
 use Rattle.ndc_command.specs.Stage.{allowed, ◌>>◌}
 
--- kinds put behind others in two steps
+-- kinds put after others in two steps
 pub behind-behind : (before front : List EventKind) (rest : Result (List EventKind) CommandError) → behind (before ++ front) rest ≡ behind before (behind front rest)
 behind-behind before front (Ok kinds) = ap (λ more. Ok more) (append_assoc before front kinds)
 behind-behind before front (Err error) = refl
@@ -25,7 +25,7 @@ unfolding actions_by
 actions-at next_run names actions i action lt e =
     ap (λ rest. actions_by next_run names rest) (drop_more actions i action lt ∙ ap (λ first. first ∷ drop (i + 1) actions) (sym e))
 
--- an action that is allowed puts its event behind those before it
+-- an action that is allowed puts its event after those before it
 pub actions_step : (next_run : RunId) (names after : Names) (actions : List Action) (i : ℕ) (action : Action) (before pushed : List EventKind)
     → i < length actions → action ≡ get_or actions i action → judged names action ≡ allowed → after ≡ noted action names → pushed ≡ before ++ action_kind next_run action ∷ []
     → behind pushed (actions_by next_run after (drop (i + 1) actions)) ≡ behind before (actions_by next_run names (drop i actions))
@@ -38,7 +38,7 @@ pub actions_refused : (next_run : RunId) (names : Names) (actions : List Action)
     → behind before (actions_by next_run names (drop i actions)) ≡ Err error
 actions_refused next_run names actions i action before error lt e judge = rw (actions-at next_run names actions i action lt e, judge) refl
 
--- behind the last action nothing comes
+-- after the last action nothing comes
 pub actions_done : (next_run : RunId) (names : Names) (actions : List Action) (i : ℕ) (before : List EventKind)
     → length actions ≤ i → behind before (actions_by next_run names (drop i actions)) ≡ Ok before
 unfolding actions_by

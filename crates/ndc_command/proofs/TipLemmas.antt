@@ -68,7 +68,7 @@ children_same s version = (judged-like s version).children
 pub wake_same : (s : StateValue) (version : ℕ) → wake (judged_at s version) ≡ wake s
 wake_same s version = (judged-like s version).wake
 
--- an event and what wakes behind it, put behind other kinds in two steps
+-- an event and what wakes after it, put after other kinds in two steps
 pub woken_behind : (s : StateValue) (version : ℕ) (before pushed now : List EventKind) (kind : EventKind)
     → pushed ≡ before ++ kind ∷ [] → now ≡ pushed ++ wake s → now ≡ before ++ kind ∷ wake (judged_at s version)
 woken_behind s version before pushed now kind one two =

@@ -55,7 +55,7 @@ not-false : (b : Bool) → not b ≡ false → b ≡ true
 not-false true h = refl
 not-false false h = absurd (cc)
 
--- the kinds of a result that is put behind others
+-- the kinds of a result that is put after others
 pub behind-Ok : (front kinds : List EventKind) (r : Result (List EventKind) CommandError) → behind front r ≡ Ok kinds → (rest : List EventKind) × ((r ≡ Ok rest) × (front ++ rest ≡ kinds))
 behind-Ok front kinds (Ok rest) h = (rest, (refl, cc))
 behind-Ok front kinds (Err error) h = absurd (cc)
@@ -134,7 +134,7 @@ module _ (version : ℕ) (s : StateValue) (ready : IsReady version s) where
   guarded : (first : Result (Unit {0}) CommandError) (xs kinds : List EventKind) → (first >> Ok xs) ≡ Ok kinds → (first ≡ allowed → AreAllowed version s xs) → AreAllowed version s kinds
   guarded first xs kinds w h = let p = allowed_then first (Ok xs) kinds w in plain xs kinds p.1 (h p.0)
 
-  -- such an event that leaves the run open, and what wakes behind it
+  -- such an event that leaves the run open, and what wakes after it
   waking : (kind : EventKind) → is_start kind ≡ false → (row s s.next version kind).alone ≡ false → (row s s.next version kind).own ≡ None → (after_kind version s kind).running ≡ s.running
       → AreAllowed version s (woken version s kind)
   waking kind other alone own same = woken-allowed version s kind (here kind other alone own) ready.later (same ∙ ready.running)

@@ -22,7 +22,7 @@ abbrev pub after_kinds : ℕ → StateValue → List EventKind → StateValue
 after_kinds version s [] = s
 after_kinds version s (kind ∷ kinds) = after_kinds version (after_kind version s kind) kinds
 
--- these kinds, and behind them those of a result
+-- these kinds, and after them those of a result
 abbrev pub behind : List EventKind → Result (List EventKind) CommandError → Result (List EventKind) CommandError
 behind front (Ok kinds) = Ok (front ++ kinds)
 behind front (Err error) = Err error
@@ -63,7 +63,7 @@ action_kind next_run (Fail reason) = kind.WorkflowExecutionFailed reason
 action_kind next_run Canceled = kind.WorkflowExecutionCanceled
 action_kind next_run (Continue workflow_type) = kind.WorkflowExecutionContinuedAsNew next_run workflow_type
 
--- an action is forbidden behind one that has closed the run, and where its row forbids it
+-- an action is forbidden after one that has closed the run, and where its row forbids it
 abbrev pub judged : Names → Action → Result (Unit {0}) CommandError
 judged names action = refuse (not names.running) Closed >> action_refusal names action
 

@@ -30,7 +30,7 @@ names_seen judge = record {
 abbrev pub marked : Name → Bool → (Name → Bool) → Name → Bool
 marked name pending names other = if same_name name other then pending else names other
 
--- what is pending behind an action
+-- what is pending after an action
 unfoldable pub noted : Action → Names → Names
 noted (Activity id _) names = record names { activity = marked id true names.activity }
 noted (Timer id) names = record names { timer = marked id true names.timer }
@@ -42,7 +42,7 @@ noted (Fail _) names = record names { running = false }
 noted Canceled names = record names { running = false }
 noted (Continue _) names = record names { running = false }
 
--- the events of actions, each judged by what is pending behind those before it
+-- the events of actions, each judged by what is pending after those before it
 unfoldable pub actions_by : RunId → Names → List Action → Result (List EventKind) CommandError
 actions_by next_run names [] = Ok []
 actions_by next_run names (action ∷ actions) =

@@ -13,7 +13,7 @@ abbrev pub begins_run : Command → Bool
 begins_run (Start workflow_type) = true
 begins_run command = false
 
--- the id of the last event of the history that a command writes behind: 0 for a start, which begins one
+-- the id of the last event of the history after which a command writes: 0 for a start, which begins one
 abbrev pub last_id : Option StateValue → Command → ℕ
 last_id state (Start workflow_type) = 0
 last_id None command = 0

@@ -24,7 +24,7 @@ judged_at s version = after_kinds version s (failover_close s version)
 abbrev pub beginning : Name → List EventKind
 beginning workflow_type = kind.WorkflowExecutionStarted workflow_type ∷ kind.DecisionTaskScheduled ∷ []
 
--- an event, and behind it the scheduling of a decision where none is pending there
+-- an event, and after it the scheduling of a decision where none is pending there
 abbrev pub woken : ℕ → StateValue → EventKind → List EventKind
 woken version s kind = kind ∷ wake (after_kind version s kind)
 
@@ -49,7 +49,7 @@ written v next_run s (ChildStart id) = needs_waiting (stage_of (pending_of id s.
 written v next_run s (ChildDone id result) = needs_started (stage_of (pending_of id s.children)) NoSuchChild ChildNotStarted >> Ok (woken v s (kind.ChildWorkflowExecutionCompleted id result))
 written v next_run s (ChildFail id reason) = needs_started (stage_of (pending_of id s.children)) NoSuchChild ChildNotStarted >> Ok (woken v s (kind.ChildWorkflowExecutionFailed id reason))
 
--- the kinds, where a history with this last id and them behind it keeps within the limit
+-- the kinds, where a history with this last id and them after it keeps within the limit
 unfoldable pub within : ℕ → ℕ → List EventKind → Result (List EventKind) CommandError
 within limit last kinds = refuse (nat_lt limit (last + length kinds)) HistoryFull >> Ok kinds
 

@@ -45,7 +45,7 @@ needs_started Waiting missing waiting = Err (Refused waiting)
 needs_started Started missing waiting = allowed
 
 infixl 10 ◌>>◌
--- the first refusal, or what comes behind it
+-- the first refusal, or what comes after it
 abbrev pub ◌>>◌ : {A : Type 0} → Result (Unit {0}) CommandError → Result A CommandError → Result A CommandError
 (Ok _) >> rest = rest
 (Err error) >> rest = Err error

@@ -14,6 +14,6 @@ use Rattle.ndc_command.specs.Plan.{judged_at, written}
 abbrev pub state_at : Tip → StateValue
 state_at tip = judged_at tip.state.now tip.version
 
--- what was put behind the kinds before is what the command writes there, or its refusal was answered
+-- what was put after the kinds before is what the command writes there, or its refusal was answered
 abbrev pub Adds : Tip → Command → List EventKind → List EventKind → Result (Unit {0}) CommandError → Type 0
 Adds tip command before now result = Gives Memory (λ _. now) result (behind before (written tip.version tip.next_run (state_at tip) command))

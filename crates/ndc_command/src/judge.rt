@@ -49,7 +49,8 @@ fn is_pending(changes: &HashMap<Name, bool>, name: &Name, before: bool) -> bool
 
 /// Notes whether the name is pending.
 fn mark(changes: &mut HashMap<Name, bool>, name: &Name, pending: bool) -> Result<(), OutOfMemory>
-    ensures { OnOk result ((other : NameValue) → get same_name changes.new other ≡ (if same_name name.now other then Some pending else get same_name changes.old other)) }
+    ensures { OnOk result ((other : NameValue) → get same_name changes.new other
+        ≡ (if same_name name.now other then Some pending else get same_name changes.old other)) }
 {
     changes.insert(name.try_copy()?, pending)?;
     Ok(())
@@ -146,7 +147,7 @@ impl<'a> Judge<'a> {
         }
     }
 
-    /// The refusal of the action: that of one behind one that has closed the run, or its row's.
+    /// The refusal of the action: that of one after one that has closed the run, or its row's.
     fn judge(&self, action: &Action) -> Result<(), CommandError>
         ensures { result ≡ judged (names_seen self.now) action.now }
     {
@@ -197,7 +198,7 @@ impl<'a> Judge<'a> {
     }
 }
 
-/// Appends the events of the actions, each judged behind those before it. Refused with the refusal of the
+/// Appends the events of the actions, each judged after those before it. Refused with the refusal of the
 /// first that is forbidden.
 #[tactic(auto, using(crate::proofs::JudgeLemmas::actions_step, crate::proofs::JudgeLemmas::actions_refused, crate::proofs::JudgeLemmas::actions_done))]
 pub(crate) fn push_actions(
@@ -206,7 +207,8 @@ pub(crate) fn push_actions(
     next_run: RunId,
     kinds: &mut Vec<EventKind>,
 ) -> Result<(), CommandError>
-    ensures { Gives Memory (λ _. kinds.new.items) result (behind kinds.old.items (actions_by next_run (names_of state.now) actions.now)) }
+    ensures { Gives Memory (λ _. kinds.new.items) result
+        (behind kinds.old.items (actions_by next_run (names_of state.now) actions.now)) }
 {
     let mut judge = Judge::new(*kinds.allocator(), state);
     for action in actions {

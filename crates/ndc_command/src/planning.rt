@@ -13,7 +13,7 @@ use ndc_event::{EventKind, Name, RunId};
 use ndc_state::State;
 use std::alloc::Global;
 
-/// Whether so many events behind one with this id are above the limit.
+/// Whether so many events after one with this id are above the limit.
 fn is_above(limit: u64, last: u64, count: usize) -> bool
     ensures { result ≡ nat_lt limit (last + count) }
 {
@@ -31,7 +31,8 @@ fn plan_start(
     workflow_type: &Name,
     limit: u64,
 ) -> Result<Vec<EventKind>, CommandError>
-    ensures { Gives Memory (λ kinds. kinds.items) result (start_of (option_copied state.entry) workflow_type.now limit) }
+    ensures { Gives Memory (λ kinds.
+        kinds.items) result (start_of (option_copied state.entry) workflow_type.now limit) }
 {
     let is_running = match state {
         None => false,
@@ -44,7 +45,7 @@ fn plan_start(
     Ok(kinds)
 }
 
-/// What a command that is no start writes below the tip of a run.
+/// What a command that is not a start writes below the tip of a run.
 #[tactic(auto, unfolding(crate::specs::Plan::plan_below, crate::specs::Plan::within))]
 fn plan_below(
     alloc: Global,
@@ -54,7 +55,8 @@ fn plan_below(
     limit: u64,
     next_run: RunId,
 ) -> Result<Vec<EventKind>, CommandError>
-    ensures { Gives Memory (λ kinds. kinds.items) result (plan_below state.now command.now version limit next_run) }
+    ensures { Gives Memory (λ kinds.
+        kinds.items) result (plan_below state.now command.now version limit next_run) }
 {
     refuse(!state.is_running(), Refusal::Closed)?;
     let mut kinds = Vec::new(alloc);
@@ -70,7 +72,7 @@ fn plan_below(
     Ok(kinds)
 }
 
-/// What a command that is no start writes in the current run, where there is one.
+/// What a command that is not a start writes in the current run, where there is one.
 fn plan_in_run(
     alloc: Global,
     state: Option<&State>,
@@ -79,7 +81,9 @@ fn plan_in_run(
     limit: u64,
     next_run: RunId,
 ) -> Result<Vec<EventKind>, CommandError>
-    ensures { Gives Memory (λ kinds. kinds.items) result (plan_in_run (option_copied state.entry) command.now version limit next_run) }
+    ensures { Gives Memory (λ kinds.
+        kinds.items) result (plan_in_run
+        (option_copied state.entry) command.now version limit next_run) }
 {
     match state {
         None => Err(CommandError::Refused(Refusal::NoWorkflow)),
@@ -93,14 +97,14 @@ fn plan_in_run(
 /// that of the new batch, which is not below the state's, `limit` is the greatest number of events that a
 /// run's history may have, and `next_run` is the run that a closing one goes on as. A start writes in a new
 /// run, any other command below the tip of the current one. Where a decision of an older version is started
-/// there, the events begin with its failover close, and the command is judged behind that. The actions of a
-/// response are judged in turn, each behind the events before it. Of a response that closes the run and
+/// there, the events begin with its failover close, and the command is judged after that. The actions of a
+/// response are judged in turn, each after the events before it. Of a response that closes the run and
 /// goes on, these are the events of the closing run; those of the new run are what a start writes.
 ///
 /// Refused with the first of these that holds: [`Refusal::NoWorkflow`] where there is no run and the command is
 /// no start; [`Refusal::AlreadyRunning`] at a start where the run is open, [`Refusal::Closed`] at any other
 /// command where it is closed; the refusal of the command's own, or of the first action that is forbidden, where
-/// one behind an action that closes the run is [`Refusal::Closed`]; [`Refusal::HistoryFull`] where the run's
+/// one after an action that closes the run is [`Refusal::Closed`]; [`Refusal::HistoryFull`] where the run's
 /// history would have more events than the limit.
 #[tactic(auto, unfolding(crate::specs::Plan::plan_of))]
 pub fn plan(
@@ -111,7 +115,9 @@ pub fn plan(
     limit: u64,
     next_run: RunId,
 ) -> Result<Vec<EventKind>, CommandError>
-    ensures { Gives Memory (λ kinds. kinds.items) result (plan_of (option_copied state.entry) command.now version limit next_run) }
+    ensures { Gives Memory (λ kinds.
+        kinds.items) result (plan_of
+        (option_copied state.entry) command.now version limit next_run) }
 {
     match command {
         Command::Start { workflow_type } => plan_start(alloc, state, workflow_type, limit),

@@ -8,7 +8,7 @@ use crate::stage::{Stage, needs_pending, needs_started, needs_waiting, stage_of}
 use ndc_event::{EventKind, Name, OutOfMemory, Rare, RunId};
 use ndc_state::State;
 
-/// Where a command writes: below the tip of a run with this state, with this version, and behind the failover
+/// Where a command writes: below the tip of a run with this state, with this version, and after the failover
 /// close where that is due. The methods answer for the state that the failover close leaves, without making it.
 #[derive(Clone, Copy)]
 pub(crate) struct Tip<'a> {
@@ -78,7 +78,8 @@ impl<'a> Tip<'a> {
 
     /// Appends an event that leaves the decision as it is and, where none is pending, the scheduling of one.
     fn push_woken(&self, kind: EventKind, kinds: &mut Vec<EventKind>) -> Result<(), OutOfMemory>
-        ensures { OnOk result (kinds.new.items ≡ kinds.old.items ++ kind ∷ wake (state_at self.now)) }
+        ensures { OnOk result (kinds.new.items ≡ kinds.old.items ++ kind
+            ∷ wake (state_at self.now)) }
     {
         kinds.push(kind)?;
         self.state.push_wake(kinds)?;
@@ -232,7 +233,8 @@ impl<'a> Tip<'a> {
         outcome: &Name,
         kinds: &mut Vec<EventKind>,
     ) -> Result<(), CommandError>
-        ensures { Adds self.now (ActivityDone id.now outcome.now) kinds.old.items kinds.new.items result }
+        ensures { Adds self.now (ActivityDone id.now outcome.now) kinds.old.items kinds.new.items
+            result }
     {
         needs_started(
             self.activity(id),
@@ -255,7 +257,8 @@ impl<'a> Tip<'a> {
         reason: &Name,
         kinds: &mut Vec<EventKind>,
     ) -> Result<(), CommandError>
-        ensures { Adds self.now (ActivityFail id.now reason.now) kinds.old.items kinds.new.items result }
+        ensures { Adds self.now (ActivityFail id.now reason.now) kinds.old.items kinds.new.items
+            result }
     {
         needs_started(
             self.activity(id),
@@ -321,7 +324,8 @@ impl<'a> Tip<'a> {
         outcome: &Name,
         kinds: &mut Vec<EventKind>,
     ) -> Result<(), CommandError>
-        ensures { Adds self.now (ChildDone id.now outcome.now) kinds.old.items kinds.new.items result }
+        ensures { Adds self.now (ChildDone id.now outcome.now) kinds.old.items kinds.new.items
+            result }
     {
         needs_started(
             self.child(id),
@@ -344,7 +348,8 @@ impl<'a> Tip<'a> {
         reason: &Name,
         kinds: &mut Vec<EventKind>,
     ) -> Result<(), CommandError>
-        ensures { Adds self.now (ChildFail id.now reason.now) kinds.old.items kinds.new.items result }
+        ensures { Adds self.now (ChildFail id.now reason.now) kinds.old.items kinds.new.items
+            result }
     {
         needs_started(
             self.child(id),
@@ -359,7 +364,7 @@ impl<'a> Tip<'a> {
         Ok(())
     }
 
-    /// What the command writes below the tip, behind the failover close where it is due. Refused with the
+    /// What the command writes below the tip, after the failover close where it is due. Refused with the
     /// first of the command's own refusals that holds.
     pub(crate) fn push(
         &self,

@@ -16,7 +16,7 @@ greater-cases P one other less not_less = by (key_lt one.1 other.1) refl
     by true e = less e
     by false e = not_less e
 
--- what is picked stands behind the place that is counted from
+-- what is picked stands after the place that is counted from
 IsPicked : ℕ → List BatchKey → ℕ × BatchKey → Type 0
 IsPicked place keys found = (at : ℕ) × (found.0 ≡ place + at) × IsGreatestAt keys at found.1
 

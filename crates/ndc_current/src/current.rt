@@ -26,7 +26,7 @@ fn greater(
 }
 
 /// The place of the greatest of the tips of the current branches of a workflow's runs; none exactly where there
-/// is no tip. Its run is the current one.
+/// is not a tip. Its run is the current one.
 pub fn pick(tips: &[BatchKey]) -> Option<usize>
     ensures { result ≡ pick_of tips.now }
 {

@@ -106,7 +106,7 @@ later_absent (first ∷ records) name later =
 told : (one two : List ℕ) → bytes_eq one two ≡ true → one ≡ two
 told one two e = (bytes_eq-Decides one two).0 e
 
--- what is found behind the first of ours
+-- what is found after the first of ours
 found_behind : (first : DomainRecord) (records : List DomainRecord) (name : List ℕ) → Rise (first ∷ records) →
     ((others : List DomainRecord) → Rise others → record_of (merged records others) name ≡ merged_option (record_of records name) (record_of others name)) →
     (others : List DomainRecord) → Rise others →

@@ -26,7 +26,7 @@ put_same new first records name e false t =
     let s : bytes_eq first.name name ≡ false = ap (λ (n : List ℕ). bytes_eq n name) (sym (names_equal new.name first.name e)) ∙ t in
     rw (t, s) refl
 
--- putting a record behind the first one
+-- putting a record after the first one
 put_later : (new first : DomainRecord) (records : List DomainRecord) (name : List ℕ) → names_cmp new.name first.name ≡ Greater →
     record_of (put_record new records) name ≡ cond (bytes_eq new.name name) (Some new) (record_of records name) →
     (t s : Bool) → bytes_eq first.name name ≡ t → bytes_eq new.name name ≡ s →
@@ -49,7 +49,7 @@ record_of-put new (first ∷ records) name =
     (λ e. put_same new first records name e (bytes_eq new.name name) refl)
     (λ e. put_later new first records name e (record_of-put new records name) (bytes_eq first.name name) (bytes_eq new.name name) refl refl)
 
--- what an answer behind four tests, behind three and behind one tells
+-- what an answer after four tests, after three and after one tells
 pub four_tests : {X E : Type 0} (a b c d : Bool) (e1 e2 e3 e4 : E) (x y : X) →
     cond a (Err e1) (cond b (Err e2) (cond c (Err e3) (cond d (Err e4) (Ok x)))) ≡ Ok y → (c ≡ false) × (d ≡ false) × (x ≡ y)
 four_tests true b c d e1 e2 e3 e4 x y h = absurd (cc)

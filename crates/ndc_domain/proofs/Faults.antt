@@ -87,12 +87,12 @@ fit_more n ms m fit none =
           ];
     }
 
--- no fault of a list is none at its head and none behind
+-- a list without a fault has none at its head and none after it
 no_first_fault : (one other : Option ClustersError) → first_fault one other ≡ None → (one ≡ None) × (other ≡ None)
 no_first_fault (Some fault) other h = absurd (cc)
 no_first_fault None other h = (refl, h)
 
--- members without a fault behind fit ones fit with them
+-- members without a fault after fit ones fit with them
 fit_all : (n : ℕ) (before ms : List (List ℕ × ℕ)) → AreFit n before → fault_from n before ms ≡ None → AreFit n (before ++ ms)
 fit_all n before [] fit none = rw (append-nil before) fit
 fit_all n before (m ∷ ms) fit none =
@@ -130,7 +130,7 @@ none_passes p (x ∷ xs) d h =
     let rest : list_any p xs ≡ false = none_passes p xs d (λ i l. h (suc i) (omega arith)) in
     rw head rest
 
--- a member of fitting ones breaks no rule behind those before it
+-- a member of fitting ones breaks no rule after those before it
 member_fits : (n : ℕ) (before : List (List ℕ × ℕ)) (m : List ℕ × ℕ) (ms : List (List ℕ × ℕ)) → AreFit n (before ++ m ∷ ms) → member_fault n before m ≡ None
 member_fits n before m ms fit =
     let total : length (before ++ m ∷ ms) ≡ length before + length (m ∷ ms) = length-append before (m ∷ ms) in

@@ -17,7 +17,7 @@ by_round P n old r same later =
       | false ↦ λ e. later (leb-false _ _ e)
     ] refl
 
--- a rest below n, behind whole rounds
+-- a rest below n, after whole rounds
 small_rest : (n k r x : ℕ) → r < n → x ≡ k * n + r → x % n ≡ r
 small_rest n k r x l e = ap (λ (y : ℕ). y % n) e ∙ mod-mul-add k n r l
 

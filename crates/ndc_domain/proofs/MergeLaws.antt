@@ -23,7 +23,7 @@ absent_before : (name : List ℕ) (first : DomainRecord) (records : List DomainR
     record_of (first ∷ records) name ≡ None
 absent_before name first records l rise = later_absent (first ∷ records) name (l, later_trans name first.name records l rise.0)
 
--- what is found behind two first records of one name
+-- what is found after two first records of one name
 tails_alike : (one two : DomainRecord) (xs ys : List DomainRecord) → Rise (one ∷ xs) → Rise (two ∷ ys) → one ≡ two →
     ((name : List ℕ) → record_of (one ∷ xs) name ≡ record_of (two ∷ ys) name) → (name : List ℕ) → record_of xs name ≡ record_of ys name
 tails_alike one two xs ys rise rise' same found name = by_test (bytes_eq one.name name) refl

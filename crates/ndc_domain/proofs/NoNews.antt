@@ -75,7 +75,7 @@ nothing_counted p (first ∷ records) none =
     let rest : count_by p records ≡ 0 = nothing_counted p records none.1 in
     omega arith
 
--- each record of a table is found by its name, behind a first one that comes before them too
+-- each record of a table is found by its name, after a first one that comes before them too
 found_behind : (all records : List DomainRecord) → Rise records
     → ((one : DomainRecord) → record_of records one.name ≡ Some one → record_of all one.name ≡ Some one) → AllByRecursion (λ one. record_of all one.name ≡ Some one) records
 found_behind all [] rise more = tt

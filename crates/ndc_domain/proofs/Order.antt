@@ -121,7 +121,7 @@ none_before : (rs : List DomainRecord) (n : List ℕ) → BeforeAre rs n zero
 unfolding BeforeAre
 none_before rs n k l = absurd (omega arith)
 
--- the record at a place behind earlier names is the one that is found
+-- the record at a place after earlier names is the one that is found
 at_found : (records : List DomainRecord) (n : List ℕ) (place : ℕ) → place < length records → BeforeAre records n place →
     names_cmp (get_or records place no_record).name n ≡ Equal → record_of records n ≡ slice_get records place
 at_found [] n place l before here = absurd (omega arith)

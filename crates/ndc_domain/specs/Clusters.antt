@@ -54,7 +54,7 @@ has_name name members = list_any (λ member. bytes_eq member.0 name) members
 abbrev pub has_initial : ℕ → List (List ℕ × ℕ) → Bool
 has_initial initial members = list_any (λ member. member.1 == initial) members
 
--- the first rule that a member breaks behind those before it
+-- the first rule that a member breaks after those before it
 abbrev pub member_fault : ℕ → List (List ℕ × ℕ) → List ℕ × ℕ → Option ClustersError
 member_fault increment before member =
     if nat_le 8 (length before) then Some (TooMany (length before))
@@ -68,7 +68,7 @@ abbrev pub first_fault : Option ClustersError → Option ClustersError → Optio
 first_fault (Some fault) later = Some fault
 first_fault None later = later
 
--- the first fault of the members that come behind those before
+-- the first fault of the members that come after those before
 abbrev pub fault_from : ℕ → List (List ℕ × ℕ) → List (List ℕ × ℕ) → Option ClustersError
 fault_from increment before [] = None
 fault_from increment before (member ∷ members) =
@@ -79,7 +79,7 @@ abbrev pub clusters_without : Option ClustersError → ClusterList → Result Cl
 clusters_without None clusters = Ok clusters
 clusters_without (Some fault) clusters = Err fault
 
--- the clusters of an increment and members, or the first reason why they are none
+-- the clusters of an increment and members, or the first reason why there are none
 abbrev pub clusters_of : ℕ → List (List ℕ × ℕ) → Result ClusterList ClustersError
 clusters_of increment members =
     if (increment == 0) || nat_lt (10 ^ 12) increment then Err IncrementLimit

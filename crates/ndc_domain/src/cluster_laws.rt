@@ -28,10 +28,12 @@ pub fn clusters_are_found_by_name()
 pub fn versions_have_one_writer()
     ensures rest { (clusters : ClusterList) (version : ℕ) (cluster : ClusterNo) →
         writer_of clusters version ≡ Some cluster →
-        (cluster.number < count_of clusters) × (initial_of clusters cluster ≡ version % clusters.increment) }
+        (cluster.number < count_of clusters)
+        × (initial_of clusters cluster ≡ version % clusters.increment) }
     ensures writer { (clusters : ClusterList) (version : ℕ) (cluster : ClusterNo) →
         AreClusters clusters → cluster.number < count_of clusters →
-        initial_of clusters cluster ≡ version % clusters.increment → writer_of clusters version ≡ Some cluster }
+        initial_of clusters cluster ≡ version % clusters.increment → writer_of clusters version
+        ≡ Some cluster }
 {}
 
 /// The next version that is found by remainders is the least version of the cluster that is not

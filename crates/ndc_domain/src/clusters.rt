@@ -23,7 +23,7 @@ pub struct ClusterNo {
     pub number: u32,
 }
 
-/// Why an increment and members are no clusters. A place is that of the member that breaks the rule
+/// Why an increment and members are not clusters. A place is that of the member that breaks the rule
 /// first, counted from 0.
 #[derive(Clone, Copy, Debug, PartialEq, Eq, Error)]
 pub enum ClustersError {
@@ -61,7 +61,8 @@ impl Model for Clusters {
 
     ghost Value = { ClusterList };
 
-    ghost view = { λ clusters. record { increment = clusters.increment; members = clusters.members.items } };
+    ghost view = { λ clusters.
+        record { increment = clusters.increment; members = clusters.members.items } };
 
     ghost invariant = { λ clusters.
         AreClusters (record { increment = clusters.increment; members = clusters.members.items }) };
@@ -81,7 +82,7 @@ fn has_initial(members: &[(Name, u64)], initial: u64) -> bool
     members.iter().any(|member| member.1 == initial)
 }
 
-/// What is wrong with the member that comes behind those before, if anything.
+/// What is wrong with the member that comes after those before, if anything.
 fn member_fault(
     increment: u64,
     before: &[(Name, u64)],
@@ -262,7 +263,8 @@ impl Clusters {
         requires to { to.number < count_of self.now }
         ensures answer { result ≡ next_version_of self.now old to }
         ensures least { IfOk result (λ next. IsNext self.now old to next) }
-        ensures limit { IfErr result (λ _. (next : ℕ) → IsNext self.now old to next → 10 ^ 13 < next) }
+        ensures limit { IfErr result (λ _.
+            (next : ℕ) → IsNext self.now old to next → 10 ^ 13 < next) }
     {
         let next = self.next_of(old, to);
         if next <= MAX_VERSION {

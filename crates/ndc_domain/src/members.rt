@@ -25,7 +25,8 @@ impl Model for Members {
 
     ghost inverse = { λ members. record { flags = flags_of members } };
 
-    ghost inverse_ok = { λ members length_is. ap (λ flags. record { flags = flags }) (flags_back members.flags length_is) };
+    ghost inverse_ok = { λ members length_is.
+        ap (λ flags. record { flags = flags }) (flags_back members.flags length_is) };
 }
 
 impl Members {
@@ -37,7 +38,8 @@ impl Members {
         requires { All (λ cluster. cluster.number < 8) list.now }
         ensures members { result ≡ members_of list.now }
         ensures below { (count : ℕ) →
-            All (λ cluster. cluster.number < count) list.now → All (λ member. member < count) result }
+            All (λ cluster. cluster.number < count) list.now
+            → All (λ member. member < count) result }
     {
         let mut flags = [false; 8];
         for cluster in list {

@@ -78,7 +78,7 @@ pub(crate) fn merge_count(records: &[DomainRecord], others: &[DomainRecord]) -> 
     count + (others.len() - theirs) as u64
 }
 
-/// Puts copies of the records behind the others.
+/// Puts copies of the records after the others.
 fn push_copies(all: &mut Vec<DomainRecord>, records: &[DomainRecord]) -> Result<(), OutOfMemory>
     ensures { OnOk result (all.new.items ≡ all.old.items ++ records.now) }
 {

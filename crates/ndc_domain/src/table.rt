@@ -46,7 +46,8 @@ fn failover_version(
     old: &DomainRecord,
 ) -> Result<u64, FailoverError>
     requires { old.now.version ≤ 10 ^ 13 }
-    ensures version { Answers (λ version. version) result (failover_version_of clusters.now target old.now) }
+    ensures version { Answers (λ version.
+        version) result (failover_version_of clusters.now target old.now) }
     ensures most { IfOk result (λ version. version ≤ 10 ^ 13) }
 {
     if clusters.count() <= target.number {
@@ -124,7 +125,7 @@ impl DomainTable {
     /// config version 0 and these days and members. Refused with [`DomainError::NotPrimary`] where
     /// `at` is not cluster 0, then [`DomainError::DomainExists`] where there is a record of the
     /// name, [`DomainError::UnknownTarget`] where the target is not below the count of the
-    /// clusters, and [`DomainError::NotMember`] where it is no member. [`DomainError::Memory`]
+    /// clusters, and [`DomainError::NotMember`] where it is not a member. [`DomainError::Memory`]
     /// where memory runs out. Where it is refused, the table stays as it was. The members given are
     /// below the count of the clusters.
     pub fn register(

@@ -258,7 +258,7 @@ body-is first lines body = by (begins_first lines)
 assoc : (a b c d : List ℕ) → a ++ (b ++ (c ++ d)) ≡ ((a ++ b) ++ c) ++ d
 assoc a b c d = sym (append_assoc (a ++ b) c d ∙ append_assoc a b (c ++ d))
 
--- where there is a line behind it, the first one has its end
+-- where there is a line after it, the first one has its end
 first-ends : (first : List ℕ) (lines : List (List ℕ)) → AreEnded (first ∷ lines) → begins_first lines ≡ true → IsEnded first
 first-ends first [] h e = absurd (cc)
 first-ends first (next ∷ lines) h e = h.0

@@ -5,7 +5,7 @@ use Rattle.std.proofs.lemmas.List.Edits.{map_over_more}
 use Rattle.ndc_event.specs.declared.batch.Batch.{Batch}
 use Rattle.ndc_dump.specs.Migrated.{is_carried, with_carrier, with_carrier_in}
 
--- what comes next behind a changed front is as it was
+-- what comes next after a changed prefix is as it was
 next-same : (f : Batch → Batch) (xs : List Batch) (i : ℕ) (x : Batch) → i < length xs → get_or (map f (take i xs) ++ drop i xs) i x ≡ get_or xs i x
 next-same f [] i x less = absurd (omega (arith, less))
 next-same f (y ∷ ys) zero x less = refl

@@ -190,7 +190,7 @@ carrier-keeps batches = record {
   events = λ b. elim (is_carried batches b) as (λ (t : Bool). (if t then record b { carrier = Some (key_before b.key) } else b).events ≡ b.events) [ true ↦ refl | false ↦ refl ];
 }
 
--- the set that batches stand for shows the runs that they show
+-- the set that batches represent shows the runs that they show
 pub standing-runs : (form : TextForm) (batches : List Batch) → (view_of (standing_for form batches)).runs ≡ (view_of batches).runs
 standing-runs One batches = view-of (with_carrier_in batches) (carrier-keeps batches) batches
 standing-runs Two batches = refl

@@ -29,13 +29,13 @@ pub line_len-some : (bs : List ℕ) → 0 < length bs → 0 < line_len bs
 line_len-some [] n = absurd (omega arith)
 line_len-some (b ∷ bs) n = elim (b == 10) as (λ (t : Bool). 0 < cond t 1 (suc (line_len bs))) [ true ↦ omega arith | false ↦ omega arith ]
 
--- what stands in front of a line's end
+-- what stands before a line's end
 pub front-within : (line : List ℕ) → length (without_end line) ≤ length line
 front-within [] = omega arith
 front-within (b ∷ bs) =
     elim (b == 10) as (λ (t : Bool). length (cond t [] (b ∷ without_end bs)) ≤ length (b ∷ bs)) [ true ↦ omega arith | false ↦ omega (arith, front-within bs) ]
 
--- the first line is what stands in front of its end, and the end, where there is one
+-- the first line is what stands before its end, and the end, where there is one
 pub line_len-end : (bs : List ℕ) → min (length (without_end bs) + 1) (length bs) ≡ line_len bs
 line_len-end [] = refl
 line_len-end (b ∷ bs) =

@@ -181,7 +181,7 @@ some-mapped : {X Y : Type 0} (f : X → Y) (xs : List X) → xs ≢ [] → map f
 some-mapped f [] some none = some refl
 some-mapped f (x ∷ xs) some none = absurd (cc)
 
--- the set that they stand for, in whatever form they are
+-- the set that they represent, in whatever form they are
 standing : (text : TextForm) (domain workflow : Name) (batches : List Batch) → AreRead batches → (text ≡ form.One → AllByRecursion (λ b. b.carrier ≡ None) batches) → AreFound domain workflow batches
     → AreFound domain workflow (standing_for text batches)
 standing form.Two domain workflow batches read bare found = found
@@ -196,7 +196,7 @@ view-shown : (view v : View) (o : Option ℕ) → shown_or view o ≡ Ok v → v
 view-shown view v None e = cc
 view-shown view v (Some n) e = absurd (cc)
 
--- batches that were read, and of which no cause holds, stand for a set that can be dumped
+-- batches that were read, and of which no cause holds, represent a set that can be dumped
 pub set-found : (lines : List (List ℕ)) (heading : Heading) (body : List (List ℕ)) (batches : List Batch) → heading_of lines ≡ Ok heading → body_of lines ≡ Ok body → batches_on heading 2 None body ≡ Ok batches
     → sound_or batches ≡ Ok tt → CanBeDumped heading.domain heading.workflow (standing_for heading.form batches)
 set-found lines heading body batches headed has reads sound =
@@ -224,7 +224,7 @@ found-on lines d e =
     subst (λ (x : Dump). CanBeDumped x.domain x.workflow d.view.batches) last
     (subst (CanBeDumped one.0.domain one.0.workflow) batches (set-found lines one.0 second.0 three.0 one.1 second.1 three.1 (four.1 ∙ refl)))
 
--- what is read, in whatever form, stands for a set that can be dumped
+-- what is read, in whatever form, represents a set that can be dumped
 pub can-be-dumped : (bytes : List ℕ) (d : Dump) → dump_of bytes ≡ Ok d → CanBeDumped d.domain d.workflow d.view.batches
 unfolding dump_of
 can-be-dumped bytes d e = found-on (lines_of bytes) d e

@@ -12,7 +12,7 @@ use Rattle.ndc_model_sets.specs.Branches.{same_run}
 use Rattle.ndc_model_sets.proofs.BranchLemmas.{run-same}
 
 module _ {V : Type 0} (f : V → List Batch) where
-  -- the batches that the values under the runs stand for
+  -- the batches that the values under the runs represent
   abbrev seen : List (RunId × V) → List (RunId × List Batch)
   seen entries = map (λ entry. (entry.0, f entry.1)) entries
 
@@ -20,12 +20,12 @@ module _ {V : Type 0} (f : V → List Batch) where
   pub listed-at : (run : RunId) (entries : List (RunId × V)) (o : Option V) → lookup (same_run run) entries ≡ o → listed run (seen entries) ≡ unwrap_or (option_map f o) []
   listed-at run entries o at = ap (λ l. unwrap_or l []) (lookup-map_values f (same_run run) entries ∙ ap (option_map f) at)
 
-  -- what a value stands for, or an empty one
+  -- what a value represents, or an empty one
   value-or : (empty : V) → f empty ≡ [] → (o : Option V) → f (unwrap_or o empty) ≡ unwrap_or (option_map f o) []
   value-or empty none None = none
   value-or empty none (Some v) = refl
 
-  -- a list was taken out, and put back with a batch behind
+  -- a list was taken out, and put back with one more batch at its end
   pub put-behind : (b : Batch) (empty list : V) (before between after : List (RunId × V)) → f empty ≡ []
       → f list ≡ f (unwrap_or (lookup (same_run b.run) before) empty) ++ b ∷ []
       → ((run : RunId) → lookup (same_run run) between ≡ cond (same_run b.run run) None (lookup (same_run run) before))
@@ -43,7 +43,7 @@ module _ {V : Type 0} (f : V → List Batch) where
           listed-at run after (lookup (same_run run) before) (put run ∙ rw e (taken run ∙ rw e refl))
           ∙ sym (listed-at run before _ refl) ∙ sym (rw e (append-nil (listed run (seen before))))
 
-  -- what a look-up lends stands for what is listed under the run
+  -- what a look-up lends represents what is listed under the run
   module _ {L : Type 0} (lent : L → V) (run : RunId) (entries : List (RunId × V)) where
     pub lent-some : (o : Option L) → option_map lent o ≡ lookup (same_run run) entries → IfSome o (λ x. f (lent x) ≡ listed run (seen entries))
     lent-some None at = tt

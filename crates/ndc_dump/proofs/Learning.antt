@@ -33,13 +33,13 @@ later-key before key less = (behind (key_lt key before) refl, other (key_eq key 
     other true e = absurd (before-irrefl key (subst (λ (k : BatchKey). key_lt k key ≡ true) (sym (same-keys key before e)) less))
     other false e = e
 
--- what stands behind a front comes after each batch of it
+-- what stands after a prefix comes after each batch of it
 come-behind : (front back : List Batch) (x : Batch) → Rise (front ++ back) → Among x front → ComeAfter x.key back
 come-behind [] back x rise among = absurd among
 come-behind (y ∷ front) back x rise (inl same) = subst (λ (z : Batch). ComeAfter z.key back) (sym same) (after-parts y.key front back rise.0).1
 come-behind (y ∷ front) back x rise (inr k) = come-behind front back x rise.1 k
 
--- a batch that comes behind all others goes last
+-- a batch that comes after all others goes last
 goes-last : (front : List Batch) (b : Batch) (back : List Batch) → Rise (front ++ b ∷ back) → arrived b front ≡ front ++ b ∷ []
 goes-last [] b back rise = refl
 goes-last (y ∷ front) b back rise =
@@ -64,11 +64,11 @@ module _ (front back : List Batch) (s : IsSound (front ++ back)) where
   abbrev rise : Rise (front ++ back)
   rise = s.set.ordered
 
-  -- what is found in the front is found in the whole
+  -- what is found in the prefix is found in the whole
   has-whole : IsPart front (front ++ back)
   has-whole x has = at-append front back x.key ∙ ap (λ o. option_or o (batch_at x.key back)) has
 
-  -- an earlier key of the front is found there, where it is found
+  -- an earlier key of the prefix is found there, where it is found
   found-front : (x : Batch) (key : BatchKey) → Among x front → key_lt key x.key ≡ true → batch_at key (front ++ back) ≡ batch_at key front
   found-front x key among less =
       at-append front back key ∙ ap (λ o. option_or (batch_at key front) o) (none-there back key (after-trans key x.key back less (come-behind front back x rise among)))
@@ -91,7 +91,7 @@ module _ (front back : List Batch) (s : IsSound (front ++ back)) where
           ∙ sym (ap is_some (found-front x key (has-among front x has) (all-among PointsBack front x points-back (has-among front x has) key e)))
           ∙ sym (ap (λ o. has_key o (front ++ back)) e) ∙ s.closed x (has-whole x has)
 
-  -- a front of a sound set is sound
+  -- a prefix of a sound set is sound
   pub front-sound : IsSound front
   front-sound = part_is_sound (front ++ back) front s (record { ordered = (rise-parts front back rise).0; back = points-back }) front-closed has-whole
 

@@ -48,7 +48,7 @@ flip one two = by (key_eq one two) (key_eq two one) refl refl
     by false true e f = sym (ap (λ k. key_eq k one) (same-keys two one f) ∙ ap (λ k. key_eq one k) (sym (same-keys two one f)))
     by false false e f = e ∙ sym f
 
--- a batch in front of a path
+-- a batch before a path
 has-front : (key : BatchKey) (b : Batch) (path : List Batch) → has_key (Some key) (b ∷ path) ≡ (key_eq b.key key || has_key (Some key) path)
 has-front key b path = by (key_eq b.key key) refl
   where

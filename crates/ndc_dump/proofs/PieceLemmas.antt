@@ -18,7 +18,7 @@ Sent_next before now after pieces i d within sent taken =
     Sent_piece before now after (bytes_of pieces) ((get_or pieces i d).now) (bytes_of (drop (i + 1) pieces))
     (subst (λ (rest : List ℕ). Sent before now (bytes_of pieces) rest) (next_piece pieces i d within) sent) taken
 
--- of a further piece only a front is written
+-- of a further piece only a prefix is written
 pub Sent_last : (before now after : Option (List ℕ)) (pieces : List (Bor (List ℕ))) (i : ℕ) (d : Bor (List ℕ)) → i < length pieces → Sent before now (bytes_of pieces) (bytes_of (drop i pieces)) → AppendsFront now after ((get_or pieces i d).now) → AppendsFront before after (bytes_of pieces)
 Sent_last before now after pieces i d within sent part =
     Sent_part before now after (bytes_of pieces) ((get_or pieces i d).now) (bytes_of (drop (i + 1) pieces))

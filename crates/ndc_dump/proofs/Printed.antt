@@ -38,7 +38,7 @@ use Rattle.ndc_dump.proofs.Unbroken.{is_unbroken, text-unbroken, unbroken-append
 
 -- ---- lines
 
--- a text without a line end, with one behind it, is the first line
+-- a text without a line end, with one after it, is the first line
 lines-line : (line rest : List ℕ) → is_unbroken line ≡ true → lines_of (line ++ 10 ∷ rest) ≡ (line ++ 10 ∷ []) ∷ lines_of rest
 lines-line [] rest h = refl
 lines-line (b ∷ bs) rest h = by (b == 10) h (lines-line bs rest)

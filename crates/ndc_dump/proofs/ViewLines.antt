@@ -1,4 +1,4 @@
--- The lines behind those of batches, and where they differ from what is shown.
+-- The lines after those of batches, and where they differ from what is shown.
 use Rattle.std.proofs.Common.{◌≡◌, ℕ, zero, suc, ◌<◌, ◌≤◌, Bool, true, false, List, [], ◌∷◌, ◌++◌, map, length, drop, codes, if◌then◌else◌, Option, Some, None, Ok, Err, refl, sym, ap, ◌∙◌, arith}
 use Rattle.std.specs.List.{flat_map}
 use Rattle.std.proofs.lemmas.List.{length-map, length-drop}
@@ -73,7 +73,7 @@ unfolding view_on
 shown-same number lines form batches runs o view same e f g =
     ap (shown_or (view_of (standing_for form batches))) (differs number lines form batches runs o same e ∙ f) ∙ ap Ok (sym g)
 
--- the view of the set that batches stand for has its batches, and the runs of the set that was read
+-- the view of the set that batches represent has its batches, and the runs of the set that was read
 pub standing-view : (form : TextForm) (batches stands : List Batch) (runs : List RunView) → stands ≡ standing_for form batches → runs ≡ (view_of batches).runs
     → record { batches = stands; runs = runs } ≡ view_of (standing_for form batches)
 standing-view form batches stands runs e f =

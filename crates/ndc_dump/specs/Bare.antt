@@ -15,7 +15,7 @@ use Rattle.ndc_dump.specs.Migrated.{standing_for}
 use Rattle.ndc_dump.specs.Read.{dump_with, shown_or}
 use Rattle.ndc_dump.specs.declared.dump.Dump.{Dump}
 
--- the dump whose heading and batches these lines are, with no line behind them
+-- the dump whose heading and batches these lines are, with no line after them
 unfoldable pub bare_dump_on : List (List ℕ) → Result Dump DumpError
 bare_dump_on lines = do
   heading ← heading_of lines

@@ -16,7 +16,7 @@ use Rattle.ndc_dump.specs.declared.frame.Heading.{Heading}
 use Rattle.ndc_dump.specs.Frame.{begins_batch}
 use Rattle.ndc_dump.specs.Lines.{without_end}
 
--- why the text of a line is that of no batch, as the fault of the line with this number
+-- why the text of a line is not that of a batch, as the fault of the line with this number
 abbrev pub text_fault : ℕ → TextError → DumpError
 text_fault number text.NotJson = dump.Line number cause.NotJson
 text_fault number text.MissingKey = dump.Line number cause.MissingKey
@@ -58,18 +58,18 @@ abbrev pub placed_or : ℕ → Batch → Option LineCause → Result Batch DumpE
 placed_or number b None = Ok b
 placed_or number b (Some fault) = Err (dump.Line number fault)
 
--- the batch of the line with this number, behind the batch with the last key
+-- the batch of the line with this number, after the batch with the last key
 unfoldable pub batch_on : Heading → ℕ → Option BatchKey → List ℕ → Result Batch DumpError
 batch_on heading number last line = do
   b ← on_line number (read_of heading.form (without_end line))
   placed_or number b (out_of_order heading last b)
 
--- the batches behind the first ones
+-- the batches after the first ones
 abbrev pub behind : List Batch → Result (List Batch) DumpError → Result (List Batch) DumpError
 behind front (Ok batches) = Ok (front ++ batches)
 behind front (Err error) = Err error
 
--- the batches of the lines, up to the first line that is none of a batch
+-- the batches of the lines, up to the first line that is not a batch's
 abbrev pub batches_on : Heading → ℕ → Option BatchKey → List (List ℕ) → Result (List Batch) DumpError
 batches_on heading number last [] = Ok []
 batches_on heading number last (line ∷ lines) =
@@ -77,12 +77,12 @@ batches_on heading number last (line ∷ lines) =
     then batch_on heading number last line >>= (λ b. behind (b ∷ []) (batches_on heading (number + 1) (Some b.key) lines))
     else Ok []
 
--- the lines behind those of batches
+-- the lines after those of batches
 abbrev pub view_lines : List (List ℕ) → List (List ℕ)
 view_lines [] = []
 view_lines (line ∷ lines) = if begins_batch line then view_lines lines else line ∷ lines
 
--- how many lines stand in front of the first that is none of a batch
+-- how many lines stand before the first that is not a batch's
 abbrev pub batch_count : List (List ℕ) → ℕ
 batch_count [] = 0
 batch_count (line ∷ lines) = if begins_batch line then suc (batch_count lines) else 0

@@ -25,7 +25,7 @@ abbrev pub heading_by : Option TextForm → Option Name → Option Name → Opti
 heading_by (Some text) (Some domain) (Some workflow) = Some (record { form = text; domain = domain; workflow = workflow })
 heading_by _ _ _ = None
 
--- the same behind the word `dump`
+-- the same after the word `dump`
 abbrev pub heading_with : List ℕ → Option TextForm → Option Name → Option Name → Option Heading
 heading_with word text domain workflow = if bytes_eq word (codes "dump") then heading_by text domain workflow else None
 
@@ -54,7 +54,7 @@ abbrev pub begins_first : List (List ℕ) → Bool
 begins_first [] = false
 begins_first (line ∷ lines) = begins_batch line
 
--- the lines behind the first one, of which the next is that of a batch, or the fault of the second line
+-- the lines after the first one, of which the next is that of a batch, or the fault of the second line
 abbrev pub body_of : List (List ℕ) → Result (List (List ℕ)) DumpError
 body_of [] = Err (Line 2 BadFrame)
 body_of (heading ∷ lines) = if begins_first lines then Ok lines else Err (Line 2 BadFrame)

@@ -19,7 +19,7 @@ InputFails limit left before after (fault.Line line cause) = IfSome left (λ byt
 InputFails limit left before after (fault.Key key cause) = IfSome left (λ bytes. (length bytes ≤ limit) × (dump_of bytes ≡ Err (error.Key key cause)))
 InputFails limit left before after fault.Memory = ⊤
 
--- what is left then: what is behind the limit and one byte more, where there was too much; what is behind a front within the limit, where
+-- what is left then: what is after the limit and one byte more, where there was too much; what is after a prefix within the limit, where
 -- reading failed or memory ran out; and else nothing
 abbrev pub InputLeaves : ℕ → Option (List ℕ) → Option (List ℕ) → InputFault → Type 0
 InputLeaves limit before after fault.Read = ConsumesAtMost limit before after

@@ -2,7 +2,7 @@
 use Rattle.std.specs.Prelude.{ℕ, suc, ◌+◌, ◌==◌, List, [], ◌∷◌, Option, Some, None, if◌then◌else◌}
 use Rattle.std.specs.Str.{bytes_eq}
 
--- a byte in front of the first line
+-- a byte before the first line
 abbrev pub onto_line : ℕ → List (List ℕ) → List (List ℕ)
 onto_line byte [] = (byte ∷ []) ∷ []
 onto_line byte (line ∷ lines) = (byte ∷ line) ∷ lines

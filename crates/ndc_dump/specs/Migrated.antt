@@ -27,7 +27,7 @@ with_carrier_in batches b = with_carrier (is_carried batches b) b
 abbrev pub migrated : List Batch → List Batch
 migrated batches = map (with_carrier_in batches) batches
 
--- the set that batches in this form stand for
+-- the set that batches in this form represent
 abbrev pub standing_for : TextForm → List Batch → List Batch
 standing_for One batches = migrated batches
 standing_for Two batches = batches

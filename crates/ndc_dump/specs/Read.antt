@@ -1,4 +1,4 @@
--- The dump that bytes are, or the first cause why they are none.
+-- The dump that bytes are, or the first cause why they are not one.
 use Rattle.std.specs.Prelude.{ℕ, ◌+◌, List, ◌++◌, length, codes, Option, Some, None, Result, Ok, Err}
 use Rattle.std.specs.List.{flat_map}
 use Rattle.ndc_event.specs.Outcome.{◌>>=◌}
@@ -16,7 +16,7 @@ use Rattle.ndc_dump.specs.Frame.{heading_of, body_of}
 use Rattle.ndc_dump.specs.Lines.{differ_at, lines_of}
 use Rattle.ndc_dump.specs.Migrated.{standing_for}
 
--- the bytes behind the batches of a view: its runs with their branches and states, and the last line
+-- the bytes after the batches of a view: its runs with their branches and states, and the last line
 abbrev pub view_text : View → List ℕ
 view_text view = flat_map run_state_lines view.runs ++ codes "end\n"
 
@@ -25,11 +25,11 @@ abbrev pub shown_or : View → Option ℕ → Result View DumpError
 shown_or view None = Ok view
 shown_or view (Some number) = Err (Line number BadView)
 
--- the view of a set, where these lines, with numbers from this one on, are what it shows behind its batches
+-- the view of a set, where these lines, with numbers from this one on, are what it shows after its batches
 unfoldable pub view_on : ℕ → List (List ℕ) → View → Result View DumpError
 view_on number lines view = shown_or view (differ_at number lines (lines_of (view_text view)))
 
--- the dump of a workflow, its batches and the lines behind them
+-- the dump of a workflow, its batches and the lines after them
 abbrev pub dump_with : Heading → View → Dump
 dump_with heading view = record { domain = heading.domain; workflow = heading.workflow; view = view }
 

@@ -18,12 +18,12 @@ pub record Streams : Type 0 where
   pub written : Option (List ℕ)
   pub out_faults : ℕ
 
--- the bytes were written whole, or a front of them, and then the count of faults rose
+-- the bytes were written whole, or a prefix of them, and then the count of faults rose
 abbrev pub Tells : Option (List ℕ) → Option (List ℕ) → ℕ → ℕ → List ℕ → Type 0
 Tells before after faults_before faults_after bytes =
     Appends before after bytes ⊎ (AppendsFront before after bytes × Rose faults_before faults_after)
 
--- the line by which the program of this name tells of a faulty dump was written, or a front of it and a fault came
+-- the line by which the program of this name tells of a faulty dump was written, or a prefix of it and a fault came
 abbrev pub TellsErrorAs : List ℕ → Option (List ℕ) → Option (List ℕ) → ℕ → ℕ → DumpError → Type 0
 TellsErrorAs program before after faults_before faults_after (error.Line line cause) = Tells before after faults_before faults_after (dump_line program line cause)
 TellsErrorAs program before after faults_before faults_after (error.Key key cause) = Tells before after faults_before faults_after (dump_batch_line program key cause)

@@ -24,7 +24,7 @@ use ndc_model_sets::{Batches, RunViews, View};
 use ndc_text::TextForm;
 use std::alloc::Global;
 
-/// The view of the set that batches stand for.
+/// The view of the set that batches represent.
 fn view_of(alloc: Global, form: TextForm, batches: Vec<Batch>) -> Result<View, OutOfMemory>
     requires read { AreRead batches.items }
     requires sound { sound_or batches.items ≡ Ok tt }
@@ -38,7 +38,7 @@ fn view_of(alloc: Global, form: TextForm, batches: Vec<Batch>) -> Result<View, O
     })
 }
 
-/// The view of the set that batches stand for, where no line stands behind them; the next would have this number.
+/// The view of the set that batches represent, where no line stands after them; the next would have this number.
 fn bare_view(
     alloc: Global,
     number: u64,
@@ -48,7 +48,9 @@ fn bare_view(
 ) -> Result<View, DumpError>
     requires read { AreRead batches.items }
     requires sound { sound_or batches.items ≡ Ok tt }
-    ensures { Gives Memory (λ view. view) result (shown_or (view_of (standing_for form batches.items)) (differ_at number (map (λ line. line.now) lines.now) [])) }
+    ensures { Gives Memory (λ view.
+        view) result (shown_or (view_of (standing_for form batches.items))
+        (differ_at number (map (λ line. line.now) lines.now) [])) }
 {
     match lines {
         [] => Ok(view_of(alloc, form, batches)?),
@@ -78,10 +80,11 @@ fn bare_dump_on(alloc: Global, lines: &[&[u8]]) -> Result<Dump, DumpError>
 }
 
 /// The dump of a workflow's batches alone: its first line is that of a dump, then the text of each batch stands on a line
-/// of its own, in key order, and nothing behind them. So an engine makes a dump of its own histories, whose runs, branches
-/// and states it need not know: what [`read_dump`] compares with is computed here, and [`dump_text`] prints it.
+/// of its own, in key order, and nothing after them. So an engine makes a dump of its own histories, whose runs,
+/// branches and states it need not know: what [`read_dump`] compares with is computed here, and [`dump_text`] prints
+/// it.
 ///
-/// The refusals are those of `read_dump`, in its order; [`LineCause::BadView`] stands at the first line behind the
+/// The refusals are those of `read_dump`, in its order; [`LineCause::BadView`] stands at the first line after the
 /// batches, where there is one.
 ///
 /// [`read_dump`]: crate::read_dump

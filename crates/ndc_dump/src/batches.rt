@@ -14,7 +14,7 @@ use ndc_event::{Batch, BatchKey, OutOfMemory};
 use ndc_text::{TextError, TextForm, read_batch, read_batch_1};
 use std::alloc::Global;
 
-/// Why the text of the line with this number is that of no batch.
+/// Why the text of the line with this number is not that of a batch.
 fn text_fault(line: u64, error: TextError) -> DumpError
     ensures { result ≡ text_fault line error }
 {
@@ -95,7 +95,7 @@ fn with_shared_names(heading: &Heading, batch: Batch) -> Result<Batch, OutOfMemo
     Ok(shared)
 }
 
-/// The batch of the line with this number, behind the batch with the last key.
+/// The batch of the line with this number, after the batch with the last key.
 #[tactic(auto, unfolding(crate::specs::Batches::batch_on))]
 fn batch_on(
     alloc: Global,
@@ -119,9 +119,10 @@ fn batch_on(
     }
 }
 
-/// The batches of the lines behind the first one, up to the first line that is none of a batch.
+/// The batches of the lines after the first one, up to the first line that is not a batch's.
 fn batches_to(alloc: Global, heading: &Heading, lines: &[&[u8]]) -> Result<Vec<Batch>, DumpError>
-    ensures { Gives Memory (λ batches. batches.items) result (batches_on heading.now 2 None (map (λ line. line.now) lines.now)) }
+    ensures { Gives Memory (λ batches.
+        batches.items) result (batches_on heading.now 2 None (map (λ line. line.now) lines.now)) }
 {
     let mut batches: Vec<Batch> = Vec::new(alloc);
     let mut last = None;
@@ -138,14 +139,15 @@ fn batches_to(alloc: Global, heading: &Heading, lines: &[&[u8]]) -> Result<Vec<B
     Ok(batches)
 }
 
-/// The batches of the lines behind the first one, up to the first line that is none of a batch: a set in range, with
+/// The batches of the lines after the first one, up to the first line that is not a batch's: a set in range, with
 /// not more batches than there are lines.
 pub(crate) fn batches_on(
     alloc: Global,
     heading: &Heading,
     lines: &[&[u8]],
 ) -> Result<Vec<Batch>, DumpError>
-    ensures gives { Gives Memory (λ batches. batches.items) result (batches_on heading.now 2 None (map (λ line. line.now) lines.now)) }
+    ensures gives { Gives Memory (λ batches.
+        batches.items) result (batches_on heading.now 2 None (map (λ line. line.now) lines.now)) }
     ensures read { IfOk result (λ batches. AreRead batches.items) }
     ensures count { IfOk result (λ batches. length batches.items ≤ length lines.now) }
 {

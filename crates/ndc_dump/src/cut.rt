@@ -5,7 +5,7 @@ ghost use Rattle.ndc_dump.specs.Lines.{line_len, lines_of, without_end};
 use ndc_event::OutOfMemory;
 use std::alloc::Global;
 
-/// How many bytes stand in front of the first line end.
+/// How many bytes stand before the first line end.
 fn end_of(bytes: &[u8]) -> usize
     ensures { result ≡ length (without_end bytes.now) }
 {
@@ -24,10 +24,11 @@ fn line_len(bytes: &[u8]) -> usize
     (end_of(bytes) + 1).min(bytes.len())
 }
 
-/// The first line of a text and what stands behind it; nothing where the text is empty.
+/// The first line of a text and what stands after it; nothing where the text is empty.
 fn split_line(bytes: &[u8]) -> Option<(&[u8], &[u8])>
     ensures none { IfNone result (lines_of bytes.now ≡ []) }
-    ensures some { IfSome result (λ parts. lines_of bytes.now ≡ parts.0.now ∷ lines_of parts.1.now) }
+    ensures some { IfSome result (λ parts.
+        lines_of bytes.now ≡ parts.0.now ∷ lines_of parts.1.now) }
     ensures shorter { IfSome result (λ parts. length parts.1.now < length bytes.now) }
 {
     if bytes.is_empty() {

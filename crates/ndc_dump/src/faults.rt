@@ -65,8 +65,10 @@ pub fn tell_line<E: Sink>(
     line: u64,
     cause: LineCause,
 ) -> Result<(), Failed>
-    ensures whole { OnOk result (Appends (E.written err.old) (E.written err.new) (dump_line program.now line cause)) }
-    ensures front { OnErr result (AppendsFront (E.written err.old) (E.written err.new) (dump_line program.now line cause)) }
+    ensures whole { OnOk result
+        (Appends (E.written err.old) (E.written err.new) (dump_line program.now line cause)) }
+    ensures front { OnErr result
+        (AppendsFront (E.written err.old) (E.written err.new) (dump_line program.now line cause)) }
     ensures cause { OnErr result (Rose (E.faults err.old) (E.faults err.new)) }
     ensures count { E.faults err.old ≤ E.faults err.new }
 {
@@ -90,8 +92,11 @@ pub fn tell_batch<E: Sink>(
     key: BatchKey,
     cause: KeyCause,
 ) -> Result<(), Failed>
-    ensures whole { OnOk result (Appends (E.written err.old) (E.written err.new) (dump_batch_line program.now key cause)) }
-    ensures front { OnErr result (AppendsFront (E.written err.old) (E.written err.new) (dump_batch_line program.now key cause)) }
+    ensures whole { OnOk result
+        (Appends (E.written err.old) (E.written err.new) (dump_batch_line program.now key cause)) }
+    ensures front { OnErr result
+        (AppendsFront (E.written err.old) (E.written err.new)
+        (dump_batch_line program.now key cause)) }
     ensures cause { OnErr result (Rose (E.faults err.old) (E.faults err.new)) }
     ensures count { E.faults err.old ≤ E.faults err.new }
 {

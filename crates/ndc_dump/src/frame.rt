@@ -83,14 +83,16 @@ fn heading_in(alloc: Global, words: &[&[u8]]) -> Result<Option<Heading>, OutOfMe
 
 /// The first words of a line, with single spaces between them: as many as a heading has, and one more.
 fn first_words(alloc: Global, line: &[u8]) -> Result<Vec<&[u8]>, OutOfMemory>
-    ensures { IfOk result (λ words. map (λ word. word.now) words.items ≡ take 5 (slice_split (λ byte. byte == 32) line.now)) }
+    ensures { IfOk result (λ words.
+        map (λ word. word.now) words.items ≡ take 5 (slice_split (λ byte. byte == 32) line.now)) }
 {
     line.split(|byte| *byte == b' ').take(5).collect(alloc)
 }
 
 /// The heading of a line.
 fn heading_on(alloc: Global, line: &[u8]) -> Result<Option<Heading>, OutOfMemory>
-    ensures { IfOk result (λ heading. heading ≡ heading_in (slice_split (λ byte. byte == 32) line.now)) }
+    ensures { IfOk result (λ heading.
+        heading ≡ heading_in (slice_split (λ byte. byte == 32) line.now)) }
 {
     let words = first_words(alloc, line)?;
     heading_in(alloc, words.as_slice())
@@ -98,7 +100,8 @@ fn heading_on(alloc: Global, line: &[u8]) -> Result<Option<Heading>, OutOfMemory
 
 /// The heading of the first line.
 pub(crate) fn heading_of(alloc: Global, lines: &[&[u8]]) -> Result<Heading, DumpError>
-    ensures { Gives Memory (λ heading. heading) result (heading_of (map (λ line. line.now) lines.now)) }
+    ensures { Gives Memory (λ heading.
+        heading) result (heading_of (map (λ line. line.now) lines.now)) }
 {
     let fault = DumpError::Line {
         line: 1,
@@ -123,9 +126,10 @@ pub(crate) fn begins_batch(line: &[u8]) -> bool
     }
 }
 
-/// The lines behind the first one, of which the next is that of a batch.
+/// The lines after the first one, of which the next is that of a batch.
 pub(crate) fn body_of<'l, 'b>(lines: &'l [&'b [u8]]) -> Result<&'l [&'b [u8]], DumpError>
-    ensures { Gives Memory (λ body. map (λ line. line.now) body.now) result (body_of (map (λ line. line.now) lines.now)) }
+    ensures { Gives Memory (λ body. map (λ line. line.now) body.now) result
+        (body_of (map (λ line. line.now) lines.now)) }
 {
     match lines {
         [_, body @ ..] => {

@@ -26,10 +26,10 @@ pub enum InputFault {
     /// The source had more bytes left than the limit.
     #[error("the input is too long")]
     Limit,
-    /// The bytes are no dump: the first faulty line, from 1, and its cause.
+    /// The bytes are not a dump: the first faulty line, from 1, and its cause.
     #[error("line {line}: {cause}")]
     Line { line: u64, cause: LineCause },
-    /// The bytes are no dump: the first batch that does not fit the others, and its cause.
+    /// The bytes are not a dump: the first batch that does not fit the others, and its cause.
     #[error("batch {}.{}: {cause}", key.version, key.task)]
     Key { key: BatchKey, cause: KeyCause },
     #[error("out of memory")]

@@ -1,5 +1,5 @@
 //! Dumps: what a cluster shows of a workflow, read back exactly, from bytes or a source, and its tree; and what a program
-//! tells of bytes that are no dump, written without memory.
+//! tells of bytes that are not a dump, written without memory.
 #![tactic(auto)]
 
 mod bare;

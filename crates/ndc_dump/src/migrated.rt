@@ -58,7 +58,7 @@ fn set_carriers(batches: &mut [Batch], marks: &[bool])
     }
 }
 
-/// The set that batches in this form stand for. They get their carriers where they are.
+/// The set that batches in this form represent. They get their carriers where they are.
 pub(crate) fn standing_for(
     alloc: Global,
     form: TextForm,

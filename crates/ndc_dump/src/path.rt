@@ -16,7 +16,9 @@ pub(crate) fn path_keys(
     batches: &[&Batch],
     tip: Option<BatchKey>,
 ) -> Result<KeySet, OutOfMemory>
-    ensures { IfOk result (λ keys. (key : BatchKey) → is_listed key keys ≡ has_key (Some key) (path_from tip (map (λ b. b.now) batches.now))) }
+    ensures { IfOk result (λ keys.
+        (key : BatchKey) → is_listed key keys
+        ≡ has_key (Some key) (path_from tip (map (λ b. b.now) batches.now))) }
 {
     let mut keys = KeySet::new(alloc);
     let mut wanted = tip;

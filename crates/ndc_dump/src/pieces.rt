@@ -6,11 +6,15 @@ ghost use Rattle.ndc_port.specs.Fault.{Rose};
 
 use ndc_port::{Failed, Sink, write_all};
 
-/// Writes pieces of bytes one after the other. Where writing fails, a front of them is written, and the sink's count of
-/// faults has risen.
+/// Writes pieces of bytes one after the other. Where writing fails, a prefix of them is written, and the sink's count
+/// of faults has risen.
 pub fn write_pieces<E: Sink>(err: &mut E, pieces: &[&[u8]]) -> Result<(), Failed>
-    ensures whole { OnOk result (Appends (E.written err.old) (E.written err.new) (concat (map (λ piece. piece.now) pieces.now))) }
-    ensures front { OnErr result (AppendsFront (E.written err.old) (E.written err.new) (concat (map (λ piece. piece.now) pieces.now))) }
+    ensures whole { OnOk result
+        (Appends (E.written err.old) (E.written err.new)
+        (concat (map (λ piece. piece.now) pieces.now))) }
+    ensures front { OnErr result
+        (AppendsFront (E.written err.old) (E.written err.new)
+        (concat (map (λ piece. piece.now) pieces.now))) }
     ensures cause { OnErr result (Rose (E.faults err.old) (E.faults err.new)) }
     ensures count { E.faults err.old ≤ E.faults err.new }
 {

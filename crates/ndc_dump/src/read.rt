@@ -25,7 +25,7 @@ use ndc_text::TextForm;
 use ndc_text::dump::push_runs;
 use std::alloc::Global;
 
-/// How many lines stand in front of the first that is none of a batch.
+/// How many lines stand before the first that is not a batch's.
 fn batch_count(lines: &[&[u8]]) -> usize
     ensures { result ≡ batch_count (map (λ line. line.now) lines.now) }
 {
@@ -39,9 +39,10 @@ fn batch_count(lines: &[&[u8]]) -> usize
     count
 }
 
-/// The lines behind those of batches.
+/// The lines after those of batches.
 pub(crate) fn view_lines<'l, 'b>(lines: &'l [&'b [u8]]) -> &'l [&'b [u8]]
-    ensures lines { map (λ line. line.now) result.now ≡ view_lines (map (λ line. line.now) lines.now) }
+    ensures lines { map (λ line. line.now) result.now
+        ≡ view_lines (map (λ line. line.now) lines.now) }
     ensures count { length result.now ≤ length lines.now }
 {
     let (_, behind) = lines.split_at(batch_count(lines));
@@ -52,7 +53,8 @@ pub(crate) fn view_lines<'l, 'b>(lines: &'l [&'b [u8]]) -> &'l [&'b [u8]]
 /// one on.
 fn differ_at(number: u64, lines: &[&[u8]], wanted: &[&[u8]]) -> Option<u64>
     requires { number + length lines.now < 2 ^ 64 }
-    ensures { result ≡ differ_at number (map (λ line. line.now) lines.now) (map (λ line. line.now) wanted.now) }
+    ensures { result ≡ differ_at number (map (λ line. line.now) lines.now)
+        (map (λ line. line.now) wanted.now) }
 {
     let mut number = number;
     let mut left = wanted;
@@ -73,7 +75,8 @@ fn differ_at(number: u64, lines: &[&[u8]], wanted: &[&[u8]]) -> Option<u64>
 
 /// The lines of runs with their branches and states, and the last line.
 fn view_text(alloc: Global, runs: &[RunView]) -> Result<Vec<u8>, OutOfMemory>
-    ensures { IfOk result (λ text. text.items ≡ flat_map run_state_lines runs.now ++ codes "end\n") }
+    ensures { IfOk result (λ text.
+        text.items ≡ flat_map run_state_lines runs.now ++ codes "end\n") }
 {
     let mut text = Vec::new(alloc);
     push_runs(alloc, &mut text, runs)?;
@@ -89,15 +92,17 @@ fn first_other(
     runs: &[RunView],
 ) -> Result<Option<u64>, OutOfMemory>
     requires { number + length lines.now < 2 ^ 64 }
-    ensures { IfOk result (λ other. other ≡ differ_at number (map (λ line. line.now) lines.now) (lines_of (flat_map run_state_lines runs.now ++ codes "end\n"))) }
+    ensures { IfOk result (λ other.
+        other ≡ differ_at number (map (λ line. line.now) lines.now)
+        (lines_of (flat_map run_state_lines runs.now ++ codes "end\n"))) }
 {
     let text = view_text(alloc, runs)?;
     let wanted = lines_of(alloc, text.as_slice())?;
     Ok(differ_at(number, lines, wanted.as_slice()))
 }
 
-/// The view of the set that batches stand for, where these lines, with numbers from this one on, are what it shows
-/// behind its batches.
+/// The view of the set that batches represent, where these lines, with numbers from this one on, are what it shows
+/// after its batches.
 fn view_on(
     alloc: Global,
     number: u64,
@@ -108,7 +113,9 @@ fn view_on(
     requires count { number + length lines.now < 2 ^ 64 }
     requires read { AreRead batches.items }
     requires sound { sound_or batches.items ≡ Ok tt }
-    ensures { Gives Memory (λ view. view) result (view_on number (map (λ line. line.now) lines.now) (view_of (standing_for form batches.items))) }
+    ensures { Gives Memory (λ view.
+        view) result (view_on number (map (λ line. line.now) lines.now)
+        (view_of (standing_for form batches.items))) }
 {
     let runs = runs_of(alloc, batches.as_slice())?;
     match first_other(alloc, number, lines, runs.as_slice())? {
@@ -146,12 +153,12 @@ fn dump_on(alloc: Global, lines: &[&[u8]]) -> Result<Dump, DumpError>
 /// its carrier where that one ends by continuing as its run. What is read is the view of its batches.
 ///
 /// The refusals, the first of them: line by line, [`DumpError::Line`] with the line's number and its cause. The first
-/// line is no heading, or the second is that of no batch ([`LineCause::BadFrame`]); then each line that begins with `{`,
-/// up to the first that does not, is the text of no batch (the causes of [`ndc_text::TextError`]), is of another domain
-/// or workflow ([`LineCause::Foreign`]), or has the key of the line before ([`LineCause::SameKey`]) or one below it
-/// ([`LineCause::BadOrder`]). Then cause by cause, in the order of [`KeyCause`], [`DumpError::Key`] with the least key
-/// that the cause holds of. Then the lines behind the batches are not what the batches show: [`LineCause::BadView`] at
-/// the first that differs, is missing or is one too many.
+/// line is not a heading, or the second is not that of a batch ([`LineCause::BadFrame`]); then each line that begins
+/// with `{`, up to the first that does not, is the text of no batch (the causes of [`ndc_text::TextError`]), is of
+/// another domain or workflow ([`LineCause::Foreign`]), or has the key of the line before ([`LineCause::SameKey`]) or
+/// one below it ([`LineCause::BadOrder`]). Then cause by cause, in the order of [`KeyCause`], [`DumpError::Key`] with
+/// the least key that the cause holds of. Then the lines after the batches are not what the batches show:
+/// [`LineCause::BadView`] at the first that differs, is missing or is one too many.
 ///
 /// It takes time of the bytes, a look-up of the logarithm of the batches for each of them, and the path of each branch,
 /// of which the view shows the history and the state. A refusal takes no more than that, whatever its cause. Beside the

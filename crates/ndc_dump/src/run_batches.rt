@@ -22,7 +22,8 @@ impl<'b> Model for RunBatches<'b> {
 
     ghost Value = { List (Id × List Item) };
 
-    ghost view = { λ groups. map (λ entry. (entry.0, map (λ b. b.now) entry.1.items)) groups.lists.entries };
+    ghost view = { λ groups.
+        map (λ entry. (entry.0, map (λ b. b.now) entry.1.items)) groups.lists.entries };
 }
 
 impl<'b> RunBatches<'b> {
@@ -42,15 +43,17 @@ impl<'b> RunBatches<'b> {
 
     /// The batches of the run, where it has any.
     pub(crate) fn get(&self, run: RunId) -> Option<&Vec<&'b Batch>>
-        ensures some { IfSome result (λ list. map (λ b. b.now) list.now.items ≡ listed run self.now) }
+        ensures some { IfSome result (λ list.
+            map (λ b. b.now) list.now.items ≡ listed run self.now) }
         ensures none { IfNone result (listed run self.now ≡ []) }
     {
         self.lists.get(&run)
     }
 
-    /// Puts the batch behind those of its run.
+    /// Puts the batch after those of its run.
     fn push(&mut self, alloc: Global, batch: &'b Batch) -> Result<(), OutOfMemory>
-        ensures { OnOk result ((run : Id) → listed run self.new ≡ listed run self.old ++ part_of run (batch.now ∷ [])) }
+        ensures { OnOk result ((run : Id)
+            → listed run self.new ≡ listed run self.old ++ part_of run (batch.now ∷ [])) }
     {
         let found = self.lists.swap_remove(&batch.run);
         let mut list = found.unwrap_or(Vec::new(alloc));

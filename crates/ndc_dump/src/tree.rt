@@ -38,7 +38,8 @@ fn push_batch_head(text: &mut Vec<u8>, batch: &Batch) -> Result<(), OutOfMemory>
 
 /// Appends ` events FIRST..LAST`, with a mark where it is wanted, and the line end.
 fn push_events(text: &mut Vec<u8>, events: &[Event], mark: bool) -> Result<(), OutOfMemory>
-    ensures { OnOk result (text.new.items ≡ text.old.items ++ codes " events " ++ decimal (first_id events.now) ++ codes ".."
+    ensures { OnOk result (text.new.items ≡ text.old.items ++ codes " events "
+        ++ decimal (first_id events.now) ++ codes ".."
         ++ decimal (last_id events.now) ++ current_mark mark ++ codes "\n") }
 {
     text.extend_from_slice(b" events ")?;
@@ -64,7 +65,8 @@ fn push_batch_lines(
     batches: &[&Batch],
     keys: &KeySet,
 ) -> Result<(), OutOfMemory>
-    ensures { OnOk result (text.new.items ≡ text.old.items ++ marked_lines keys.now (map (λ b. b.now) batches.now)) }
+    ensures { OnOk result (text.new.items
+        ≡ text.old.items ++ marked_lines keys.now (map (λ b. b.now) batches.now)) }
 {
     for batch in batches {
         push_batch_line(text, batch, keys.contains(batch.key))?;
@@ -101,7 +103,8 @@ fn push_run_tree(
     batches: &[&Batch],
     run: &RunView,
 ) -> Result<(), OutOfMemory>
-    ensures { OnOk result (text.new.items ≡ text.old.items ++ run_tree (map (λ b. b.now) batches.now) run.now) }
+    ensures { OnOk result (text.new.items
+        ≡ text.old.items ++ run_tree (map (λ b. b.now) batches.now) run.now) }
 {
     let branches = run.branches.as_slice();
     let keys = path_keys(alloc, batches, current_key(branches))?;
@@ -118,7 +121,8 @@ fn push_run_among(
     batches: &RunBatches,
     run: &RunView,
 ) -> Result<(), OutOfMemory>
-    ensures { OnOk result (text.new.items ≡ text.old.items ++ run_tree (listed run.now.run batches.now) run.now) }
+    ensures { OnOk result (text.new.items
+        ≡ text.old.items ++ run_tree (listed run.now.run batches.now) run.now) }
 {
     match batches.get(run.run) {
         Some(list) => push_run_tree(alloc, text, list.as_slice(), run),
@@ -133,7 +137,8 @@ fn push_run_trees(
     batches: &RunBatches,
     runs: &[RunView],
 ) -> Result<(), OutOfMemory>
-    ensures { OnOk result (text.new.items ≡ text.old.items ++ flat_map (λ run. run_tree (listed run.run batches.now) run) runs.now) }
+    ensures { OnOk result (text.new.items
+        ≡ text.old.items ++ flat_map (λ run. run_tree (listed run.run batches.now) run) runs.now) }
 {
     for run in runs {
         push_run_among(alloc, text, batches, run)?;

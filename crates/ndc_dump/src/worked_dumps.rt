@@ -24,19 +24,32 @@ pub fn sets_that_clusters_write_have_no_cause()
 #[tactic(auto, unfolding(ndc_dump_causes::specs::Causes::sound_or, ndc_state::specs::Table::row))]
 pub fn each_cause_has_a_set()
     ensures missing { sound_or first_lost ≡ Err (Key (key 1 2) MissingParent) }
-    ensures formed { sound_or (begun ∷ signaled (key 1 2) (key 1 1) 4 (signal (codes "ping") (codes "x")) ∷ []) ≡ Err (Key (key 1 2) NotWellFormed) }
-    ensures split { sound_or (begun ∷ signaled (key 1 2) (key 1 1) 3 (signal (codes "p") (codes "x")) ∷ signaled (key 1 3) (key 1 1) 3 (signal (codes "q") (codes "x")) ∷ [])
+    ensures formed { sound_or
+        (begun ∷ signaled (key 1 2) (key 1 1) 4 (signal (codes "ping") (codes "x")) ∷ [])
+        ≡ Err (Key (key 1 2) NotWellFormed) }
+    ensures split { sound_or
+        (begun ∷ signaled (key 1 2) (key 1 1) 3 (signal (codes "p") (codes "x"))
+        ∷ signaled (key 1 3) (key 1 1) 3 (signal (codes "q") (codes "x")) ∷ [])
         ≡ Err (Key (key 1 3) SplitVersion) }
-    ensures twice { sound_or (begun ∷ batch (run 1) (key 1 2) (Some (key 1 1)) None 3 (signal (codes "p") (codes "x") ∷ copy (codes "p") (codes "x") (from 3 1) ∷ []) ∷ [])
+    ensures twice { sound_or
+        (begun ∷ batch (run 1) (key 1 2) (Some (key 1 1)) None 3
+        (signal (codes "p") (codes "x") ∷ copy (codes "p") (codes "x") (from 3 1) ∷ []) ∷ [])
         ≡ Err (Key (key 1 2) OriginTwice) }
-    ensures unfit { sound_or (begun ∷ signaled (key 1 2) (key 1 1) 3 (copy (codes "p") (codes "x") (from 2 1)) ∷ []) ≡ Err (Key (key 1 2) OriginUnfit) }
-    ensures replay { sound_or (begun ∷ batch (run 1) (key 1 2) (Some (key 1 1)) None 3 (DecisionTaskScheduled ∷ []) ∷ []) ≡ Err (Key (key 1 2) BadReplay) }
-    ensures carrier { sound_or (begun ∷ begun_again 3 (Some (key 1 2)) ∷ []) ≡ Err (Key (key 1 3) CarrierUnfit) }
+    ensures unfit { sound_or
+        (begun ∷ signaled (key 1 2) (key 1 1) 3 (copy (codes "p") (codes "x") (from 2 1)) ∷ [])
+        ≡ Err (Key (key 1 2) OriginUnfit) }
+    ensures replay { sound_or
+        (begun ∷ batch (run 1) (key 1 2) (Some (key 1 1)) None 3 (DecisionTaskScheduled ∷ []) ∷ [])
+        ≡ Err (Key (key 1 2) BadReplay) }
+    ensures carrier { sound_or (begun ∷ begun_again 3 (Some (key 1 2)) ∷ [])
+        ≡ Err (Key (key 1 3) CarrierUnfit) }
 {}
 
 /// A first batch without its carrier gets it, where the batch just before continues as its run.
 pub fn a_continued_run_gets_its_carrier()
-    ensures carried { migrated (map (λ (b : Batch). record b { carrier = None }) (arrived begun first_lost)) ≡ arrived begun first_lost }
+    ensures carried { migrated
+        (map (λ (b : Batch). record b { carrier = None }) (arrived begun first_lost))
+        ≡ arrived begun first_lost }
     ensures other { migrated old_run_wins ≡ old_run_wins }
 {}
 

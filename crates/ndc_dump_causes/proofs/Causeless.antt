@@ -51,7 +51,7 @@ place-of x [] among = absurd among
 place-of x (y ∷ ys) (inl same) = (0, omega arith, sym same)
 place-of x (y ∷ ys) (inr rest) = let at = place-of x ys rest in (suc at.0, omega (arith, at.1), at.2)
 
--- what comes behind a list without a second time is none of it
+-- what comes after a list without a second time is none of it
 apart-first : (front : List Origin) (o : Origin) (rest : List Origin) → AreApart (front ++ o ∷ rest) → Among o front → ⊥
 apart-first front o rest apart among =
     let at = place-of o front among in

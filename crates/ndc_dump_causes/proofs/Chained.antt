@@ -1,4 +1,4 @@
--- The first batch that comes behind another one of its run and version that is not its parent is the first that splits a version.
+-- The first batch that comes after another one of its run and version that is not its parent is the first that splits a version.
 use Rattle.std.proofs.Common.{◌≡◌, ℕ, zero, suc, ◌+◌, ◌<◌, Bool, true, false, not, ◌&&◌, ◌==◌, nat_lt, List, [], ◌∷◌, ◌++◌, length, drop, get_or, ◌⊎◌, inl, inr, Option, Some, None, Result, Ok, Err, find, if◌then◌else◌, refl, sym, ap, ◌∙◌, subst, arith}
 use Rattle.std.specs.Prelude.{is_some}
 use Rattle.std.specs.Map.{lookup}

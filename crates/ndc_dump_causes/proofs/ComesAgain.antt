@@ -38,7 +38,7 @@ or-cases : (s t : Bool) → (s || t) ≡ true → (s ≡ true) ⊎ (t ≡ true)
 or-cases true t h = inl refl
 or-cases false t h = inr h
 
--- what is among a front, or a rest, is among both
+-- what is among a prefix, or a rest, is among both
 pub among-front : (o : Origin) (xs ys : List Origin) → is_among o xs ≡ true → is_among o (xs ++ ys) ≡ true
 among-front o xs ys h = list_any-append _ xs ys ∙ or-left (is_among o xs) (is_among o ys) h
 
@@ -65,7 +65,7 @@ both-with few many o h x k = by (among-either x few (o ∷ []) k)
 with-new : (o : Origin) (xs : List Origin) → is_among o xs ≡ false → with_origin o xs ≡ xs ++ o ∷ []
 with-new o xs e = rw e refl
 
--- what does not come again behind many origins does not behind few of them
+-- what does not come again after many origins does not after few of them
 pub again-less : (few many ys : List Origin) → AreAmong few many → comes_again many ys ≡ false → comes_again few ys ≡ false
 again-less few many [] h e = refl
 again-less few many (y ∷ ys) h e =
@@ -75,7 +75,7 @@ again-less few many (y ∷ ys) h e =
     ∙ ap (λ l. comes_again l ys) (with-new y few new)
     ∙ again-less (few ++ y ∷ []) (many ++ y ∷ []) ys (both-with few many y h) (sym (ap (λ l. comes_again l ys) (with-new y many parts.0)) ∙ parts.1)
 
--- behind origins that do not come again, the rest comes again where it does behind all of them
+-- after origins that do not come again, the rest comes again where it does after all of them
 pub again-append : (s xs ys : List Origin) → comes_again s xs ≡ false → comes_again s (xs ++ ys) ≡ comes_again (s ++ xs) ys
 again-append s [] ys e = ap (λ l. comes_again l ys) (sym (append-nil s))
 again-append s (x ∷ xs) ys e =
@@ -95,7 +95,7 @@ listed-kind run id v (WorkflowExecutionSignaled _ _ from) listed = by (is_among 
     by false e = (origin_of run id v from ∷ [], rw e refl)
 listed-kind run id v _ listed = ([], sym (append-nil listed))
 
--- what was listed stays in front
+-- what was listed stays first
 pub listed-grows : (run : RunId) (listed : List Origin) (events : List Event) → (more : List Origin) × (collected run listed events ≡ listed ++ more)
 listed-grows run listed [] = ([], sym (append-nil listed))
 listed-grows run listed (e ∷ es) =
@@ -106,7 +106,7 @@ listed-grows run listed (e ∷ es) =
 pub listed-front : (run : RunId) (listed : List Origin) (events : List Event) → take (length listed) (collected run listed events) ≡ listed
 listed-front run listed events = let g = listed-grows run listed events in ap (take (length listed)) g.1 ∙ take-append_seam listed g.0
 
--- the next event's signal, and those behind it
+-- the next event's signal, and those after it
 pub again-kind : (run : RunId) (id v : ℕ) (kind : EventKind) (listed : List Origin) (rest : List Stray)
     → comes_again listed (origins_of (cons_option (signal_of run id v kind) rest)) ≡ (kind_again run id v kind listed || comes_again (collected_by run id v kind listed) (origins_of rest))
 again-kind run id v (WorkflowExecutionSignaled _ _ from) listed rest = refl
@@ -173,7 +173,7 @@ listed-own run (e ∷ es) listed o h = by (listed-own run es (collected_by run e
     by (inl k) = listed-kind-own run e.id e.version e.kind listed (signals_in run es) o k
     by (inr k) = inr (more-own run e.id e.version e.kind (signals_in run es) o k)
 
--- what does not come again does not in front either
+-- what does not come again does not in a prefix either
 pub again-front : (s xs ys : List Origin) → comes_again s (xs ++ ys) ≡ false → comes_again s xs ≡ false
 again-front s [] ys e = refl
 again-front s (x ∷ xs) ys e =

@@ -29,7 +29,7 @@ at-left front middle back key rise l =
     ∙ ap (λ o. option_or (batch_at key front) o) (none-there (middle ∷ back) key (l, after-trans key middle.key back l (rise-parts front (middle ∷ back) rise).1.0))
     ∙ or-none (batch_at key front)
 
--- the front of what rises has only keys before the middle one
+-- the prefix of what rises has only keys before the middle one
 pub at-right : (front : List Batch) (middle : Batch) (back : List Batch) (key : BatchKey) → Rise (front ++ middle ∷ back) → key_lt key middle.key ≡ false → key_eq middle.key key ≡ false
     → batch_at key (front ++ middle ∷ back) ≡ batch_at key back
 at-right [] middle back key rise l e = rw e refl

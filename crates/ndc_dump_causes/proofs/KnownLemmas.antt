@@ -80,7 +80,7 @@ joined-misfits : (wanted : Signal) (known : Option (Option Signal)) (new : Optio
 joined-misfits wanted None new = refl
 joined-misfits wanted (Some known) new = both-unlike wanted known new
 
--- a kind that is no original signal is unlike
+-- a kind that is not an original signal is unlike
 kind-unlike : (name input : Name) (kind : EventKind) → is_unlike (record { name = name; input = input }) (signal_in kind) ≡ not (is_original name input kind)
 kind-unlike name input (WorkflowExecutionSignaled other more None) = refl
 kind-unlike name input (WorkflowExecutionSignaled other more (Some origin)) = refl

@@ -11,7 +11,7 @@ use Rattle.ndc_reapply.specs.declared.stray.Stray.{Stray}
 use Rattle.ndc_model_sets.specs.Origins.{origins_in, signal_of, signals_in}
 use Rattle.ndc_state.specs.Replay.{history_of}
 
--- what is left from a place on is the item there, and what is left behind it
+-- what is left from a place on is the item there, and what is left after it
 pub left-one : {X : Type 0} (xs : List X) (i : ℕ) (x : X) → i < length xs → x ≡ get_or xs i x → drop i xs ≡ x ∷ drop (i + 1) xs
 left-one xs i x below is = at_drop_more (λ l. l) xs i x below ∙ ap (λ y. y ∷ drop (i + 1) xs) (sym is)
 
@@ -24,7 +24,7 @@ origins-some : (o : Option Stray) (all xs ys : List Stray) → origins_of all �
 origins-some None all xs ys e = e
 origins-some (Some s) all xs ys e = ap (λ (l : List Origin). s.origin ∷ l) e
 
--- the origins of events and of those behind them
+-- the origins of events and of those after them
 pub origins-append : (run : RunId) (es fs : List Event) → origins_in run (es ++ fs) ≡ origins_in run es ++ origins_in run fs
 origins-append run [] fs = refl
 origins-append run (e ∷ es) fs = origins-some (signal_of run e.id e.version e.kind) (signals_in run (es ++ fs)) (signals_in run es) (signals_in run fs) (origins-append run es fs)

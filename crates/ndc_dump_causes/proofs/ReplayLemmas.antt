@@ -97,7 +97,7 @@ bare-replay (e ∷ es) s os u once h =
 path-events : (batches : List Batch) (b : Batch) → AreRead batches → Has batches b → events_to b.key batches ≡ history_of (path_from b.parent batches) ++ b.events
 path-events batches b read has = ap history_of (path-parent batches b read.set has) ∙ history-push (path_from b.parent batches) b
 
--- a batch that replays behind its parent, where origins are left out and none stands twice on its path, replays
+-- a batch that replays after its parent, where origins are left out and none stands twice on its path, replays
 pub state-next : (batches : List Batch) (b : Batch) (s u : StateValue) → AreRead batches → Has batches b → has_origin_twice batches b ≡ false
     → IsStateOf s b.run (history_of (path_from b.parent batches)) → replay s b.events ≡ Ok u → IsStateOf u b.run (events_to b.key batches)
 state-next batches b s u read has once state h =
@@ -135,7 +135,7 @@ state-replays batches b s state = ap is_ok state.replays
 pub replays-free : (batches : List Batch) (b : Batch) → replays_to batches b ≡ true → is_forbidden batches b ≡ false
 replays-free batches b h = ap (λ t. not t && is_ok (replay_of b.run (history_of (path_from b.parent batches)))) h
 
--- the state of no event, in front of the first batch of a run
+-- the state of no event, before the first batch of a run
 pub state-none : (batches : List Batch) (run : RunId) → IsStateOf (new_state run) run (history_of (path_from None batches))
 state-none batches run = record { whole = new_state run; origins = []; replays = ap (λ w. replay_of run (history_of w.path)) (none-wanted batches); same = refl }
 
@@ -144,7 +144,7 @@ pub state-copied : (s : StateValue) (run : RunId) (events : List Event) (copy : 
 state-copied s run events copy e state =
     record { whole = state.whole; origins = []; replays = state.replays; same = e ∙ ap (λ (x : StateValue). record x { origins = [] }) state.same }
 
--- the state behind a parent is that in front of the batch
+-- the state after a parent is that before the batch
 pub state-below : (batches : List Batch) (b : Batch) (key : BatchKey) (s : StateValue) → ParentsFit batches → Has batches b → b.parent ≡ Some key → IsStateAt batches key s
     → IsStateOf s b.run (history_of (path_from b.parent batches))
 state-below batches b key s fit has e at =
@@ -157,7 +157,7 @@ states-below batches b key (Ok None) fit has e h = tt
 states-below batches b key (Ok (Some s)) fit has e h = state-below batches b key s fit has e h
 states-below batches b key (Err error) fit has e h = tt
 
--- a copy without origins is the state behind the same batch
+-- a copy without origins is the state after the same batch
 pub copied-at : (batches : List Batch) (key : BatchKey) (s copy : StateValue) → copy ≡ record s { origins = [] } → IsStateAt batches key s → IsStateAt batches key copy
 copied-at batches key s copy e at = record { batch = at.batch; at = at.at; state = state-copied s at.batch.run (events_to key batches) copy e at.state }
 

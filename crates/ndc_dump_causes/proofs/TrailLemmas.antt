@@ -32,7 +32,7 @@ use Rattle.ndc_dump_causes.proofs.OnPaths.{left-one, origins-append}
 
 -- ---- open batches
 
--- a path that is listed is among all that has it in front
+-- a path that is listed is listed in each list that begins with it
 grown : (batches : List Batch) (few many : List Origin) (key : BatchKey) → AreAmong few many → IsListed batches few key → IsListed batches many key
 grown batches few many key h l = record { batch = l.batch; at = l.at; once = l.once; among = λ o k. h o (l.among o k) }
 
@@ -53,7 +53,7 @@ take-twice (suc n) zero xs a b = absurd (omega (arith, a))
 take-twice (suc n) (suc m) [] a b = refl
 take-twice (suc n) (suc m) (x ∷ xs) a b = ap (λ l. x ∷ l) (take-twice n m xs (omega (arith, a)) (omega (arith, b)))
 
--- where the origins behind those of the last open one are dropped, all stay open
+-- where the origins after those of the last open one are dropped, all stay open
 pub open-back : (batches : List Batch) (listed : List Origin) (low : ℕ) (os : List Opened) (x : Opened) → AreOpen batches listed low (os ++ x ∷ []) → AreOpen batches (take x.count listed) low (os ++ x ∷ [])
 open-back batches listed low [] x h = (
   h.0,
@@ -74,7 +74,7 @@ open-back batches listed low (o ∷ os) x h =
     top-count low [] h = h.1
     top-count low (o ∷ os) h = top-count o.count os h.3
 
--- the path to the last open one is listed in front of its count
+-- the path to the last open one is listed among as many origins as its count
 pub open-last : (batches : List Batch) (listed : List Origin) (low : ℕ) (os : List Opened) (x : Opened) → AreOpen batches listed low (os ++ x ∷ []) → IsListed batches (take x.count listed) x.key
 open-last batches listed low [] x h = h.2
 open-last batches listed low (o ∷ os) x h = open-last batches listed o.count os x h.3
@@ -86,7 +86,7 @@ open-grow batches listed more low (o ∷ os) h =
     let b = h.1 in let e = length-append listed more in
     (h.0, subst (λ n. o.count ≤ n) (sym e) (omega (arith, b)), subst (λ l. IsListed batches l o.key) (sym (take-append-le o.count listed more h.1)) h.2, open-grow batches listed more o.count os h.3)
 
--- a batch whose path is listed is open behind all others
+-- a batch whose path is listed is open after all others
 pub open-push : (batches : List Batch) (listed : List Origin) (low : ℕ) (os : List Opened) (x : Opened) → low ≤ x.count → x.count ≡ length listed → AreOpen batches listed low os → IsListed batches listed x.key
     → AreOpen batches listed low (os ++ x ∷ [])
 open-push batches listed low [] x least is h l = (least, omega (arith, is), subst (λ k. IsListed batches k x.key) (sym (take_all x.count listed (omega (arith, is)))) l, tt)
@@ -145,7 +145,7 @@ listed-once batches listed b has l = subst (λ x. has_origin_twice batches x ≡
         some-same : (x y : Batch) → Some x ≡ Some y → x ≡ y
         some-same x y e = cc
 
--- ---- the trail behind a batch
+-- ---- the trail after a batch
 
 -- where what was listed since is dropped, the trail is as before
 pub trail-kept : (batches : List Batch) (old : TrailValue) (opened : List Opened) (keys now : List Origin) (n : ℕ) (run : RunId) (events : List Event) → IsTrail batches old → opened ≡ old.opened
@@ -154,7 +154,7 @@ trail-kept batches old opened keys now n run events trail same listed count back
     subst (AreOpen batches now 0) (sym same) (subst (λ l. AreOpen batches l 0 old.opened)
     (sym (back ∙ ap (λ m. take m keys) count ∙ ap (take (length old.listed)) listed ∙ listed-front run old.listed events)) trail)
 
--- a batch whose path is listed is opened behind the others
+-- a batch whose path is listed is opened after the others
 pub trail-more : (batches : List Batch) (old : TrailValue) (opened now : List Opened) (keys : List Origin) (x : Opened) (run : RunId) (events : List Event) → IsTrail batches old → opened ≡ old.opened
     → keys ≡ collected run old.listed events → x.count ≡ length keys → IsListed batches (collected run old.listed events) x.key → now ≡ opened ++ x ∷ [] → AreOpen batches keys 0 now
 trail-more batches old opened now keys x run events trail same listed count known more =

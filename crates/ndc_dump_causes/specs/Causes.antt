@@ -45,7 +45,7 @@ is_ill_formed batches b = is_unfit_parent b (named b.parent batches)
 abbrev pub comes_before : Batch → Batch → Bool
 comes_before other b = same_run other.run b.run && ((other.key.version == b.key.version) && nat_lt other.key.task b.key.task)
 
--- whether an earlier batch of its run and version is no ancestor of a batch
+-- whether an earlier batch of its run and version is not an ancestor of a batch
 abbrev pub is_split : List Batch → Batch → Bool
 is_split batches b = list_any (λ other. comes_before other b && not (has_key (Some other.key) (path_to b.key batches))) batches
 

@@ -6,7 +6,7 @@ use Rattle.ndc_event.specs.declared.key.RunId.{RunId}
 use Rattle.ndc_model_sets.specs.Branches.{same_run}
 use Rattle.ndc_model_sets.specs.Keys.{is_key}
 
--- whether a batch comes behind one of its version that is not its parent
+-- whether a batch comes after one of its version that is not its parent
 abbrev pub is_loose : Option BatchKey → Batch → Bool
 is_loose None b = false
 is_loose (Some key) b = (key.version == b.key.version) && not (is_key key b.parent)
@@ -15,7 +15,7 @@ is_loose (Some key) b = (key.version == b.key.version) && not (is_key key b.pare
 abbrev pub with_last : Batch → (RunId → Option BatchKey) → RunId → Option BatchKey
 with_last b last run = if same_run run b.run then Some b.key else last run
 
--- the first of these batches, in key order, that comes behind one of its run and version that is not its parent
+-- the first of these batches, in key order, that comes after one of its run and version that is not its parent
 abbrev pub first_loose : (RunId → Option BatchKey) → List Batch → Option BatchKey
 first_loose last [] = None
 first_loose last (b ∷ batches) = if is_loose (last b.run) b then Some b.key else first_loose (with_last b last) batches

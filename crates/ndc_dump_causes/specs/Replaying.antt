@@ -1,4 +1,4 @@
--- Which paths replay, and the states behind them.
+-- Which paths replay, and the states after them.
 use Rattle.std.specs.Prelude.{◌≡◌, Bool, is_ok, List, Some, Ok}
 use Rattle.std.specs.List.{AllByRecursion}
 use Rattle.ndc_event.specs.declared.batch.Batch.{Batch}
@@ -16,19 +16,19 @@ use Rattle.ndc_dump_causes.specs.declared.replaying.Kept.{Kept}
 abbrev pub replays_to : List Batch → Batch → Bool
 replays_to batches b = is_ok (replay_of b.run (events_to b.key batches))
 
--- the events replay as those of the run, and this is the state behind them but for its origins
+-- the events replay as those of the run, and this is the state after them but for its origins
 pub record IsStateOf (s : StateValue) (run : RunId) (events : List Event) : Type 0 where
   pub whole : StateValue
   pub origins : List Origin
   pub replays : replay_of run events ≡ Ok whole
   pub same : s ≡ record whole { origins = origins }
 
--- this is the state behind the batch of a key but for its origins
+-- this is the state after the batch of a key but for its origins
 pub record IsStateAt (batches : List Batch) (key : BatchKey) (s : StateValue) : Type 0 where
   pub batch : Batch
   pub at : batch_at key batches ≡ Some batch
   pub state : IsStateOf s batch.run (events_to key batches)
 
--- each state that is kept is that behind its batch but for its origins
+-- each state that is kept is that after its batch but for its origins
 abbrev pub AreKept : List Batch → List Kept → Type 0
 AreKept batches kept = AllByRecursion (λ one. IsStateAt batches one.key one.state) kept

@@ -32,7 +32,7 @@ pub record IsListed (batches : List Batch) (listed : List Origin) (key : BatchKe
   pub once : has_twice (path_origins batches batch) ≡ false
   pub among : (origin : Origin) → is_among origin (path_origins batches batch) ≡ true → is_among origin listed ≡ true
 
--- the path to each open batch is listed in front of its count, and counts do not fall from this one on
+-- the path to each open batch is listed among as many origins as its count, and counts do not fall from this one on
 abbrev pub AreOpen : List Batch → List Origin → ℕ → List Opened → Type 0
 AreOpen batches listed low [] = Unit {0}
 AreOpen batches listed low (o ∷ os) =

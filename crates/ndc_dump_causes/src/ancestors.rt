@@ -15,7 +15,8 @@ pub(crate) fn path_from<'b>(
     wanted: Option<BatchKey>,
 ) -> Result<Vec<&'b Batch>, OutOfMemory>
     requires { AreRead batches.now }
-    ensures path { IfOk result (λ path. map (λ b. b.now) path.items ≡ path_from wanted batches.now) }
+    ensures path { IfOk result (λ path.
+        map (λ b. b.now) path.items ≡ path_from wanted batches.now) }
     ensures small { IfOk result (λ path. AllByRecursion HasSmallIds (map (λ b. b.now) path.items)) }
 {
     let mut path = Vec::new(alloc);

@@ -7,7 +7,7 @@ use ndc_event::{Batch, BatchKey, OutOfMemory, RunId};
 use std::alloc::Global;
 use std::marker::Model;
 
-/// Whether a batch comes behind one of its version that is not its parent.
+/// Whether a batch comes after one of its version that is not its parent.
 fn is_loose(last: Option<BatchKey>, batch: &Batch) -> bool
     ensures { result ≡ is_loose last batch.now }
 {
@@ -64,7 +64,7 @@ impl LastKeys {
     }
 }
 
-/// The key of the first of the batches, in key order, that comes behind one of its run and version that is not its
+/// The key of the first of the batches, in key order, that comes after one of its run and version that is not its
 /// parent: they are gone over once.
 pub(crate) fn first_loose(alloc: Global, batches: &[Batch]) -> Result<Option<BatchKey>, OutOfMemory>
     ensures { IfOk result (λ key. key ≡ first_loose (λ run. None) batches.now) }

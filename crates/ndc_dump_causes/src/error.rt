@@ -5,7 +5,7 @@ use thiserror::Error;
 /// What is wrong with a line of a dump.
 #[derive(Clone, Copy, Debug, PartialEq, Eq, Error)]
 pub enum LineCause {
-    /// The first line is no heading of a dump, or the second one is not there or begins no batch.
+    /// The first line is not a heading of a dump, or the second one is not there or begins no batch.
     #[error("the frame of the dump is broken")]
     BadFrame,
     /// The line is not one JSON value, or it nests deeper than 127.
@@ -52,7 +52,7 @@ pub enum KeyCause {
     /// The parent is of another run, or does not end just before the batch begins.
     #[error("the batch does not go on from its parent")]
     NotWellFormed,
-    /// An earlier batch of the same run and version is no ancestor.
+    /// An earlier batch of the same run and version is not an ancestor.
     #[error("an earlier batch of the same run and version is no ancestor")]
     SplitVersion,
     /// Two signals on the path to the batch have one origin.
@@ -69,7 +69,7 @@ pub enum KeyCause {
     CarrierUnfit,
 }
 
-/// Why bytes are no dump.
+/// Why bytes are not a dump.
 #[derive(Clone, Copy, Debug, PartialEq, Eq, Error)]
 pub enum DumpError {
     /// The line with this number, counted from 1, is wrong.

@@ -6,7 +6,7 @@ ghost use Rattle.ndc_model_sets.specs.Reading.{named};
 
 use ndc_event::{Batch, BatchKey};
 
-/// The batches in front of the middle one, this one, and those behind it; nothing where there is none.
+/// The batches before the middle one, this one, and those after it; nothing where there is none.
 fn halves(batches: &[Batch]) -> Option<(&[Batch], &Batch, &[Batch])>
     ensures none { IfNone result (batches.now ≡ []) }
     ensures some { IfSome result (λ parts. batches.now ≡ parts.0.now ++ parts.1.now ∷ parts.2.now) }

@@ -1,4 +1,4 @@
-//! Why bytes are no dump: the causes of refusal, and which of them holds of a set of batches.
+//! Why bytes are not a dump: the causes of refusal, and which of them holds of a set of batches.
 #![tactic(auto)]
 
 mod ancestors;

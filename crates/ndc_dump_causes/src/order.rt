@@ -16,7 +16,7 @@ pub(crate) struct Step {
 /// What is known of the batches' order while they are gone over by key.
 #[derive(Drop)]
 struct Chain {
-    /// The place that comes behind each of the places so far; the number of batches where none does.
+    /// The place that comes after each of the places so far; the number of batches where none does.
     next: Vec<usize>,
     /// Whether some batch so far hangs below the one at a place.
     parents: Vec<bool>,
@@ -37,7 +37,7 @@ impl Chain {
         })
     }
 
-    /// Puts the next place right behind its parent's, or in front of all.
+    /// Puts the next place right after its parent's, or before all.
     fn put(&mut self, parent: usize) -> Result<(), OutOfMemory> {
         let place = self.next.len();
         let mut is_first = true;
@@ -77,7 +77,7 @@ fn place_of(batches: &[Batch], key: Option<BatchKey>) -> usize {
     }
 }
 
-/// The batches in an order in which each comes behind its parent, and all that hangs below a batch comes right behind
+/// The batches in an order in which each comes after its parent, and all that hangs below a batch comes right after
 /// it. No clause says so: who goes over batches in this order looks whether a parent is the one that is wanted, and what
 /// is promised does not rest on it.
 pub(crate) fn steps_of(alloc: Global, batches: &[Batch]) -> Result<Vec<Step>, OutOfMemory> {

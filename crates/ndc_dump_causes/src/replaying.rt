@@ -27,7 +27,8 @@ struct Reading;
 /// The state of a run after all events of a path, or what forbids the first that is forbidden.
 pub(crate) fn state_of(alloc: Global, run: RunId, path: &[&Batch]) -> Result<State, StateError>
     requires { AllByRecursion HasSmallIds (map (λ b. b.now) path.now) }
-    ensures { Gives Memory (λ state. state) result (replay_of run (history_of (map (λ b. b.now) path.now))) }
+    ensures { Gives Memory (λ state.
+        state) result (replay_of run (history_of (map (λ b. b.now) path.now))) }
 {
     let mut state = State::new(alloc, run);
     let mut steps: Steps<Reading> = Steps::new();
@@ -48,7 +49,8 @@ pub(crate) fn replays(
     wanted: Option<BatchKey>,
 ) -> Result<bool, OutOfMemory>
     requires { AreRead batches.now }
-    ensures { IfOk result (λ test. test ≡ is_ok (replay_of run (history_of (path_from wanted batches.now)))) }
+    ensures { IfOk result (λ test.
+        test ≡ is_ok (replay_of run (history_of (path_from wanted batches.now)))) }
 {
     let path = path_from(alloc, batches, wanted)?;
     match state_of(alloc, run, path.as_slice()) {
@@ -75,7 +77,8 @@ pub(crate) fn is_forbidden(
 
 /// Lists the origin of the event, where it is a signal.
 fn push_origin(origins: &mut Vec<Origin>, run: RunId, event: &Event) -> Result<(), OutOfMemory>
-    ensures { OnOk result (origins.new.items ≡ origins.old.items ++ origins_in run (event.now ∷ [])) }
+    ensures { OnOk result (origins.new.items
+        ≡ origins.old.items ++ origins_in run (event.now ∷ [])) }
 {
     match &event.kind {
         EventKind::WorkflowExecutionSignaled { origin, .. } => {
@@ -98,7 +101,8 @@ fn push_origins(origins: &mut Vec<Origin>, run: RunId, events: &[Event]) -> Resu
 
 /// The origins of the signals on a path.
 fn origins_of(alloc: Global, run: RunId, path: &[&Batch]) -> Result<Vec<Origin>, OutOfMemory>
-    ensures { IfOk result (λ origins. origins.items ≡ origins_in run (history_of (map (λ b. b.now) path.now))) }
+    ensures { IfOk result (λ origins.
+        origins.items ≡ origins_in run (history_of (map (λ b. b.now) path.now))) }
 {
     let mut origins = Vec::new(alloc);
     for batch in path {
@@ -135,7 +139,7 @@ pub(crate) fn has_origin_twice(
     has_twice(alloc, origins.as_slice())
 }
 
-/// A batch whose path was replayed and below which more are to come, and the state behind it but for its origins.
+/// A batch whose path was replayed and below which more are to come, and the state after it but for its origins.
 #[derive(Drop)]
 pub(crate) struct Kept {
     key: BatchKey,
@@ -173,7 +177,7 @@ fn kept_at(
     Ok(Some(state))
 }
 
-/// The state behind the parent of a batch, where it is kept, or of no event where the batch has no parent.
+/// The state after the parent of a batch, where it is kept, or of no event where the batch has no parent.
 fn state_before(
     alloc: Global,
     kept: &mut Vec<Kept>,
@@ -185,7 +189,9 @@ fn state_before(
     requires formed { holds_of_none NotWellFormed (is_ill_formed batches.now) batches.now ≡ Ok tt }
     requires kept { AreKept batches.now kept.old.items }
     ensures kept { OnOk result (AreKept batches.now kept.new.items) }
-    ensures state { IfOk result (λ state. IfSome state (λ s. IsStateOf s batch.now.run (history_of (path_from batch.now.parent batches.now)))) }
+    ensures state { IfOk result (λ state.
+        IfSome state (λ s. IsStateOf s batch.now.run
+        (history_of (path_from batch.now.parent batches.now)))) }
 {
     match batch.parent {
         None => Ok(Some(State::new(alloc, batch.run))),
@@ -193,8 +199,8 @@ fn state_before(
     }
 }
 
-/// Replays a batch behind its parent, where the state there is kept; answers whether it replays, and then keeps the state
-/// where more is to come below it.
+/// Replays a batch after its parent, where the state there is kept; answers whether it replays, and then keeps the
+/// state where more is to come below it.
 fn replay_one(
     alloc: Global,
     kept: &mut Vec<Kept>,
@@ -242,7 +248,8 @@ fn replay_step(
     requires kept { AreKept batches.now kept.old.items }
     requires known { AreKnown (λ b. replays_to batches.now b ≡ true) batches.now keys.old }
     ensures kept { OnOk result (AreKept batches.now kept.new.items) }
-    ensures known { OnOk result (AreKnown (λ b. replays_to batches.now b ≡ true) batches.now keys.new) }
+    ensures known { OnOk result
+        (AreKnown (λ b. replays_to batches.now b ≡ true) batches.now keys.new) }
 {
     if batches.len() <= step.place {
         return Ok(());
@@ -265,7 +272,8 @@ pub(crate) fn keys_that_replay(
     requires read { AreRead batches.now }
     requires formed { holds_of_none NotWellFormed (is_ill_formed batches.now) batches.now ≡ Ok tt }
     requires once { holds_of_none OriginTwice (has_origin_twice batches.now) batches.now ≡ Ok tt }
-    ensures { IfOk result (λ keys. AreKnown (λ b. replays_to batches.now b ≡ true) batches.now keys) }
+    ensures { IfOk result (λ keys.
+        AreKnown (λ b. replays_to batches.now b ≡ true) batches.now keys) }
 {
     let mut kept = Vec::new(alloc);
     let mut keys = KeySet::new(alloc);

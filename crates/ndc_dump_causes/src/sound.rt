@@ -1,4 +1,4 @@
-// The first cause why a set of batches is that of no dump.
+// The first cause why a set of batches is not that of a dump.
 ghost use Rattle.std.specs.Prelude.{◌≡◌, true, false, Ok, Err, IfOk};
 ghost use Rattle.ndc_event.specs.Outcome.{Gives};
 ghost use Rattle.ndc_model_sets.specs.Sets.{Has, Rise};
@@ -53,12 +53,13 @@ fn parents_fit(batches: &[Batch]) -> Result<(), DumpError>
     Ok(())
 }
 
-/// Refuses the first batch of which an earlier one of its run and version is no ancestor. Where batches go on from their
-/// parents, it is the first that comes behind one of its run and version that is not its parent.
+/// Refuses the first batch of which an earlier one of its run and version is not an ancestor. Where batches go on from
+/// their parents, it is the first that comes after one of its run and version that is not its parent.
 fn versions_are_chains(alloc: Global, batches: &[Batch]) -> Result<(), DumpError>
     requires read { AreRead batches.now }
     requires formed { holds_of_none NotWellFormed (is_ill_formed batches.now) batches.now ≡ Ok tt }
-    ensures { Gives Memory (λ done. done) result (holds_of_none SplitVersion (is_split batches.now) batches.now) }
+    ensures { Gives Memory (λ done.
+        done) result (holds_of_none SplitVersion (is_split batches.now) batches.now) }
 {
     match first_loose(alloc, batches)? {
         None => Ok(()),
@@ -88,7 +89,8 @@ fn has_origin_twice_by(
 fn origins_differ(alloc: Global, batches: &[Batch], steps: &[Step]) -> Result<(), DumpError>
     requires read { AreRead batches.now }
     requires formed { holds_of_none NotWellFormed (is_ill_formed batches.now) batches.now ≡ Ok tt }
-    ensures { Gives Memory (λ done. done) result (holds_of_none OriginTwice (has_origin_twice batches.now) batches.now) }
+    ensures { Gives Memory (λ done.
+        done) result (holds_of_none OriginTwice (has_origin_twice batches.now) batches.now) }
 {
     let known = keys_without_origin_twice(alloc, batches, steps)?;
     for batch in batches {
@@ -101,7 +103,8 @@ fn origins_differ(alloc: Global, batches: &[Batch], steps: &[Step]) -> Result<()
 
 /// Refuses the first batch with a copied signal that names an event of the set which is not its original.
 fn copies_fit(alloc: Global, batches: &[Batch]) -> Result<(), DumpError>
-    ensures { Gives Memory (λ done. done) result (holds_of_none OriginUnfit (has_unfit_copy batches.now) batches.now) }
+    ensures { Gives Memory (λ done.
+        done) result (holds_of_none OriginUnfit (has_unfit_copy batches.now) batches.now) }
 {
     let known = originals_of(alloc, batches)?;
     for batch in batches {
@@ -136,7 +139,8 @@ fn paths_replay(alloc: Global, batches: &[Batch], steps: &[Step]) -> Result<(), 
     requires read { AreRead batches.now }
     requires formed { holds_of_none NotWellFormed (is_ill_formed batches.now) batches.now ≡ Ok tt }
     requires once { holds_of_none OriginTwice (has_origin_twice batches.now) batches.now ≡ Ok tt }
-    ensures { Gives Memory (λ done. done) result (holds_of_none BadReplay (is_forbidden batches.now) batches.now) }
+    ensures { Gives Memory (λ done.
+        done) result (holds_of_none BadReplay (is_forbidden batches.now) batches.now) }
 {
     let known = keys_that_replay(alloc, batches, steps)?;
     for batch in batches {

@@ -62,7 +62,8 @@ impl Trail {
     fn go_back_to(&mut self, batches: &[Batch], key: BatchKey) -> Result<bool, OutOfMemory>
         requires { IsTrail batches.now self.old }
         ensures trail { OnOk result (IsTrail batches.now self.new) }
-        ensures at { IfOk result (λ is_open. is_open ≡ true → IsListed batches.now self.new.listed key) }
+        ensures at { IfOk result (λ is_open.
+            is_open ≡ true → IsListed batches.now self.new.listed key) }
     {
         let place = self
             .opened
@@ -84,7 +85,8 @@ impl Trail {
     fn go_back(&mut self, batches: &[Batch], parent: Option<BatchKey>) -> Result<bool, OutOfMemory>
         requires { IsTrail batches.now self.old }
         ensures trail { OnOk result (IsTrail batches.now self.new) }
-        ensures at { IfOk result (λ is_open. is_open ≡ true → IsAt batches.now self.new.listed parent) }
+        ensures at { IfOk result (λ is_open.
+            is_open ≡ true → IsAt batches.now self.new.listed parent) }
     {
         match parent {
             Some(key) => self.go_back_to(batches, key),
@@ -108,7 +110,8 @@ impl Trail {
     /// Lists the origin of an event, where it is a signal; answers whether it was listed before.
     fn list_one(&mut self, run: RunId, event: &Event) -> Result<bool, OutOfMemory>
         ensures again { IfOk result (λ again. again ≡ signal_again run event.now self.old.listed) }
-        ensures listed { OnOk result (self.new.listed ≡ signal_listed run event.now self.old.listed) }
+        ensures listed { OnOk result
+            (self.new.listed ≡ signal_listed run event.now self.old.listed) }
         ensures opened { self.new.opened ≡ self.old.opened }
     {
         match &event.kind {
@@ -122,7 +125,8 @@ impl Trail {
 
     /// Lists the origins of the signals among the events; answers whether one of them was listed before it.
     fn list_all(&mut self, run: RunId, events: &[Event]) -> Result<bool, OutOfMemory>
-        ensures again { IfOk result (λ again. again ≡ comes_again self.old.listed (origins_in run events.now)) }
+        ensures again { IfOk result (λ again.
+            again ≡ comes_again self.old.listed (origins_in run events.now)) }
         ensures listed { OnOk result (self.new.listed ≡ collected run self.old.listed events.now) }
         ensures opened { self.new.opened ≡ self.old.opened }
     {
@@ -134,14 +138,16 @@ impl Trail {
         Ok(again)
     }
 
-    /// Opens a batch behind its parent, where this is open and no origin comes again; answers whether the batch is open.
+    /// Opens a batch after its parent, where this is open and no origin comes again; answers whether the batch is open.
     fn open(&mut self, batches: &[Batch], batch: &Batch) -> Result<bool, OutOfMemory>
         requires read { AreRead batches.now }
-        requires formed { holds_of_none NotWellFormed (is_ill_formed batches.now) batches.now ≡ Ok tt }
+        requires formed { holds_of_none NotWellFormed (is_ill_formed batches.now) batches.now
+            ≡ Ok tt }
         requires has { Has batches.now batch.now }
         requires trail { IsTrail batches.now self.old }
         ensures trail { OnOk result (IsTrail batches.now self.new) }
-        ensures once { IfOk result (λ is_open. is_open ≡ true → has_origin_twice batches.now batch.now ≡ false) }
+        ensures once { IfOk result (λ is_open.
+            is_open ≡ true → has_origin_twice batches.now batch.now ≡ false) }
     {
         if !self.go_back(batches, batch.parent)? {
             return Ok(false);
@@ -172,7 +178,8 @@ fn go_over(
     requires trail { IsTrail batches.now trail.old }
     requires known { AreKnown (λ b. has_origin_twice batches.now b ≡ false) batches.now keys.old }
     ensures trail { OnOk result (IsTrail batches.now trail.new) }
-    ensures known { OnOk result (AreKnown (λ b. has_origin_twice batches.now b ≡ false) batches.now keys.new) }
+    ensures known { OnOk result
+        (AreKnown (λ b. has_origin_twice batches.now b ≡ false) batches.now keys.new) }
 {
     if batches.len() <= step.place {
         return Ok(());
@@ -194,7 +201,8 @@ pub(crate) fn keys_without_origin_twice(
 ) -> Result<KeySet, OutOfMemory>
     requires read { AreRead batches.now }
     requires formed { holds_of_none NotWellFormed (is_ill_formed batches.now) batches.now ≡ Ok tt }
-    ensures { IfOk result (λ keys. AreKnown (λ b. has_origin_twice batches.now b ≡ false) batches.now keys) }
+    ensures { IfOk result (λ keys.
+        AreKnown (λ b. has_origin_twice batches.now b ≡ false) batches.now keys) }
 {
     let mut trail = Trail::new(alloc);
     let mut keys = KeySet::new(alloc);

@@ -65,7 +65,7 @@ less-digits (suc n) a b (x ∷ xs) (y ∷ ys) names less =
     let parts : (is_name_byte x ≡ true) × (list_all is_name_byte xs ≡ true) = and_parts (is_name_byte x) (list_all is_name_byte xs) names in
     less-digits n (a * 256 + x) (b * 256 + y) xs ys parts.1 (omega (arith, less, (byte-fits x parts.0).0))
 
--- the front of what is greater is not less
+-- the prefix of what is greater is not less
 no-less : (n a b : ℕ) (xs ys : List ℕ) → list_all is_name_byte ys ≡ true → digits a n xs < digits b n ys → b < a → ⊥
 no-less n a b xs ys names below less = let above : digits b n ys < digits a n xs = less-digits n b a ys xs names less in omega (arith, below, above)
 
@@ -121,7 +121,7 @@ greater-front (suc n) number (x ∷ xs) (y ∷ ys) names others less = by (great
         let fewer : x < y = ranked x y Less is in
         absurd (no-less n (number * 256 + y) (number * 256 + x) ys xs these.1 less (omega (arith, fewer)))
 
--- where they are the same, the bytes behind them tell
+-- where they are the same, the bytes after them tell
 pub same-front : (n number : ℕ) (xs ys : List ℕ) → list_all is_name_byte xs ≡ true → list_all is_name_byte ys ≡ true → digits number n xs ≡ digits number n ys → slice_cmp nat_cmp xs ys ≡ slice_cmp nat_cmp (drop n xs) (drop n ys)
 unfolding digits
 same-front zero number xs ys names others same = refl

@@ -5,7 +5,7 @@ use Rattle.std.specs.Cmp.{nat_cmp_is}
 use Rattle.std.specs.Cmp.Lexicographic.{slice_cmp}
 use Rattle.std.specs.Ordering.{nat_cmp}
 
--- what is left of two texts behind as many bytes as the shorter one has
+-- what is left of two texts after as many bytes as the shorter one has
 left-compare : (xs ys : List ℕ) (n m least : ℕ) → least ≡ min n m → length xs ≡ n - least → length ys ≡ m - least → slice_cmp nat_cmp xs ys ≡ nat_cmp n m
 left-compare [] [] n m least is one two = nat_cmp_is n m Equal (omega (arith, is, one, two))
 left-compare [] (y ∷ ys) n m least is one two = nat_cmp_is n m Less (omega (arith, is, one, two))

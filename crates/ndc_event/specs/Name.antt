@@ -12,7 +12,7 @@ is_name_byte byte = nat_le 33 byte && nat_le byte 126
 abbrev pub is_name : List ℕ → Bool
 is_name bytes = nat_le 1 (length bytes) && nat_le (length bytes) 200 && list_all is_name_byte bytes
 
--- the name that bytes are, or the first reason why they are none
+-- the name that bytes are, or the first reason why they are not one
 abbrev pub name_of : List ℕ → Result (List ℕ) NameError
 name_of bytes =
     if length bytes == 0 then Err Empty

@@ -199,7 +199,8 @@ impl Batch {
     /// is above the key's or its task not below ([`BatchFault::BadParent`]); there is a carrier beside a parent,
     /// or of another version, or not of the task just before ([`BatchFault::BadCarrier`]).
     pub fn check(&self) -> Result<(), BatchFault>
-        ensures { MatchResult result (λ _. fault_of self.now ≡ None) (λ fault. fault_of self.now ≡ Some fault) }
+        ensures { MatchResult result (λ _. fault_of self.now ≡ None) (λ fault.
+            fault_of self.now ≡ Some fault) }
     {
         let events = self.events.as_slice();
         let Some(first) = events.first() else {

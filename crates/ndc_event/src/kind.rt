@@ -44,7 +44,7 @@ pub enum EventKind {
     DecisionTaskScheduled,
     /// A worker began to decide.
     DecisionTaskStarted,
-    /// It was decided; the events of the actions come behind it.
+    /// It was decided; the events of the actions come after it.
     DecisionTaskCompleted,
     /// The decision failed, with this cause.
     DecisionTaskFailed {

@@ -20,7 +20,7 @@ use thiserror::Error;
 /// The greatest length of a name, in bytes.
 pub const MAX_NAME: usize = 200;
 
-/// Why bytes are no name.
+/// Why bytes are not name.
 #[derive(Clone, Copy, Debug, PartialEq, Eq, Error)]
 pub enum NameError {
     #[error("a name has at least one byte")]
@@ -85,10 +85,10 @@ fn are_name_bytes(bytes: &[u8]) -> bool
     bytes.iter().all(|byte| is_name_byte(*byte))
 }
 
-/// How many bytes stand in the front of a name.
+/// How many bytes stand in the prefix of a name.
 const FRONT: usize = 8;
 
-/// How many bytes behind the front of names are compared one by one, before all are compared as text.
+/// How many bytes after the prefix of names are compared one by one, before all are compared as text.
 const NEAR: usize = 16;
 
 /// The byte at this place, 0 where there is none.
@@ -126,7 +126,7 @@ fn spell(alloc: Global, text: &str) -> Result<Arc<Spelled, Global>, OutOfMemory>
     Ok(Arc::new(alloc, spelled)?)
 }
 
-/// What stands behind the front of a name.
+/// What stands after the prefix of a name.
 fn behind_front(bytes: &[u8]) -> &[u8]
     ensures { result.now ≡ drop 8 bytes.now }
 {

@@ -329,7 +329,7 @@ shared-told clusters me them most domain workflow mine theirs s mine_is theirs_i
     arrives : CanArrive sent theirs
     arrives = told-arrives most domain workflow mine theirs can mine_is theirs_is sent e
 
--- what is shared behind a command, and where it was refused
+-- what is shared after a command, and where it was refused
 module _ (clusters : ClusterList) (me them : ClusterNo) (most : ℕ) (domain workflow : Name) (mine theirs new : Cell) (s : AreShared clusters me them most domain workflow mine theirs) (room : most ≤ 1000000) where
   pub write-then : (home : HomeValue) → home ≡ record { clusters = clusters; me = me; limit = 100 } → IsOrderly mine → (table : List DomainRecord) (command : Command)
       → new ≡ written_at (command_of (desk_of home table) domain workflow command mine) mine → AreShared clusters me them (most + 104) domain workflow new theirs
@@ -340,7 +340,7 @@ module _ (clusters : ClusterList) (me them : ClusterNo) (most : ℕ) (domain wor
   pub refuse-then : new ≡ mine → AreShared clusters me them (most + 104) domain workflow new theirs
   refuse-then is = subst (λ (c : Cell). AreShared clusters me them (most + 104) domain workflow c theirs) (sym is) (shared-more clusters me them most (most + 104) domain workflow mine theirs (omega arith) (omega (arith, room)) s)
 
--- what is shared behind the arrival of a message
+-- what is shared after the arrival of a message
 pub hear-then : (clusters : ClusterList) (me them : ClusterNo) (most : ℕ) (domain workflow : Name) (mine theirs new : Cell) (s : AreShared clusters me them most domain workflow mine theirs) → IsOrderly mine → IsOrderly theirs
     → (sent : Message) → IsSentBy mine sent → new ≡ arrived_at sent theirs → AreShared clusters me them most domain workflow mine new
 hear-then clusters me them most domain workflow mine theirs new s mine_is theirs_is sent e is =

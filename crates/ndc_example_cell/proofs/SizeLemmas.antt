@@ -42,7 +42,7 @@ arrived-events new (b ∷ bs) fresh =
     (let e = events-cons new (b ∷ bs) in omega (arith, e))
     (λ rest. let e = arrived-events new bs rest in let one = events-cons b (arrived new bs) in let two = events-cons b bs in omega (arith, e, one, two))
 
--- an entry of a few events, with the next tasks behind what is learned
+-- an entry of a few events, with the next tasks after what is learned
 record IsLittle (limit task : ℕ) (entry : Entry) : Type 0 where
   events_most : length entry.batch.events ≤ limit + 2
   task_most : entry.batch.key.task ≤ task + 1
@@ -100,7 +100,7 @@ module _ (all part : List Batch) (version : ℕ) (may : MayAdd all part version)
       }) entries e in
       record { entry = one.entry; are = one.are; of = one.holds.of; little = one.holds.little }
 
--- the set behind a command is small still
+-- the set after a command is small still
 pub command-small : (home : Desk) (all : List Batch) (domain workflow : Name) (cell : Cell) (fine : IsFine all domain workflow cell) → IsAuthor home all domain workflow cell → (most : ℕ) → most ≤ 10 ^ 11 → home.limit ≤ 100
     → IsSmallSet most all → (command : Command) → IsSmallSet (most + 104) (set_behind (command_of home domain workflow command cell) all)
 unfolding command_of

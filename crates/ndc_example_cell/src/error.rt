@@ -5,9 +5,9 @@ use std::alloc::{AllocError, AllocFailed};
 /// Why the story ends early.
 #[derive(Clone, Copy)]
 pub(crate) enum StoryError {
-    /// A name is none.
+    /// A text is not a name.
     Name,
-    /// The clusters are none, or too few.
+    /// There are no clusters, or too few.
     Clusters,
     /// The domain is not registered.
     Domain,

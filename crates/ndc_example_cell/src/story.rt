@@ -22,7 +22,7 @@ impl Drop for Asked {
 }
 
 /// What the cells are asked, and by which records of the domain they write: those of both at first, and those that B has
-/// behind its failover.
+/// after its failover.
 struct Scene {
     start: Asked,
     signal: Asked,

@@ -6,15 +6,15 @@ use std::alloc::{AllocError, AllocFailed};
 /// Why the story ends early.
 #[derive(Clone, Copy)]
 pub(crate) enum StoryError {
-    /// A text is no script.
+    /// A text is not a script.
     Script,
-    /// A name is none.
+    /// A text is not a name.
     Name,
-    /// What was printed is no dump.
+    /// What was printed is not a dump.
     Dump,
     /// The header has no cluster of a name.
     NoCluster,
-    /// A cluster is no member of the domain.
+    /// A cluster is not a member of the domain.
     NoMember,
     /// The world has run as many lines as it may.
     Full,

@@ -12,7 +12,7 @@ use ndc_world::ShardWorld;
 use std::alloc::Global;
 use std::thread::Threads;
 
-/// Runs a line, and puts its answer behind what was told.
+/// Runs a line, and puts its answer after what was told.
 pub(crate) fn run_line<R: Threads + Sync>(
     rt: &R,
     alloc: Global,

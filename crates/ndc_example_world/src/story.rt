@@ -23,7 +23,7 @@ const REPLICATED: &[u8] = b"pull B A\nwork B\n";
 const FAILOVER: &[u8] =
     b"failover B alpha B\nsignal B alpha w1 paid now\nsignal A alpha w1 sent now\n";
 
-/// B hears of the workflow; what it has learned is asked before and behind.
+/// B hears of the workflow; what it has learned is asked before and after.
 fn replicate<R: Threads + Sync>(
     rt: &R,
     alloc: Global,

@@ -3,7 +3,7 @@ use ndc_event::OutOfMemory;
 use ndc_text::line::push_number;
 use ndc_world::Summary;
 
-/// Appends a word and a number behind it.
+/// Appends a word and a number after it.
 pub(crate) fn push_count(text: &mut Vec<u8>, word: &[u8], number: u64) -> Result<(), OutOfMemory> {
     text.extend_from_slice(word)?;
     push_number(text, number)

@@ -1,4 +1,4 @@
--- A batch stands where it is on the current branch of a run that is no zombie.
+-- A batch stands where it is on the current branch of a run that is not a zombie.
 use Rattle.std.proofs.Common.{◌≡◌, ℕ, Bool, true, false, not, ◌&&◌, ◌||◌, List, [], ◌∷◌, ◌++◌, inl, inr, map, Option, Some, None, is_some, is_none, refl, sym, ap, subst, ◌∙◌, if◌then◌else◌}
 use Rattle.std.specs.List.{list_any, cons_option, AllByRecursion}
 use Rattle.std.specs.Map.{lookup}
@@ -167,7 +167,7 @@ module _ (keys : List BatchKey) where
       by true = any-optional (key_eq key) c.parent found ∙ ap (λ (t : Bool). is_listed key found || t) (key-is key c.parent)
       by false = sym (or-false (is_listed key found))
 
-  -- what a walk wants behind a batch
+  -- what a walk wants after a batch
   wanted-behind : (key : BatchKey) (c : Batch) (w : Walk) → key_lt key c.key ≡ true → is_key (walk_over c w).wanted key ≡ (is_key w.wanted key || (is_key w.wanted c.key && is_key c.parent key))
   wanted-behind key c w l = by w.wanted refl
     where
@@ -262,7 +262,7 @@ module _ (batches : List Batch) where
       by None e = no-current run (tips run batches) e
       by (Some tip) e = the-current run (tips run batches) tip e (find-among (leads (tips run batches)) (tips run batches) tip e)
 
-  -- whether a test holds of the current tip of a run that is no zombie
+  -- whether a test holds of the current tip of a run that is not a zombie
   abbrev pub of_run : (BatchKey → Bool) → RunId → Bool
   of_run test run = not (is_zombie (run_status run batches)) && of_key test (tip_key (current_tip run batches))
 
@@ -283,7 +283,7 @@ module _ (batches : List Batch) where
       ∙ ap (λ (t : Bool). t || list_any (of_run test) list) (tip-any test run keys)
       ∙ or-group (list_any test keys) (of_run test run) (list_any (of_run test) list)
 
-  -- what holds of a standing batch is what holds of one on the current branch of a run that is no zombie
+  -- what holds of a standing batch is what holds of one on the current branch of a run that is not a zombie
   pub standing-any : (f : Batch → Bool) → Rise batches → AllByRecursion PointsBack batches
       → list_any (λ b. is_listed b.key (standing (view_of batches)) && f b) batches ≡ list_any (of_run (λ key. list_any f (path_to key batches))) (runs batches)
   standing-any f rise back =

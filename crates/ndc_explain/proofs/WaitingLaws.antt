@@ -142,7 +142,7 @@ module _ (o : Origin) where
         path-origins run (path_to tip.key batches)
         (λ c on. (path-run batches tip c (path_to tip.key batches) sound.parents (path_is batches tip sound.set sound.closed has.0) on).1 ∙ has.1)
 
-    -- a run settles what is on the path to its current tip, where it is no zombie
+    -- a run settles what is on the path to its current tip, where it is not a zombie
     run-settles : (run : RunId) → of_run batches on_path run ≡ is_among o (settled_by run batches)
     run-settles run = by (is_zombie (run_status run batches))
       where

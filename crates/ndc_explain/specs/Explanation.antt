@@ -90,7 +90,7 @@ findings_told clusters all dump found =
     sides_told clusters all found.sides
     ++ (flat_map (signal_line clusters dump.workflow (is_open dump.view.runs) found.settlers) found.signals ++ counts_line all dump.view found)
 
--- the explanation behind its first line, with what was found: each run, and which of its branches leads; what both sides had; what became of
+-- the explanation after its first line, with what was found: each run, and which of its branches leads; what both sides had; what became of
 -- each signal; the counts; with the events of decisions or without
 abbrev pub explained : Option ClusterList → Bool → Dump → Findings → List ℕ
 explained clusters all dump found = flat_map (run_told clusters) dump.view.runs ++ findings_told clusters all dump found

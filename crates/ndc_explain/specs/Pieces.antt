@@ -14,7 +14,7 @@ abbrev pub by_text : List ℕ → List ℕ
 by_text [] = []
 by_text (byte ∷ bytes) = codes " by " ++ byte ∷ bytes
 
--- a name behind a space; nothing where there is no name
+-- a name after a space; nothing where there is no name
 abbrev pub behind_space : List ℕ → List ℕ
 behind_space [] = []
 behind_space (byte ∷ bytes) = codes " " ++ byte ∷ bytes

@@ -33,14 +33,14 @@ abbrev pub with_parents : List Batch → List BatchKey → List BatchKey
 with_parents [] keys = keys
 with_parents (b ∷ batches) keys = with_parent b (with_parents batches keys)
 
--- the keys of the batches on current branches of runs that are no zombies
+-- the keys of the batches on current branches of runs that are not zombies
 abbrev pub standing : View → List BatchKey
 standing view = with_parents view.batches (with_tips view.runs [])
 
--- whether a batch is on the current branch of this run, which is no zombie
+-- whether a batch is on the current branch of this run, which is not a zombie
 abbrev pub is_kept_by : List Batch → Batch → RunId → Bool
 is_kept_by batches b run = not (is_zombie (run_status run batches)) && is_on_tip batches b (current_tip run batches)
 
--- whether a batch is on the current branch of a run that is no zombie
+-- whether a batch is on the current branch of a run that is not a zombie
 abbrev pub is_on_current : List Batch → Batch → Bool
 is_on_current batches b = list_any (is_kept_by batches b) (runs batches)

@@ -30,7 +30,8 @@ fn push_leading(
     clusters: &Option<Clusters>,
     branch: &BranchView,
 ) -> Result<(), OutOfMemory>
-    ensures { OnOk result (text.new.items ≡ text.old.items ++ leading_line clusters.now branch.now) }
+    ensures { OnOk result (text.new.items
+        ≡ text.old.items ++ leading_line clusters.now branch.now) }
 {
     let version = branch.tip.version;
     push_pieces(
@@ -53,7 +54,8 @@ fn push_losing(
     lead: &BranchView,
     branch: &BranchView,
 ) -> Result<(), OutOfMemory>
-    ensures { OnOk result (text.new.items ≡ text.old.items ++ losing_line clusters.now lead.now branch.now) }
+    ensures { OnOk result (text.new.items
+        ≡ text.old.items ++ losing_line clusters.now lead.now branch.now) }
 {
     let greater = lead.tip.version;
     let version = branch.tip.version;
@@ -86,7 +88,8 @@ fn push_branch(
     lead: &BranchView,
     branch: &BranchView,
 ) -> Result<(), OutOfMemory>
-    ensures { OnOk result (text.new.items ≡ text.old.items ++ branch_told clusters.now lead.now branch.now) }
+    ensures { OnOk result (text.new.items
+        ≡ text.old.items ++ branch_told clusters.now lead.now branch.now) }
 {
     if branch.is_current {
         push_leading(text, clusters, branch)
@@ -102,7 +105,8 @@ fn push_beside(
     lead: &BranchView,
     branches: &[BranchView],
 ) -> Result<(), OutOfMemory>
-    ensures { OnOk result (text.new.items ≡ text.old.items ++ flat_map (branch_told clusters.now lead.now) branches.now) }
+    ensures { OnOk result (text.new.items
+        ≡ text.old.items ++ flat_map (branch_told clusters.now lead.now) branches.now) }
 {
     for branch in branches {
         push_branch(text, clusters, lead, branch)?;
@@ -116,7 +120,8 @@ fn push_branches(
     clusters: &Option<Clusters>,
     branches: &[BranchView],
 ) -> Result<(), OutOfMemory>
-    ensures { OnOk result (text.new.items ≡ text.old.items ++ branches_told clusters.now (leader branches.now) branches.now) }
+    ensures { OnOk result (text.new.items
+        ≡ text.old.items ++ branches_told clusters.now (leader branches.now) branches.now) }
 {
     match leader(branches) {
         None => Ok(()),
@@ -144,7 +149,8 @@ pub(crate) fn push_runs(
     clusters: &Option<Clusters>,
     runs: &[RunView],
 ) -> Result<(), OutOfMemory>
-    ensures { OnOk result (text.new.items ≡ text.old.items ++ flat_map (run_told clusters.now) runs.now) }
+    ensures { OnOk result (text.new.items
+        ≡ text.old.items ++ flat_map (run_told clusters.now) runs.now) }
 {
     for run in runs {
         push_run(alloc, text, clusters, run)?;

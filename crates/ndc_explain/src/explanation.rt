@@ -127,7 +127,8 @@ impl<'v> Found<'v> {
         clusters: &Option<Clusters>,
         all: bool,
     ) -> Result<(), OutOfMemory>
-        ensures { OnOk result (text.new.items ≡ text.old.items ++ sides_told clusters.now all self.now.sides) }
+        ensures { OnOk result (text.new.items
+            ≡ text.old.items ++ sides_told clusters.now all self.now.sides) }
     {
         push_sides(text, clusters, all, &self.sides)
     }
@@ -141,7 +142,9 @@ impl<'v> Found<'v> {
         workflow: &Name,
         is_open: bool,
     ) -> Result<(), OutOfMemory>
-        ensures { OnOk result (text.new.items ≡ text.old.items ++ flat_map (signal_line clusters.now workflow.now is_open self.now.settlers) self.now.signals) }
+        ensures { OnOk result (text.new.items
+            ≡ text.old.items ++ flat_map
+            (signal_line clusters.now workflow.now is_open self.now.settlers) self.now.signals) }
     {
         push_fates(
             alloc,
@@ -156,7 +159,8 @@ impl<'v> Found<'v> {
 
     /// Appends the line of counts.
     fn push_counts(&self, text: &mut Vec<u8>, all: bool, view: &View) -> Result<(), OutOfMemory>
-        ensures { OnOk result (text.new.items ≡ text.old.items ++ counts_line all view.now self.now) }
+        ensures { OnOk result (text.new.items
+            ≡ text.old.items ++ counts_line all view.now self.now) }
     {
         let lost = self.sides.lost.as_slice();
         push_pieces(
@@ -191,7 +195,8 @@ fn push_findings(
     dump: &Dump,
     found: &Found,
 ) -> Result<(), OutOfMemory>
-    ensures { OnOk result (text.new.items ≡ text.old.items ++ findings_told clusters.now all dump.now found.now) }
+    ensures { OnOk result (text.new.items
+        ≡ text.old.items ++ findings_told clusters.now all dump.now found.now) }
 {
     found.push_sides(text, clusters, all)?;
     found.push_fates(alloc, text, clusters, &dump.workflow, has_open(&dump.view))?;
@@ -220,7 +225,7 @@ pub fn has_zombies(view: &View) -> bool
     view.runs.as_slice().iter().any(|run| is_zombie(run.status))
 }
 
-/// Explains a dump behind the line that names its workflow, with the names of the clusters that wrote where these are
+/// Explains a dump after the line that names its workflow, with the names of the clusters that wrote where these are
 /// given: each run, which of its branches leads and why each other one lost; what both sides had but for signals: each
 /// event that stands on no current branch, with the event beside it on a current one, and what happened on a current one
 /// alone; each signal, once, with the batch on a current branch that has it or a copy of it, or with what it waits for;
@@ -233,7 +238,8 @@ pub fn push_explained(
     dump: &Dump,
     found: &Found,
 ) -> Result<(), OutOfMemory>
-    ensures { OnOk result (text.new.items ≡ text.old.items ++ explained clusters.now all dump.now found.now) }
+    ensures { OnOk result (text.new.items
+        ≡ text.old.items ++ explained clusters.now all dump.now found.now) }
 {
     push_runs(alloc, text, clusters, dump.view.runs.as_slice())?;
     push_findings(alloc, text, clusters, all, dump, found)

@@ -21,12 +21,14 @@ ghost use Rattle.ndc_explain_sides.specs.Sides.{Lost, events_beside, placed_of};
 /// found lost are, one after the other, the events of the batches on no current branch; and one that is told is told either
 /// as what happened on both sides or as what has to be driven again.
 pub fn each_event_is_told_once()
-    ensures lost { (view : View) → map placed_of (findings view).sides.lost ≡ events_beside (standing view) view.batches }
-    ensures once { (all : Bool) (loss : Lost) → is_told_as all true loss ≡ (is_told all loss.event && not (is_told_as all false loss)) }
+    ensures lost { (view : View) → map placed_of (findings view).sides.lost
+        ≡ events_beside (standing view) view.batches }
+    ensures once { (all : Bool) (loss : Lost) → is_told_as all true loss
+        ≡ (is_told all loss.event && not (is_told_as all false loss)) }
 {}
 
 /// Of a sound set, as a dump is one, a batch is told as lost exactly where it is on no run's current branch: it stands
-/// where it is on the current branch of a run that is no zombie.
+/// where it is on the current branch of a run that is not a zombie.
 pub fn what_stands_is_on_a_current_branch()
     ensures { (batches : List Batch) → IsSound batches → (b : Batch) → Has batches b
         → is_listed b.key (standing (view_of batches)) ≡ is_on_current batches b }
@@ -35,12 +37,16 @@ pub fn what_stands_is_on_a_current_branch()
 /// Each signal is told exactly once: an origin is among those told exactly where a signal of the batches has it, and
 /// none is told twice.
 pub fn each_signal_is_told_once()
-    ensures told { (view : View) (origin : Origin) → is_among origin (origins_of (findings view).signals) ≡ is_among origin (origins_of (signals view.batches)) }
+    ensures told { (view : View) (origin : Origin)
+        → is_among origin (origins_of (findings view).signals)
+        ≡ is_among origin (origins_of (signals view.batches)) }
     ensures once { (view : View) → AreApart (origins_of (findings view).signals) }
 {}
 
 /// What waits are the strays of the view, by which `ndc` applies signals again: of a sound set, as a dump is one, a signal
 /// is told as waiting exactly where it is among its strays.
 pub fn what_waits_are_strays()
-    ensures { (batches : List Batch) → IsSound batches → (origin : Origin) → waits (findings (view_of batches)) origin ≡ is_among origin (origins_of (strays batches)) }
+    ensures { (batches : List Batch) → IsSound batches → (origin : Origin)
+        → waits (findings (view_of batches)) origin
+        ≡ is_among origin (origins_of (strays batches)) }
 {}

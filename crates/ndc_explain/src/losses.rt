@@ -101,7 +101,8 @@ fn push_event_in(
     key: BatchKey,
     event: &Event,
 ) -> Result<(), OutOfMemory>
-    ensures { OnOk result (text.new.items ≡ text.old.items ++ event_text clusters.now key event.now) }
+    ensures { OnOk result (text.new.items
+        ≡ text.old.items ++ event_text clusters.now key event.now) }
 {
     push_event(text, event)?;
     text.extend_from_slice(b" in ")?;
@@ -151,7 +152,8 @@ fn push_loss(
     both: bool,
     loss: &Loss,
 ) -> Result<(), OutOfMemory>
-    ensures { OnOk result (text.new.items ≡ text.old.items ++ loss_line clusters.now both loss.now) }
+    ensures { OnOk result (text.new.items
+        ≡ text.old.items ++ loss_line clusters.now both loss.now) }
 {
     text.extend_from_slice(loss_head(both).as_bytes())?;
     push_event_in(text, clusters, loss.key, loss.event)?;
@@ -166,7 +168,8 @@ fn push_loss_of(
     both: bool,
     loss: &Loss,
 ) -> Result<(), OutOfMemory>
-    ensures { OnOk result (text.new.items ≡ text.old.items ++ loss_told clusters.now all both loss.now) }
+    ensures { OnOk result (text.new.items
+        ≡ text.old.items ++ loss_told clusters.now all both loss.now) }
 {
     if is_told_as(all, both, loss) {
         push_loss(text, clusters, both, loss)
@@ -183,7 +186,8 @@ fn push_losses(
     both: bool,
     lost: &[Loss],
 ) -> Result<(), OutOfMemory>
-    ensures { OnOk result (text.new.items ≡ text.old.items ++ flat_map (loss_told clusters.now all both) lost.now) }
+    ensures { OnOk result (text.new.items
+        ≡ text.old.items ++ flat_map (loss_told clusters.now all both) lost.now) }
 {
     for loss in lost {
         push_loss_of(text, clusters, all, both, loss)?;
@@ -212,7 +216,8 @@ fn push_alone_of(
     all: bool,
     trace: &Trace,
 ) -> Result<(), OutOfMemory>
-    ensures { OnOk result (text.new.items ≡ text.old.items ++ alone_told clusters.now all trace.now) }
+    ensures { OnOk result (text.new.items
+        ≡ text.old.items ++ alone_told clusters.now all trace.now) }
 {
     if is_told(all, trace.event) {
         push_alone(text, clusters, trace)
@@ -228,7 +233,8 @@ fn push_each_alone(
     all: bool,
     alone: &[Trace],
 ) -> Result<(), OutOfMemory>
-    ensures { OnOk result (text.new.items ≡ text.old.items ++ flat_map (alone_told clusters.now all) alone.now) }
+    ensures { OnOk result (text.new.items
+        ≡ text.old.items ++ flat_map (alone_told clusters.now all) alone.now) }
 {
     for trace in alone {
         push_alone_of(text, clusters, all, trace)?;
@@ -244,7 +250,8 @@ pub(crate) fn push_sides(
     all: bool,
     sides: &Sides,
 ) -> Result<(), OutOfMemory>
-    ensures { OnOk result (text.new.items ≡ text.old.items ++ sides_told clusters.now all sides.now) }
+    ensures { OnOk result (text.new.items
+        ≡ text.old.items ++ sides_told clusters.now all sides.now) }
 {
     push_losses(text, clusters, all, false, sides.lost.as_slice())?;
     push_losses(text, clusters, all, true, sides.lost.as_slice())?;

@@ -27,7 +27,7 @@ pub enum Piece<'a> {
     Shared(Option<Item>),
     /// ` by` and the name of a writer; nothing where the name is empty.
     Writer(&'a [u8]),
-    /// A name behind a space; nothing where the name is empty.
+    /// A name after a space; nothing where the name is empty.
     Name(&'a [u8]),
     /// A name as it stands in an XML document.
     Escaped(&'a [u8]),
@@ -54,7 +54,7 @@ fn push_writer(text: &mut Vec<u8>, name: &[u8]) -> Result<(), OutOfMemory>
     }
 }
 
-/// Appends a name behind a space, where it is not empty.
+/// Appends a name after a space, where it is not empty.
 fn push_name(text: &mut Vec<u8>, name: &[u8]) -> Result<(), OutOfMemory>
     ensures { OnOk result (text.new.items ≡ text.old.items ++ behind_space name.now) }
 {
@@ -131,7 +131,8 @@ fn push_run_id(text: &mut Vec<u8>, run: RunId) -> Result<(), OutOfMemory>
 /// Appends from which batch to which a block of several goes.
 fn push_several(text: &mut Vec<u8>, summary: Summary) -> Result<(), OutOfMemory>
     ensures { OnOk result (text.new.items ≡ text.old.items
-        ++ concat (key_text summary.first ∷ codes " to " ∷ key_text summary.last ∷ codes ", " ∷ decimal summary.count ∷ codes " batches" ∷ [])) }
+        ++ concat (key_text summary.first ∷ codes " to " ∷ key_text summary.last ∷ codes ", "
+        ∷ decimal summary.count ∷ codes " batches" ∷ [])) }
 {
     push_key(text, summary.first)?;
     text.extend_from_slice(b" to ")?;

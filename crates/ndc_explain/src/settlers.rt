@@ -57,7 +57,8 @@ impl Settlers {
 
     /// Takes an event of a batch in.
     fn add_event(&mut self, batch: &Batch, event: &Event) -> Result<(), OutOfMemory>
-        ensures { OnOk result (self.new ≡ with_kind batch.now event.now.id event.now.version event.now.kind self.old) }
+        ensures { OnOk result (self.new
+            ≡ with_kind batch.now event.now.id event.now.version event.now.kind self.old) }
     {
         match &event.kind {
             EventKind::WorkflowExecutionSignaled { origin, .. } => {

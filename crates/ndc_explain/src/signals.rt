@@ -19,7 +19,9 @@ use std::alloc::Global;
 
 /// Appends the signal that an event of a run is.
 fn push_signal(list: &mut Vec<Stray>, run: RunId, event: &Event) -> Result<(), OutOfMemory>
-    ensures { OnOk result (list.new.items ≡ list.old.items ++ cons_option (signal_of run event.now.id event.now.version event.now.kind) []) }
+    ensures { OnOk result (list.new.items
+        ≡ list.old.items ++ cons_option
+        (signal_of run event.now.id event.now.version event.now.kind) []) }
 {
     match &event.kind {
         EventKind::WorkflowExecutionSignaled {
@@ -181,7 +183,8 @@ fn push_fate(
     known: &Settlers,
     signal: &Stray,
 ) -> Result<(), OutOfMemory>
-    ensures { OnOk result (text.new.items ≡ text.old.items ++ signal_line clusters.now workflow.now is_open known.now signal.now) }
+    ensures { OnOk result (text.new.items
+        ≡ text.old.items ++ signal_line clusters.now workflow.now is_open known.now signal.now) }
 {
     push_head(alloc, text, signal)?;
     match settler_of(known, signal) {
@@ -200,7 +203,9 @@ pub(crate) fn push_fates(
     known: &Settlers,
     signals: &[Stray],
 ) -> Result<(), OutOfMemory>
-    ensures { OnOk result (text.new.items ≡ text.old.items ++ flat_map (signal_line clusters.now workflow.now is_open known.now) signals.now) }
+    ensures { OnOk result (text.new.items
+        ≡ text.old.items ++ flat_map
+        (signal_line clusters.now workflow.now is_open known.now) signals.now) }
 {
     for signal in signals {
         push_fate(alloc, text, clusters, workflow, is_open, known, signal)?;

@@ -51,7 +51,7 @@ fn insert_tip(keys: &mut KeySet, run: &RunView) -> Result<(), OutOfMemory>
     }
 }
 
-/// Lists the tips of the current branches of those of the runs that are no zombies.
+/// Lists the tips of the current branches of those of the runs that are not zombies.
 fn insert_tips(keys: &mut KeySet, runs: &[RunView]) -> Result<(), OutOfMemory>
     ensures { OnOk result (keys.new ≡ with_tips runs.now keys.old) }
 {
@@ -84,7 +84,7 @@ fn insert_parents(keys: &mut KeySet, batches: &[Batch]) -> Result<(), OutOfMemor
     Ok(())
 }
 
-/// The keys of the batches on current branches of runs that are no zombies.
+/// The keys of the batches on current branches of runs that are not zombies.
 pub fn standing(alloc: Global, view: &View) -> Result<KeySet, OutOfMemory>
     ensures { IfOk result (λ keys. keys ≡ standing view.now) }
 {

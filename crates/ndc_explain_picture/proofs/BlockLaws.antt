@@ -18,7 +18,7 @@ ended-batches [] done = sym (append-nil (batches_in done))
 ended-batches (b ∷ block) done =
     flat_map-append (λ (x : List Batch). x) done ((b ∷ block) ∷ []) ∙ ap (λ (z : List Batch). batches_in done ++ z) (append-nil (b ∷ block))
 
--- a batch goes behind those so far
+-- a batch goes after those so far
 last-batches : (b : Batch) (now : Blocked) → so_far (with_last b now) ≡ so_far now ++ b ∷ []
 last-batches b now = sym (append_assoc (batches_in now.done) now.block (b ∷ []))
 
@@ -34,7 +34,7 @@ all-batches keys [] now = sym (append-nil (so_far now))
 all-batches keys (b ∷ batches) now =
     all-batches keys batches (with_batch keys b now) ∙ ap (λ (z : List Batch). z ++ batches) (step-batches keys b now) ∙ append_assoc (so_far now) (b ∷ []) batches
 
--- the blocks, one behind the other, are the batches
+-- the blocks, one after the other, are the batches
 pub blocks_are_batches : (batches : List Batch) → batches_in (blocks_of batches) ≡ batches
 blocks_are_batches batches =
     let now = with_batches (forks batches) batches no_block in

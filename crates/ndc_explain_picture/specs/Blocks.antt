@@ -23,7 +23,7 @@ abbrev pub is_behind : Option BatchKey → Option BatchKey → Bool
 is_behind parent None = false
 is_behind parent (Some before) = is_parent parent before
 
--- the parents of batches that do not come directly behind them
+-- the parents of batches that do not come directly after them
 abbrev pub with_fork : Option BatchKey → Option BatchKey → List BatchKey → List BatchKey
 with_fork parent before keys = if is_behind parent before then keys else with_optional parent keys
 
@@ -127,7 +127,7 @@ summary_of (b ∷ block) = Some (record {
   carrier = b.carrier;
 })
 
--- the batches of blocks, one block behind the other
+-- the batches of blocks, one block after the other
 abbrev pub batches_in : List (List Batch) → List Batch
 batches_in blocks = flat_map (λ block. block) blocks
 

@@ -48,7 +48,7 @@ abbrev pub next_of : Option BatchKey → List (Option BatchKey) → Option Batch
 next_of None columns = None
 next_of (Some parent) columns = if is_some (column_of parent columns) then None else Some parent
 
--- the columns behind a block
+-- the columns after a block
 abbrev pub columns_behind : Summary → List (Option BatchKey) → List (Option BatchKey)
 columns_behind summary columns = put (column_of summary.last columns) (next_of summary.parent columns) columns
 
@@ -62,7 +62,7 @@ abbrev pub joint_text : BatchKey → BatchKey → Bool → Option BatchKey → L
 joint_text key parent inside None = if inside then codes "-" else codes " "
 joint_text key parent inside (Some waited) = if key_eq key waited then codes "'" else if key_eq parent waited then codes "+" else codes "|"
 
--- whether the line that joins two columns goes on behind a column
+-- whether the line that joins two columns goes on after a column
 abbrev pub is_inside : BatchKey → BatchKey → Bool → Option BatchKey → Bool
 is_inside key parent inside column = if is_column key column || is_column parent column then not inside else inside
 

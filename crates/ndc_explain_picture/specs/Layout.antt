@@ -30,7 +30,7 @@ pub record Layouted : Type 0 where
 abbrev pub plus : ℕ → ℕ → ℕ
 plus one two = min (one + two) (2 ^ 64 - 1)
 
--- how many lines a block has below its key and its run, for so many events: one each, and behind six of them one more
+-- how many lines a block has below its key and its run, for so many events: one each, and after six of them one more
 abbrev pub lines_for : ℕ → ℕ
 lines_for events = if nat_lt 6 events then 7 else events
 

@@ -21,7 +21,7 @@ pub record Placed : Type 0 where
 abbrev pub nothing_placed : Placed
 nothing_placed = record { keys = []; signals = [] }
 
--- a signal that is no copy is at home in this place
+-- a signal that is not a copy is at home in this place
 abbrev pub with_own : Place → Origin → Option Origin → Placed → Placed
 with_own place origin None places = record { keys = places.keys; signals = insert_entry same_origin places.signals origin place }
 with_own place origin (Some from) places = places

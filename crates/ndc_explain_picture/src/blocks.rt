@@ -46,7 +46,7 @@ fn insert_fork(
     }
 }
 
-/// The parents of batches that do not come directly behind them.
+/// The parents of batches that do not come directly after them.
 fn forks(alloc: Global, batches: &[Batch]) -> Result<KeySet, OutOfMemory>
     ensures { IfOk result (λ keys. keys ≡ forks batches.now) }
 {

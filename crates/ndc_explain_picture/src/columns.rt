@@ -96,7 +96,7 @@ fn next_of(parent: Option<BatchKey>, columns: &[Option<BatchKey>]) -> Option<Bat
     }
 }
 
-/// Goes on behind a block.
+/// Goes on after a block.
 pub(crate) fn go_behind(
     columns: &mut Vec<Option<BatchKey>>,
     summary: Summary,

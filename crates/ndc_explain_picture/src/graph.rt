@@ -71,7 +71,7 @@ fn joint_word(
     }
 }
 
-/// Whether the line that joins two columns goes on behind a column.
+/// Whether the line that joins two columns goes on after a column.
 fn is_inside(key: BatchKey, parent: BatchKey, inside: bool, column: Option<BatchKey>) -> bool
     ensures { result ≡ is_inside key parent inside column }
 {
@@ -89,7 +89,7 @@ fn between_word(inside: bool) -> &'static str
     if inside { "-" } else { " " }
 }
 
-/// Appends a column of the line that joins two of them, and what stands behind it.
+/// Appends a column of the line that joins two of them, and what stands after it.
 fn push_joint(
     text: &mut Vec<u8>,
     key: BatchKey,

@@ -177,7 +177,7 @@ impl Layout {
         self.go_to(number, version, lane)
     }
 
-    /// Where a block goes that comes behind this batch.
+    /// Where a block goes that comes after this batch.
     fn top_for(&self, earlier: Option<BatchKey>) -> u64
         ensures { result ≡ top_for earlier self.now }
     {
@@ -185,7 +185,7 @@ impl Layout {
         plus(self.bottom.max(above), 28)
     }
 
-    /// The place of a block of this height that comes behind this batch.
+    /// The place of a block of this height that comes after this batch.
     fn place_for(&self, earlier: Option<BatchKey>, height: u64) -> Place
         ensures { result ≡ place_for earlier height self.now }
     {

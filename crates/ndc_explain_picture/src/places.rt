@@ -74,7 +74,7 @@ impl Places {
         self.signals.get(&origin)
     }
 
-    /// A signal that is no copy is at home in this place.
+    /// A signal that is not a copy is at home in this place.
     fn add_own(
         &mut self,
         place: Place,

@@ -76,7 +76,7 @@ module _ (holds : BatchKey → Bool) where
   all-alone least end b (event ∷ events) h =
       first-alone (traced end b event) (alone_in least end b events) (not (is_signal (sort_of event.kind)) && is_alone least end b event) h (all-alone least end b events h)
 
-  -- of a list with those of a batch in front, where the batch gives some
+  -- of a list that begins with those of a batch, where the batch gives some
   batch-lost : (lost rest : List Lost) → list_all (λ x. holds x.key) lost ≡ true → list_all (λ x. holds x.key) rest ≡ true → list_all (λ x. holds x.key) (lost ++ rest) ≡ true
   batch-lost lost rest one more = list_all-append (λ x. holds x.key) lost rest ∙ ap (λ (t : Bool). t && list_all (λ x. holds x.key) rest) one ∙ more
 

@@ -23,7 +23,7 @@ fn reaches(reach: BatchKey, known: Option<&Trace>) -> bool
     }
 }
 
-/// A standing event, where it is matched up to a batch behind this one.
+/// A standing event, where it is matched up to a batch after this one.
 fn facing<'v>(since: BatchKey, known: Option<&Trace<'v>>) -> Option<Trace<'v>>
     ensures { result ≡ facing since (option_copied known.entry) }
 {

@@ -11,7 +11,7 @@ use std::marker::Model;
 /// Where a batch parts from what stands.
 #[derive(Clone, Copy, Debug, Drop)]
 pub(crate) struct Parting {
-    /// The run whose current branch it shares a front with; none where it shares no batch with any.
+    /// The run whose current branch it shares a prefix with; none where it shares no batch with any.
     pub(crate) scope: Option<RunId>,
     /// The last batch that it shares, or else the first batch of its run.
     pub(crate) since: BatchKey,
@@ -166,7 +166,8 @@ impl Ends {
 
     /// The batch is the last one of its run.
     fn add(&mut self, batch: &Batch) -> Result<(), OutOfMemory>
-        ensures { OnOk result (self.new ≡ insert_entry same_run self.old batch.now.run batch.now.key) }
+        ensures { OnOk result (self.new
+            ≡ insert_entry same_run self.old batch.now.run batch.now.key) }
     {
         self.known.insert(batch.run, batch.key)?;
         Ok(())

@@ -22,7 +22,8 @@ fn lost_with<'v>(
     event: &'v Event,
     twin: Option<Trace<'v>>,
 ) -> Result<Loss<'v>, OutOfMemory>
-    ensures { IfOk result (λ loss. loss ≡ lost_with latest.now parting batch.now event.now twin.entry) }
+    ensures { IfOk result (λ loss.
+        loss ≡ lost_with latest.now parting batch.now event.now twin.entry) }
 {
     match twin {
         None => {
@@ -54,7 +55,8 @@ fn push_lost<'v>(
     batch: &Batch,
     event: &'v Event,
 ) -> Result<(), OutOfMemory>
-    ensures { OnOk result (lost.new.items ≡ lost.old.items ++ lost_at latest.now parting batch.now event.now) }
+    ensures { OnOk result (lost.new.items
+        ≡ lost.old.items ++ lost_at latest.now parting batch.now event.now) }
 {
     if sort_of(&event.kind).is_signal() {
         return Ok(());
@@ -73,7 +75,8 @@ fn push_lost_events<'v>(
     batch: &Batch,
     events: &'v [Event],
 ) -> Result<(), OutOfMemory>
-    ensures { OnOk result (lost.new.items ≡ lost.old.items ++ lost_in latest.now parting batch.now events.now) }
+    ensures { OnOk result (lost.new.items
+        ≡ lost.old.items ++ lost_in latest.now parting batch.now events.now) }
 {
     for event in events {
         push_lost(alloc, lost, latest, parting, batch, event)?;
@@ -89,7 +92,8 @@ fn lost_of<'v>(
     latest: &Latest<'v>,
     batches: &'v [Batch],
 ) -> Result<Vec<Loss<'v>>, OutOfMemory>
-    ensures { IfOk result (λ lost. lost.items ≡ lost_of keys.now partings.now latest.now batches.now) }
+    ensures { IfOk result (λ lost.
+        lost.items ≡ lost_of keys.now partings.now latest.now batches.now) }
 {
     let mut lost = Vec::new(alloc);
     for batch in batches {
@@ -165,7 +169,8 @@ fn push_alone<'v>(
     batch: &Batch,
     event: &'v Event,
 ) -> Result<(), OutOfMemory>
-    ensures { OnOk result (alone.new.items ≡ alone.old.items ++ alone_at least.now end batch.now event.now) }
+    ensures { OnOk result (alone.new.items
+        ≡ alone.old.items ++ alone_at least.now end batch.now event.now) }
 {
     if sort_of(&event.kind).is_signal() {
         return Ok(());
@@ -185,7 +190,8 @@ fn push_alone_events<'v>(
     batch: &Batch,
     events: &'v [Event],
 ) -> Result<(), OutOfMemory>
-    ensures { OnOk result (alone.new.items ≡ alone.old.items ++ alone_in least.now end batch.now events.now) }
+    ensures { OnOk result (alone.new.items
+        ≡ alone.old.items ++ alone_in least.now end batch.now events.now) }
 {
     for event in events {
         push_alone(alloc, alone, least, end, batch, event)?;
@@ -202,7 +208,8 @@ fn push_alone_with<'v>(
     least: &Least,
     batch: &'v Batch,
 ) -> Result<(), OutOfMemory>
-    ensures { OnOk result (alone.new.items ≡ alone.old.items ++ alone_with keys.now ends.now least.now batch.now) }
+    ensures { OnOk result (alone.new.items
+        ≡ alone.old.items ++ alone_with keys.now ends.now least.now batch.now) }
 {
     if !keys.contains(batch.key) {
         return Ok(());
@@ -225,7 +232,8 @@ fn alone_of<'v>(
     least: &Least,
     batches: &'v [Batch],
 ) -> Result<Vec<Trace<'v>>, OutOfMemory>
-    ensures { IfOk result (λ alone. alone.items ≡ alone_of keys.now ends.now least.now batches.now) }
+    ensures { IfOk result (λ alone.
+        alone.items ≡ alone_of keys.now ends.now least.now batches.now) }
 {
     let mut alone = Vec::new(alloc);
     for batch in batches {
@@ -242,7 +250,9 @@ fn all_lost<'v>(
     ends: &Ends,
     batches: &'v [Batch],
 ) -> Result<Vec<Loss<'v>>, OutOfMemory>
-    ensures { IfOk result (λ lost. lost.items ≡ lost_of keys.now partings.now (with_standing keys.now ends.now batches.now []) batches.now) }
+    ensures { IfOk result (λ lost.
+        lost.items ≡ lost_of keys.now partings.now
+        (with_standing keys.now ends.now batches.now []) batches.now) }
 {
     let latest = latest_of(alloc, keys, ends, batches)?;
     lost_of(alloc, keys, partings, &latest, batches)
@@ -256,7 +266,9 @@ fn all_alone<'v>(
     ends: &Ends,
     batches: &'v [Batch],
 ) -> Result<Vec<Trace<'v>>, OutOfMemory>
-    ensures { IfOk result (λ alone. alone.items ≡ alone_of keys.now ends.now (with_lost keys.now partings.now batches.now []) batches.now) }
+    ensures { IfOk result (λ alone.
+        alone.items ≡ alone_of keys.now ends.now
+        (with_lost keys.now partings.now batches.now []) batches.now) }
 {
     let least = least_of(alloc, keys, partings, batches)?;
     alone_of(alloc, keys, ends, &least, batches)
@@ -283,8 +295,9 @@ impl<'v> Model for Sides<'v> {
 
 /// The two sides of batches in the order of their keys, where those whose keys are listed stand on current branches.
 ///
-/// An event that does not stand is matched with those that stand behind the last batch that both share, in its run. Where
-/// they share none, as in a zombie, it is matched with those of all runs that end behind the first batch of its run.
+/// An event that does not stand is matched with those that stand after the last batch that both share, in its run.
+/// Where they share none, as in a zombie, it is matched with those of all runs that end after the first batch of its
+/// run.
 ///
 /// It takes time of the batches.
 pub fn sides_of<'v>(

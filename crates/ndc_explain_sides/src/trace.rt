@@ -20,7 +20,12 @@ impl<'v> Model for Trace<'v> {
 
     ghost Value = { Traced };
 
-    ghost view = { λ trace. record { run = trace.run; key = trace.key; event = trace.event.now; reach = trace.reach } };
+    ghost view = { λ trace. record {
+      run = trace.run;
+      key = trace.key;
+      event = trace.event.now;
+      reach = trace.reach;
+    } };
 }
 
 impl<'v> Trace<'v> {
@@ -59,5 +64,11 @@ impl<'v> Model for Loss<'v> {
 
     ghost Value = { Lost };
 
-    ghost view = { λ loss. record { run = loss.run; key = loss.key; event = loss.event.now; is_both = loss.is_both; beside = loss.beside } };
+    ghost view = { λ loss. record {
+      run = loss.run;
+      key = loss.key;
+      event = loss.event.now;
+      is_both = loss.is_both;
+      beside = loss.beside;
+    } };
 }

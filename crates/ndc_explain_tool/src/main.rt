@@ -7,7 +7,7 @@ use ndc_port::{StdSink, StdSource};
 use std::process::ExitCode;
 use std::{env, io};
 
-/// The words behind the program's name.
+/// The words after the program's name.
 fn words_of(rt: &HostRuntime) -> io::Result<Vec<String>> {
     let mut words = Vec::new(rt.alloc());
     for word in env::args(rt)?.skip(1) {
@@ -22,7 +22,7 @@ fn run(rt: &HostRuntime) -> io::Result<u8> {
     let words = match words_of(rt) {
         Ok(words) => words,
         Err(error) if error.kind() == io::ErrorKind::OutOfMemory => return Err(error),
-        // Words that are no UTF-8 are refused like wrong ones.
+        // Words that are not UTF-8 are refused like wrong ones.
         Err(_) => {
             let mut words = Vec::new(alloc);
             words.push(String::from_str(alloc, "?")?)?;

@@ -5,11 +5,11 @@ use Rattle.ndc_port.specs.Bytes.{Appends, AppendsFront, Sent}
 use Rattle.ndc_port.proofs.Steps.{Sent_part, Sent_piece, Sent_start}
 
 module _ (before : Option (List ℕ)) (one two : List ℕ) where
-  -- a front of the first one
+  -- a prefix of the first one
   pub front-of : (after : Option (List ℕ)) → AppendsFront before after one → AppendsFront before after (one ++ two)
   front-of after front = Sent_part before before after (one ++ two) one two (Sent_start before (one ++ two)) front
 
-  -- the first one, and a front of the second
+  -- the first one, and a prefix of the second
   pub front-behind : (now after : Option (List ℕ)) → Appends before now one → AppendsFront now after two → AppendsFront before after (one ++ two)
   front-behind now after whole front =
       Sent_part before now after (one ++ two) two []

@@ -38,7 +38,7 @@ member_in _ = Err Refused
 unfoldable pub member_of : List ℕ → Result (Name × ℕ) WordsError
 member_of word = member_in (slice_split (λ byte. byte == 61) word)
 
--- members behind those in front
+-- members after others
 abbrev pub behind : List (Name × ℕ) → Result (List (Name × ℕ)) WordsError → Result (List (Name × ℕ)) WordsError
 behind front (Ok members) = Ok (front ++ members)
 behind front (Err error) = Err error

@@ -109,7 +109,7 @@ report_many request inputs = do
 
 -- ---- an input
 
--- what is told of an input, or why it is none that can be told
+-- what is told of an input, or why it cannot be told
 abbrev pub report_by : Request → Inputs → List ℕ → Result Reported Fault
 report_by request inputs bytes = if is_alone inputs then report_alone request (dump_in request.bare bytes) else report_many request inputs
 

@@ -54,7 +54,7 @@ missing_line name = codes "cluster " ++ (name ++ codes ": no dump\n")
 unfoldable pub missing_told : List Taking → Name → List ℕ
 missing_told dumps name = if has_dump dumps name then [] else missing_line name
 
--- an event, behind others
+-- an event, after others
 unfoldable pub event_behind : Event → List ℕ
 event_behind event = codes "; " ++ event_named event
 

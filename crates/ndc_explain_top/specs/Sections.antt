@@ -31,7 +31,7 @@ abbrev pub cluster_line : Option Name → List ℕ
 cluster_line None = []
 cluster_line (Some name) = codes "cluster " ++ (name ++ codes "\n")
 
--- a dump with its view, behind its cluster
+-- a dump with its view, after its cluster
 unfoldable pub taking_shown : Taking → List ℕ
 taking_shown taking = cluster_line taking.spot.cluster ++ dump_text taking.dump.domain taking.dump.workflow taking.dump.view
 
@@ -45,11 +45,11 @@ sound_text form.Picture clusters all it dump found = picture_of clusters dump
 sound_text form.TreePicture clusters all it dump found = tree_picture_of clusters dump
 sound_text form.View clusters all it dump found = takings_shown it.dumps
 
--- a line that is no batch's
+-- a line that is not a batch's
 unfoldable pub faulty_line : ℕ → List ℕ
 faulty_line line = concat (codes "unsound: line " ∷ decimal line ∷ codes "\n" ∷ [])
 
--- the line that says why dumps make no sound set together: a key has two contents, or the cause why what all have is no dump
+-- the line that says why dumps make no sound set together: a key has two contents, or the cause why what all have is not a dump
 abbrev pub cause_line : Option DumpError → List ℕ
 cause_line None = codes "unsound: a key has two contents\n"
 cause_line (Some (dump.Line line cause)) = faulty_line line

@@ -57,7 +57,7 @@ status_line status =
 abbrev pub told_status : Bool → ℕ
 told_status leaves = if leaves then 1 else 0
 
--- the line on why the input cannot be told was written, or a front of it and a fault came
+-- the line on why the input cannot be told was written, or a prefix of it and a fault came
 abbrev pub TellsRefusal : Option (List ℕ) → Option (List ℕ) → ℕ → ℕ → Fault → Type 0
 TellsRefusal before after faults_before faults_after fault = (status_of fault ≡ 7) × Tells before after faults_before faults_after (fault_line fault)
 
@@ -67,12 +67,12 @@ Explains request leaves left rest before after =
     IfSome left (λ bytes. (length bytes ≤ limit_of request) × (rest ≡ Some [])
     × IsOkAnd (report_of request bytes) (λ report. Appends before after report.text × (leaves ≡ report.leaves)))
 
--- the input could be told, and a front of what is told of it was written
+-- the input could be told, and a prefix of what is told of it was written
 abbrev pub StopsExplaining : Request → Option (List ℕ) → Option (List ℕ) → Option (List ℕ) → Type 0
 StopsExplaining request left before after =
     IfSome left (λ bytes. (length bytes ≤ limit_of request) × IsOkAnd (report_of request bytes) (λ report. AppendsFront before after report.text))
 
--- nothing was written, or the input could be told and a front of what is told of it was written
+-- nothing was written, or the input could be told and a prefix of what is told of it was written
 abbrev pub ExplainsFront : Request → Option (List ℕ) → Option (List ℕ) → Option (List ℕ) → Type 0
 ExplainsFront request left before after = (after ≡ before) ⊎ StopsExplaining request left before after
 
@@ -90,7 +90,7 @@ ReadingFails request left before after fault.Write = ⊥
 ReadingFails request left before after fault.Limit = IfSome left (λ bytes. limit_of request < length bytes)
 ReadingFails request left before after fault.Memory = ⊤
 
--- what is left in the source after a fault: what is behind the limit and one byte more, where there was too much; what is behind a front within the
+-- what is left in the source after a fault: what is after the limit and one byte more, where there was too much; what is after a prefix within the
 -- limit, where reading failed or memory ran out; and else nothing
 abbrev pub LeavesAfter : Request → Fault → Option (List ℕ) → Option (List ℕ) → Type 0
 LeavesAfter request fault.Read before after = ConsumesAtMost (limit_of request) before after

@@ -16,8 +16,8 @@ use std::alloc::{AllocError, AllocFailed};
 pub(crate) enum Fault {
     /// The program does not take these words.
     Words,
-    /// The input is no dump, or a dump of many is none: where it stands among these; its first faulty line, from 1, and its
-    /// cause.
+    /// The input is not a dump, or one of many dumps is not one: where it stands among these; its first faulty line,
+    /// from 1, and its cause.
     DumpLine {
         spot: Option<Spot>,
         line: u64,
@@ -141,7 +141,7 @@ impl Fault {
         }
     }
 
-    /// Writes the line that tells of the fault, without memory. Where writing fails, a front of the line is
+    /// Writes the line that tells of the fault, without memory. Where writing fails, a prefix of the line is
     /// written, and the sink's count of faults has risen.
     pub(crate) fn tell<E: Sink>(&self, err: &mut E) -> Result<(), Failed>
         ensures whole { OnOk result (Appends (E.written err.old) (E.written err.new) (fault_line self.now)) }

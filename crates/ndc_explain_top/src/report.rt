@@ -90,7 +90,7 @@ fn report_alone(alloc: Global, request: &Request, bytes: &[u8]) -> Result<Report
     })
 }
 
-/// The dumps, or the fault of the first that is none.
+/// The dumps, or the fault of the first that is not one.
 fn dumps_of(alloc: Global, bare: bool, parts: &[Part]) -> Result<Vec<Taken>, Fault>
     ensures { Gives Memory (λ dumps. dumps.items) result (dumps_or (taken_of bare parts.now)) }
 {
@@ -191,7 +191,7 @@ fn has_summary(form: Form) -> bool
     }
 }
 
-/// Appends a workflow, behind an empty line where there is a summary.
+/// Appends a workflow, after an empty line where there is a summary.
 #[tactic(auto, unfolding(crate::specs::Report::section_told))]
 fn push_section(text: &mut Vec<u8>, summed: bool, section: &Section) -> Result<(), OutOfMemory>
     ensures { OnOk result (text.new.items ≡ text.old.items ++ section_told summed section.now) }

@@ -134,7 +134,7 @@ fn push_missing_told(text: &mut Vec<u8>, dumps: &[Taken], name: &Name) -> Result
     push_missing(text, name)
 }
 
-/// Appends an event behind others.
+/// Appends an event after others.
 #[tactic(auto, unfolding(crate::specs::Rows::event_behind))]
 fn push_event_behind(text: &mut Vec<u8>, event: &Event) -> Result<(), OutOfMemory>
     ensures { OnOk result (text.new.items ≡ text.old.items ++ event_behind event.now) }
@@ -143,7 +143,7 @@ fn push_event_behind(text: &mut Vec<u8>, event: &Event) -> Result<(), OutOfMemor
     push_event(text, event)
 }
 
-/// Appends events behind others.
+/// Appends events after others.
 fn push_events(text: &mut Vec<u8>, events: &[Event]) -> Result<(), OutOfMemory>
     ensures { OnOk result (text.new.items ≡ text.old.items ++ flat_map event_behind events.now) }
 {

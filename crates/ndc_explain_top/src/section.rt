@@ -114,7 +114,7 @@ fn push_cluster(text: &mut Vec<u8>, cluster: &Option<Name>) -> Result<(), OutOfM
     }
 }
 
-/// Appends a dump with its view, behind its cluster.
+/// Appends a dump with its view, after its cluster.
 #[tactic(auto, unfolding(crate::specs::Sections::taking_shown))]
 fn push_shown(alloc: Global, text: &mut Vec<u8>, taken: &Taken) -> Result<(), OutOfMemory>
     ensures { OnOk result (text.new.items ≡ text.old.items ++ taking_shown taken.now) }
@@ -183,7 +183,7 @@ fn push_unfit(text: &mut Vec<u8>, key: BatchKey, cause: KeyCause) -> Result<(), 
     text.extend_from_slice(b"\n")
 }
 
-/// Appends the line of a line that is no batch's.
+/// Appends the line of a line that is not a batch's.
 #[tactic(auto, unfolding(crate::specs::Sections::faulty_line))]
 fn push_faulty(text: &mut Vec<u8>, line: u64) -> Result<(), OutOfMemory>
     ensures { OnOk result (text.new.items ≡ text.old.items ++ faulty_line line) }

@@ -107,20 +107,21 @@ fn explain_input<S: Source, K: Sink, E: Sink>(
 /// Runs the program on its words, which do not hold its name, and answers the status that it ends with: it reads one dump
 /// alone, or many, and tells them: by an explanation, or, where the first word is `--picture` or `--picture=text`, by a
 /// picture, which is an SVG document or in characters, or, where it is `view`, by the dumps themselves with their views.
-/// Behind that may stand, in this order, `--all`, by which the events of decisions are told too; `--bare`, by which dumps
-/// are read without their views; `--limit BYTES`, which says how many bytes the input may have in place of 16,777,216; and
-/// `--clusters NAME=INITIAL,.. --increment INCREMENT`, by which the clusters that wrote with the versions are named.
+/// After that may stand, in this order, `--all`, by which the events of decisions are told too; `--bare`, by which
+/// dumps are read without their views; `--limit BYTES`, which says how many bytes the input may have in place of
+/// 16,777,216; and `--clusters NAME=INITIAL,.. --increment INCREMENT`, by which the clusters that wrote with the
+/// versions are named.
 ///
 /// Many dumps stand one after the other, with a line `cluster NAME` before those of one cluster. They are told by
-/// workflow, behind a summary: what each dump has and lacks, and the explanation of all their batches together, or why
-/// these are no sound set. A document is drawn of one workflow alone.
+/// workflow, after a summary: what each dump has and lacks, and the explanation of all their batches together, or why
+/// these are not a sound set. A document is drawn of one workflow alone.
 ///
 /// 0 where the input was read to its end, all was written, and nothing is left: nothing to be driven again, no signal that
 /// waits, no dumps without a sound set; 1 where something is; 2 only where the words are refused; 4 only where reading
 /// failed; 5 only where writing failed; 6 only where the input has more bytes than it may have; 7 only where a dump is none,
 /// or a document cannot be drawn; 8 where memory ran out, which may be at any time. The order of the faults is 2, 4, 6, 7, 5.
 /// After a fault a line on `err` tells of it. Refused words read and write nothing. Whatever the status, `out` has what it
-/// had, followed by a front of what is told; by nothing where the input cannot be told.
+/// had, followed by a prefix of what is told; by nothing where the input cannot be told.
 pub fn explain_top<S: Source, K: Sink, E: Sink>(
     alloc: Global,
     words: &[String],
@@ -155,7 +156,8 @@ pub fn explain_top<S: Source, K: Sink, E: Sink>(
     ensures untold { IfOk (asked_of (map string_bytes words.now)) (λ request. IfSome (S.left source.old) (λ bytes. length bytes ≤ limit_of request → IsErr (report_of request bytes) → IsAmong result (4 ∷ 7 ∷ 8 ∷ []))) }
     ensures tellable { IfOk (asked_of (map string_bytes words.now)) (λ request. IfSome (S.left source.old) (λ bytes. length bytes ≤ limit_of request → IsOk (report_of request bytes) → IsAmong result (0 ∷ 1 ∷ 4 ∷ 5 ∷ 8 ∷ []))) }
 
-    // What is written: nothing before the output begins or where the input is no dump, and never more than a front of it.
+    // What is written: nothing before the output begins or where the input is not a dump, and never more than a prefix
+    // of it.
     ensures early { IsAmong result (2 ∷ 4 ∷ 6 ∷ 7 ∷ []) → K.written out.new ≡ K.written out.old }
     ensures front { IfOk (asked_of (map string_bytes words.now)) (λ request. IsAmong result (4 ∷ 5 ∷ 6 ∷ 7 ∷ 8 ∷ []) → ExplainsFront request (S.left source.old) (K.written out.old) (K.written out.new)) }
 {

@@ -19,7 +19,7 @@ put-twice {K = K} {V = V} eq k v w own (e ∷ es) = by (eq k e.0) refl (put-twic
 own-workflow : (workflow : WorkflowName) → same_workflow workflow workflow ≡ true
 own-workflow workflow = rw ((bytes_eq-Decides workflow.domain workflow.domain).1 refl, (bytes_eq-Decides workflow.workflow workflow.workflow).1 refl) refl
 
--- a dump goes behind those of its workflow, which were taken out
+-- a dump goes after those of its workflow, which were taken out
 pub taken-in : (taking : Taking) (workflow again : WorkflowName) (dumps : List Taking) (old now new : Grouped) → workflow ≡ workflow_of taking → again ≡ workflow_of taking
     → dumps ≡ dumps_of workflow old → now ≡ insert_entry same_workflow old workflow [] → new ≡ insert_entry same_workflow now again (dumps ++ taking ∷ []) → new ≡ with_taking taking old
 taken-in taking workflow again dumps old now new e f d n m =

@@ -1,4 +1,4 @@
--- The parts of an input that holds dumps: each begins with a line `dump ..`, and a line `cluster NAME` says whose the dumps behind it are.
+-- The parts of an input that holds dumps: each begins with a line `dump ..`, and a line `cluster NAME` says which cluster the dumps after it belong to.
 use Rattle.std.specs.Prelude.{ℕ, ◌==◌, nat_lt, Bool, ◌&&◌, is_some, not, List, [], ◌∷◌, ◌++◌, codes, take, drop, length, Option, Some, None, if◌then◌else◌}
 use Rattle.std.specs.List.{list_any, slice_split}
 use Rattle.std.specs.Str.{bytes_eq}
@@ -7,11 +7,11 @@ use Rattle.ndc_event.specs.declared.name.Name.{Name}
 use Rattle.ndc_explain_union.specs.declared.parts.Marker.{Marker}
 use Rattle.ndc_explain_union.specs.declared.parts.Marker.TheVariants as marker
 
--- what stands behind a word with which a line begins
+-- what stands after a word with which a line begins
 abbrev pub behind_word : List ℕ → List ℕ → Option (List ℕ)
 behind_word word line = if bytes_eq (take (length word) line) word then Some (drop (length word) line) else None
 
--- the cluster that is named, or no marker where it is no name
+-- the cluster that is named, or no marker where it is not a name
 abbrev pub named_marker : List ℕ → Marker
 named_marker name = if is_name name then marker.Cluster name else marker.Other
 
@@ -60,11 +60,11 @@ with_line text line = with_end text ++ line
 abbrev pub closed : Cut → Cut
 closed it = record { clusters = it.clusters; done = with_part it.cluster (with_end it.text) it.done; cluster = it.cluster; text = [] }
 
--- a line goes behind the part that goes on
+-- a line goes after the part that goes on
 abbrev pub with_text : List ℕ → Cut → Cut
 with_text line it = record { clusters = it.clusters; done = it.done; cluster = it.cluster; text = with_line it.text line }
 
--- the parts behind are this cluster's
+-- the parts after it are this cluster's
 abbrev pub with_cluster : Name → Cut → Cut
 with_cluster name it = record { clusters = with_name name it.clusters; done = it.done; cluster = Some name; text = it.text }
 

@@ -12,7 +12,7 @@ use Rattle.ndc_explain_union.specs.declared.taken.InputError.{InputError}
 use Rattle.ndc_explain_union.specs.declared.taken.InputError.TheVariants as input
 use Rattle.ndc_explain_union.specs.declared.taken.Spot.{Spot}
 
--- the dump that bytes are, with its view or bare, or the first cause why they are none
+-- the dump that bytes are, with its view or bare, or the first cause why they are not one
 abbrev pub dump_in : Bool → List ℕ → Result Dump DumpError
 dump_in bare bytes = if bare then bare_dump_of bytes else dump_of bytes
 
@@ -36,7 +36,7 @@ spot_of number cluster = record { number = number; cluster = cluster }
 unfoldable pub taken_in : Bool → ℕ → Parted → Result Taking InputError
 taken_in bare number part = at_spot (spot_of number part.cluster) (dump_in bare part.text)
 
--- dumps behind others
+-- dumps after others
 abbrev pub behind : List Taking → Result (List Taking) InputError → Result (List Taking) InputError
 behind front (Ok takings) = Ok (front ++ takings)
 behind front (Err error) = Err error

@@ -49,7 +49,7 @@ abbrev pub are_same : List Batch → List Batch → Bool
 are_same batches union = list_all (λ b. is_no_other (batch_at b.key batches) b) union
 
 -- the dump of these batches, which dumps of a workflow have together: that of the only dump, or what is read of the batches, or the cause why they
--- are no sound set
+-- are not a sound set
 abbrev pub dump_of_union : WorkflowName → List Taking → List Batch → Result Dump DumpError
 dump_of_union workflow (taking ∷ []) union = Ok taking.dump
 dump_of_union workflow takings union = bare_dump_of (bare_text workflow.domain workflow.workflow union)

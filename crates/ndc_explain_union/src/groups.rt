@@ -95,7 +95,7 @@ impl Groups {
         Ok(dumps_or_none(alloc, before))
     }
 
-    /// Puts a dump behind those of its workflow.
+    /// Puts a dump after those of its workflow.
     fn add(&mut self, alloc: Global, taken: Taken) -> Result<(), OutOfMemory>
         ensures { OnOk result (self.new ≡ with_taking taken self.old) }
     {

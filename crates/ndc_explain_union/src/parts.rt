@@ -14,7 +14,7 @@ use std::mem;
 pub(crate) enum Marker {
     /// The first line of a dump.
     Dump,
-    /// It names the cluster whose the dumps behind it are.
+    /// It names the cluster that the dumps after it belong to.
     Cluster(Name),
     /// One more line of a dump.
     Other,
@@ -155,7 +155,7 @@ impl Cutting {
         push_part(&mut self.done, copied(&self.cluster)?, text)
     }
 
-    /// The line goes behind the part that goes on.
+    /// The line goes after the part that goes on.
     fn push_line(&mut self, line: &[u8]) -> Result<(), OutOfMemory>
         ensures { OnOk result (self.new ≡ with_text line.now self.old) }
     {
@@ -163,7 +163,7 @@ impl Cutting {
         self.text.extend_from_slice(line)
     }
 
-    /// The parts behind are this cluster's.
+    /// The parts after it are this cluster's.
     fn set_cluster(&mut self, name: Name) -> Result<(), OutOfMemory>
         ensures { OnOk result (self.new ≡ with_cluster name self.old) }
     {
@@ -199,7 +199,7 @@ impl Cutting {
         Ok(())
     }
 
-    /// The parts, behind the last line.
+    /// The parts, after the last line.
     fn end(self) -> Result<Input, OutOfMemory>
         ensures { IfOk result (λ input. input ≡ ended self) }
     {
@@ -255,7 +255,7 @@ fn lines_in<'a>(alloc: Global, bytes: &'a [u8]) -> Result<Vec<&'a [u8]>, OutOfMe
 }
 
 /// The parts of an input that holds dumps. A line that begins with `dump ` begins one; a line `cluster NAME` stands
-/// between dumps, and says whose those behind it are, up to the next such line.
+/// between dumps, and says which cluster those after it belong to, up to the next such line.
 #[tactic(auto, unfolding(crate::specs::Parts::parts_of))]
 pub fn parts_of(alloc: Global, bytes: &[u8]) -> Result<Input, OutOfMemory>
     ensures { IfOk result (λ input. input ≡ parts_of bytes.now) }

@@ -22,7 +22,7 @@ pub struct Spot {
     pub cluster: Option<Name>,
 }
 
-/// Why parts of an input are no dumps.
+/// Why parts of an input are not dumps.
 #[derive(Drop)]
 pub enum InputError {
     /// The first faulty line of a dump, from 1, and its cause.

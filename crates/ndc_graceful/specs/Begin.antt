@@ -16,7 +16,7 @@ use Rattle.ndc_graceful.specs.declared.handover.Handover.{Handover}
 abbrev pub handover_of : Name → ClusterNo → ClusterNo → ℕ → ℕ → List ℕ → Handover
 handover_of domain from to old new places = record { domain = domain; from = from; to = to; old = old; new = new; places = places }
 
--- a refusal of `failover` as one of a handover: what is no cluster is no member either
+-- a refusal of `failover` as one of a handover: what is not a cluster is not a member either
 abbrev pub as_begin_error : FailoverError → BeginError
 as_begin_error failover.UnknownDomain = begin.UnknownDomain
 as_begin_error failover.UnknownTarget = begin.NotMember

@@ -80,7 +80,7 @@ impl Handover {
     /// [`BeginError::UnknownDomain`] where there is no record of the name, then [`BeginError::NotActive`] where the
     /// writer of the record's version is not `at`, [`BeginError::VersionLimit`] where the new version would be
     /// above 10^13, and [`BeginError::NotMember`] where the record does not name the target; a target that is not
-    /// below the count of the clusters is no member. [`BeginError::Memory`] where memory runs out. Where it is
+    /// below the count of the clusters is not a member. [`BeginError::Memory`] where memory runs out. Where it is
     /// refused, the table stays as it was.
     #[tactic(auto, unfolding(crate::specs::Begin::begin_of))]
     pub fn begin(

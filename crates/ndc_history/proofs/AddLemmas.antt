@@ -7,7 +7,7 @@ use Rattle.ndc_history.specs.History.{rise_from, rises, last_item}
 is_before : (one two : Item) → one.id < two.id → one.version < two.version → (nat_lt one.id two.id && nat_lt one.version two.version) ≡ true
 is_before one two i v = and_from (nat_lt one.id two.id) (nat_lt one.version two.version) (lt-ltb one.id two.id i) (lt-ltb one.version two.version v)
 
--- an item behind the last one
+-- an item after the last one
 rise_from-push : (first : Item) (items : List Item) (last item : Item) → rise_from first items ≡ true → slice_get (first ∷ items) (length items) ≡ Some last
     → last.id < item.id → last.version < item.version → rise_from first (items ++ item ∷ []) ≡ true
 rise_from-push first [] last item h at i v =

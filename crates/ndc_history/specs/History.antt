@@ -27,7 +27,7 @@ abbrev pub is_last : Item → Option Item → Bool
 is_last item None = false
 is_last item (Some last) = same_item last item
 
--- a history with an item behind this last one: an equal version has its id replaced, a greater one goes last
+-- a history with an item after this last one: an equal version has its id replaced, a greater one goes last
 abbrev pub added_behind : Option Item → List Item → Item → Result (List Item) AddError
 added_behind None items item = Ok (item ∷ [])
 added_behind (Some last) items item =

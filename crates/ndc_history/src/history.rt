@@ -71,7 +71,7 @@ impl VersionHistory {
         }
     }
 
-    /// Adds an item behind the last: where the version is the last one's, its id is replaced, else the item
+    /// Adds an item after the last: where the version is the last one's, its id is replaced, else the item
     /// goes last. Refused with [`AddError::NotAfter`] where the id is not above the last id or the version is
     /// below the last version. After an error the history is unchanged.
     pub fn add(&mut self, item: Item) -> Result<(), AddError>
@@ -127,7 +127,8 @@ impl VersionHistory {
 
 /// Adds an item to items that may be shared: a copy of its own then.
 fn add_to(shared: &mut Arc<Rising, Global>, item: Item) -> Result<(), AddError>
-    ensures answer { Gives Memory (λ _. arc_value shared.new) result (added (arc_value shared.old) item) }
+    ensures answer { Gives Memory (λ _. arc_value shared.new) result
+        (added (arc_value shared.old) item) }
     ensures err { OnErr result (arc_value shared.new ≡ arc_value shared.old) }
 {
     let items = Arc::make_mut(shared)?;

@@ -76,7 +76,7 @@ impl Rising {
         self.items.as_slice()
     }
 
-    /// Adds an item behind the last: where the version is the last one's, its id is replaced, else the item
+    /// Adds an item after the last: where the version is the last one's, its id is replaced, else the item
     /// goes last. Refused with [`AddError::NotAfter`] where the id is not above the last id or the version is
     /// below the last version. After an error the history is unchanged.
     pub(crate) fn add(&mut self, item: Item) -> Result<(), AddError>

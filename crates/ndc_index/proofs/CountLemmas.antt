@@ -10,11 +10,11 @@ use Rattle.ndc_index.specs.Told.{count_told, counts}
 use Rattle.ndc_index.specs.declared.indexer.Counted.{Counted}
 use Rattle.ndc_index.specs.declared.seen.Seen.{Seen}
 
--- counting goes on behind the first
+-- counting goes on after the first
 count-cons : (test : EventKind → Bool) (e : Event) (es : List Event) → count_kinds test (e ∷ es) ≡ (if test e.kind then 1 else 0) + count_kinds test es
 count-cons test e es = sum_by-cons (λ event. if test event.kind then 1 else 0) e es
 
--- counting goes on behind a list
+-- counting goes on after a list
 count-append : (test : EventKind → Bool) (es fs : List Event) → count_kinds test (es ++ fs) ≡ count_kinds test es + count_kinds test fs
 count-append test [] fs = omega arith
 count-append test (e ∷ es) fs =

@@ -17,7 +17,7 @@ none = ([], 0)
 abbrev pub AreBefore : Name → List (Name × ℕ) → ℕ → Type 0
 AreBefore name counts place = (k : ℕ) → k < place → names_cmp name (get_or counts k ([], 0)).0 ≡ Greater
 
--- behind names that come before it, and before one that comes later, a new name comes in
+-- after names that come before it, and before one that comes later, a new name comes in
 insert-at : (name : Name) (counts : List (Name × ℕ)) (place : ℕ) → AreBefore name counts place → place < length counts → names_cmp name (get_or counts place ([], 0)).0 ≡ Less
     → with_one_more counts name ≡ insert counts place (name, 1)
 insert-at name [] place before below is = absurd (omega (arith, below))
@@ -27,7 +27,7 @@ insert-at name (entry ∷ counts) (suc place) before below is =
     let rest = insert-at name counts place (λ k lt. before (suc k) (omega (arith, lt))) (omega (arith, below)) is in
     rw (first, rest) refl
 
--- behind all names that come before it, it comes last
+-- after all names that come before it, it comes last
 insert-last : (name : Name) (counts : List (Name × ℕ)) → AreBefore name counts (length counts) → with_one_more counts name ≡ insert counts (length counts) (name, 1)
 insert-last name [] before = refl
 insert-last name (entry ∷ counts) before =

@@ -22,7 +22,7 @@ dropped-stays name calls (told ∷ seen) = dropped-stays name calls seen
 abbrev told-text : Asked → Bool → ℕ → List Seen → List ℕ
 told-text asked failed calls list = if failed then codes "failed after " ++ decimal calls else index_text asked (events_told list)
 
--- a text behind a name
+-- a text after a name
 abbrev name-line : Name → List ℕ → List ℕ
 name-line name text = codes "index " ++ name ++ codes " " ++ text ++ codes "\n"
 

@@ -55,11 +55,11 @@ pub none_more : {X : Type 0} (title : X → List ℕ) (name : Name) (all : List 
 none_more title name all i x below before is other =
     below_more (λ k. bytes_eq (get_or (map title all) k []) name ≡ false) i before (ap (λ t. bytes_eq t name) (get_or-map title all i x [] below ∙ ap title (sym is)) ∙ other)
 
--- seats behind others
+-- seats after others
 abbrev pub seated_behind : List SeatValue → Option Seated → Option Seated
 seated_behind front seated = option_map (λ (s : Seated). seated_of (front ++ s.seats) s.rest) seated
 
--- one seat behind others, and then the rest
+-- one seat after others, and then the rest
 behind-more : (front : List SeatValue) (seat : SeatValue) (found : Option Seated) → seated_behind front (seat_before seat found) ≡ seated_behind (front ++ seat ∷ []) found
 behind-more front seat None = refl
 behind-more front seat (Some s) = ap (λ seats. Some (seated_of seats s.rest)) (sym (append_assoc front (seat ∷ []) s.seats))

@@ -27,7 +27,7 @@ shown title failing list = record { title = title; failing = failing; list = lis
 abbrev pub seat_of : Name → ℕ → Option IndexerValue → SeatValue
 seat_of name calls living = record { name = name; calls = calls; living = living }
 
--- a seat behind a call of its indexer: it loses one that fails
+-- a seat after a call of its indexer: it loses one that fails
 abbrev pub told_living : Seen → SeatValue → IndexerValue → SeatValue
 told_living seen seat one =
     if fails_next one.failing one.list then record seat { living = None }
@@ -119,7 +119,7 @@ abbrev pub with_late : List SeatValue → Option Seated → Option Chosen
 with_late asked None = None
 with_late asked (Some second) = Some (chosen_of asked second.seats)
 
--- what is seated of the late ones, behind the others
+-- what is seated of the late ones, after the others
 abbrev pub then_late : List Name → Option Seated → Option Chosen
 then_late late None = None
 then_late late (Some first) = with_late first.seats (seated late first.rest)

@@ -10,7 +10,7 @@ use Rattle.ndc_index.specs.declared.indexer.Counted.TheVariants.{Closes, Copies,
 use Rattle.ndc_index.specs.declared.seen.Seen.{Seen}
 use Rattle.ndc_state.specs.Table.{is_start}
 
--- whether the next call fails, behind these
+-- whether the next call fails, after these
 abbrev pub fails_next : List ℕ → List Seen → Bool
 fails_next failing list = list_any (nat_eq (length list + 1)) failing
 

@@ -53,9 +53,11 @@ fn has_name(indexer: &Box<dyn Indexer>, name: &Name) -> bool
 /// The place of the first indexer that has the name.
 fn place_of(all: &[Box<dyn Indexer>], name: &Name) -> Option<usize>
     ensures found { IfSome result (λ place. (place < length all.now)
-        × ((k : ℕ) → k < place → bytes_eq (slice_index_or (map title all.now) k []) name.now ≡ false)
+        × ((k : ℕ) → k < place → bytes_eq (slice_index_or (map title all.now) k []) name.now
+        ≡ false)
         × (bytes_eq (slice_index_or (map title all.now) place []) name.now ≡ true)) }
-    ensures none { result ≡ None → (k : ℕ) → k < length all.now → bytes_eq (slice_index_or (map title all.now) k []) name.now ≡ false }
+    ensures none { result ≡ None → (k : ℕ) → k < length all.now
+        → bytes_eq (slice_index_or (map title all.now) k []) name.now ≡ false }
 {
     for place in 0..all.len() {
         if has_name(&all[place], name) {
@@ -68,7 +70,8 @@ fn place_of(all: &[Box<dyn Indexer>], name: &Name) -> Option<usize>
 /// Takes the first indexer of the name out of the list; none, where none has it.
 fn take_out(all: &mut Vec<Box<dyn Indexer>>, name: &Name) -> Option<Box<dyn Indexer>>
     ensures { taken_out name.now (map (λ b. shown (title b) (failing b) (list b)) all.old.items)
-        ≡ option_map (λ b. taken_of (shown (title b) (failing b) (list b)) (map (λ b. shown (title b) (failing b) (list b)) all.new.items)) result }
+        ≡ option_map (λ b. taken_of (shown (title b) (failing b) (list b))
+        (map (λ b. shown (title b) (failing b) (list b)) all.new.items)) result }
 {
     let place = place_of(all.as_slice(), name)?;
     Some(all.remove(place))
@@ -80,10 +83,14 @@ fn seat_all(
     all: &mut Vec<Box<dyn Indexer>>,
     names: &[Name],
 ) -> Result<Vec<Seat>, ChooseError>
-    ensures seated { IfOk result (λ seats. seated names.now (map (λ b. shown (title b) (failing b) (list b)) all.old.items)
-        ≡ Some (seated_of (map (λ seat. seat_of seat.name seat.calls (option_map (λ b. shown (title b) (failing b) (list b)) seat.indexer)) seats.items)
+    ensures seated { IfOk result (λ seats.
+        seated names.now (map (λ b. shown (title b) (failing b) (list b)) all.old.items)
+        ≡ Some (seated_of (map (λ seat.
+        seat_of seat.name seat.calls
+        (option_map (λ b. shown (title b) (failing b) (list b)) seat.indexer)) seats.items)
         (map (λ b. shown (title b) (failing b) (list b)) all.new.items))) }
-    ensures unknown { result ≡ Err UnknownIndexer → seated names.now (map (λ b. shown (title b) (failing b) (list b)) all.old.items) ≡ None }
+    ensures unknown { result ≡ Err UnknownIndexer
+        → seated names.now (map (λ b. shown (title b) (failing b) (list b)) all.old.items) ≡ None }
 {
     let mut seats = Vec::new(alloc);
     for name in names {
@@ -120,11 +127,18 @@ impl Indexers {
         names: &[Name],
         late: &[Name],
     ) -> Result<Indexers, ChooseError>
-        ensures chosen { IfOk result (λ indexers. chosen names.now late.now (map (λ b. shown (title b) (failing b) (list b)) all.items)
+        ensures chosen { IfOk result (λ indexers.
+            chosen names.now late.now (map (λ b. shown (title b) (failing b) (list b)) all.items)
             ≡ Some (chosen_of
-            (map (λ seat. seat_of seat.name seat.calls (option_map (λ b. shown (title b) (failing b) (list b)) seat.indexer)) indexers.asked.items)
-            (map (λ seat. seat_of seat.name seat.calls (option_map (λ b. shown (title b) (failing b) (list b)) seat.indexer)) indexers.late.items))) }
-        ensures unknown { result ≡ Err UnknownIndexer → chosen names.now late.now (map (λ b. shown (title b) (failing b) (list b)) all.items) ≡ None }
+            (map (λ seat. seat_of seat.name seat.calls
+            (option_map (λ b. shown (title b) (failing b) (list b)) seat.indexer))
+            indexers.asked.items)
+            (map (λ seat. seat_of seat.name seat.calls
+            (option_map (λ b. shown (title b) (failing b) (list b)) seat.indexer))
+            indexers.late.items))) }
+        ensures unknown { result ≡ Err UnknownIndexer
+            → chosen names.now late.now (map (λ b. shown (title b) (failing b) (list b)) all.items)
+            ≡ None }
     {
         let mut left = all;
         let asked = seat_all(alloc, &mut left, names)?;
@@ -135,8 +149,14 @@ impl Indexers {
     /// Tells each of those that are told as the script runs, and none of the late ones. One whose call fails is dropped
     /// at once, and the number of its calls that went well is kept. Where memory runs out, no more is said of them.
     pub fn told(&mut self, seen: &Seen) -> Result<(), OutOfMemory>
-        ensures told { OnOk result (map (λ seat. seat_of seat.name seat.calls (option_map (λ b. shown (title b) (failing b) (list b)) seat.indexer)) self.new.asked.items
-            ≡ map (after_told seen.now) (map (λ seat. seat_of seat.name seat.calls (option_map (λ b. shown (title b) (failing b) (list b)) seat.indexer)) self.old.asked.items)) }
+        ensures told { OnOk result
+            (map (λ seat. seat_of seat.name seat.calls
+            (option_map (λ b. shown (title b) (failing b) (list b)) seat.indexer))
+            self.new.asked.items
+            ≡ map (after_told seen.now) (map (λ seat.
+            seat_of seat.name seat.calls
+            (option_map (λ b. shown (title b) (failing b) (list b)) seat.indexer))
+            self.old.asked.items)) }
         ensures late { self.new.late ≡ self.old.late }
     {
         tell_all(&mut self.asked, seen)
@@ -145,8 +165,14 @@ impl Indexers {
     /// Tells each of the late ones all of these, up to its first call that fails; that one is then dropped, and the
     /// number of its calls that went well is kept. Where memory runs out, no more is said of them.
     pub fn catch_up(&mut self, seen: &[Seen]) -> Result<(), OutOfMemory>
-        ensures told { OnOk result (map (λ seat. seat_of seat.name seat.calls (option_map (λ b. shown (title b) (failing b) (list b)) seat.indexer)) self.new.late.items
-            ≡ map (after_all seen.now) (map (λ seat. seat_of seat.name seat.calls (option_map (λ b. shown (title b) (failing b) (list b)) seat.indexer)) self.old.late.items)) }
+        ensures told { OnOk result
+            (map (λ seat. seat_of seat.name seat.calls
+            (option_map (λ b. shown (title b) (failing b) (list b)) seat.indexer))
+            self.new.late.items
+            ≡ map (after_all seen.now) (map (λ seat.
+            seat_of seat.name seat.calls
+            (option_map (λ b. shown (title b) (failing b) (list b)) seat.indexer))
+            self.old.late.items)) }
         ensures asked { self.new.asked ≡ self.old.asked }
     {
         catch_up_all(&mut self.late, seen)
@@ -155,8 +181,14 @@ impl Indexers {
     /// Appends the line of each, in the order in which they were asked for, the late ones last.
     pub fn lines(&self, into: &mut Vec<u8>) -> Result<(), OutOfMemory>
         ensures { OnOk result (into.new.items ≡ into.old.items
-            ++ (flat_map (λ seat. seat_line (seat_of seat.name seat.calls (option_map (λ b. shown (title b) (failing b) (list b)) seat.indexer)) (own_text (option_map text seat.indexer))) self.now.asked.items
-            ++ flat_map (λ seat. seat_line (seat_of seat.name seat.calls (option_map (λ b. shown (title b) (failing b) (list b)) seat.indexer)) (own_text (option_map text seat.indexer))) self.now.late.items)) }
+            ++ (flat_map (λ seat. seat_line
+            (seat_of seat.name seat.calls
+            (option_map (λ b. shown (title b) (failing b) (list b)) seat.indexer))
+            (own_text (option_map text seat.indexer))) self.now.asked.items
+            ++ flat_map (λ seat. seat_line
+            (seat_of seat.name seat.calls
+            (option_map (λ b. shown (title b) (failing b) (list b)) seat.indexer))
+            (own_text (option_map text seat.indexer))) self.now.late.items)) }
     {
         push_lines(self.asked.as_slice(), into)?;
         push_lines(self.late.as_slice(), into)

@@ -62,14 +62,16 @@ pub trait Indexer: Drop {
         ensures told { OnOk result (list self.new ≡ list self.old ++ seen.now ∷ []) }
         ensures unchanged { OnErr result (list self.new ≡ list self.old) }
         ensures fails { fails_next (failing self.old) (list self.old) ≡ true → IsErr result }
-        ensures goes_well { fails_next (failing self.old) (list self.old) ≡ false → result ≢ Err Failed }
+        ensures goes_well { fails_next (failing self.old) (list self.old) ≡ false
+            → result ≢ Err Failed }
         ensures title { title self.new ≡ title self.old }
         ensures failing { failing self.new ≡ failing self.old };
 
     /// Appends what it shows: what the indexers `kinds`, `open` and `signals` show of all that they were told; its own
     /// text, where it has another name.
     fn line(&self, into: &mut Vec<u8>) -> Result<(), OutOfMemory>
-        ensures { OnOk result (into.new.items ≡ into.old.items ++ text_of (title self.now) (text self.now) (list self.now)) };
+        ensures { OnOk result (into.new.items
+            ≡ into.old.items ++ text_of (title self.now) (text self.now) (list self.now)) };
 }
 
 /// What is counted of the events that an indexer is told.
@@ -79,7 +81,7 @@ pub enum Counted {
     Starts,
     /// Events that close a run.
     Closes,
-    /// Signals that are no copies.
+    /// Signals that are not copies.
     Originals,
     /// Signals that repeat another one.
     Copies,

@@ -56,8 +56,10 @@ fn compare(name: &str, entry: &KindCount) -> Ordering
 
 /// Where the count of the name stands, or where it would go.
 fn place_of(counts: &[KindCount], name: &str) -> Result<usize, usize>
-    ensures counted { IfOk result (IsCounted (map (λ entry. (entry.name, entry.count)) counts.now) name.now) }
-    ensures uncounted { IfErr result (IsUncounted (map (λ entry. (entry.name, entry.count)) counts.now) name.now) }
+    ensures counted { IfOk result
+        (IsCounted (map (λ entry. (entry.name, entry.count)) counts.now) name.now) }
+    ensures uncounted { IfErr result
+        (IsUncounted (map (λ entry. (entry.name, entry.count)) counts.now) name.now) }
 {
     for place in 0..counts.len() {
         match compare(name, &counts[place]) {
@@ -69,7 +71,7 @@ fn place_of(counts: &[KindCount], name: &str) -> Result<usize, usize>
     Err(counts.len())
 }
 
-/// The name of this text; an error where it is no name.
+/// The name of this text; an error where it is not a name.
 fn name_of(alloc: Global, text: &str) -> Result<Name, OutOfMemory>
     ensures { IfOk result (λ name. name ≡ text.now) }
 {
@@ -90,7 +92,8 @@ fn one_more(entry: &KindCount) -> Result<KindCount, OutOfMemory>
 
 /// Appends a count with its name.
 fn push_count(entry: &KindCount, into: &mut Vec<u8>) -> Result<(), OutOfMemory>
-    ensures { OnOk result (into.new.items ≡ into.old.items ++ count_text (entry.now.name, entry.now.count)) }
+    ensures { OnOk result (into.new.items
+        ≡ into.old.items ++ count_text (entry.now.name, entry.now.count)) }
 {
     let mut buffer = itoa::Buffer::new();
     into.extend_from_slice(entry.name.as_bytes())?;
@@ -98,10 +101,11 @@ fn push_count(entry: &KindCount, into: &mut Vec<u8>) -> Result<(), OutOfMemory>
     into.extend_from_slice(buffer.format(entry.count).as_bytes())
 }
 
-/// Appends counts, each behind a space.
+/// Appends counts, each after a space.
 fn push_later(entries: &[KindCount], into: &mut Vec<u8>) -> Result<(), OutOfMemory>
     ensures { OnOk result (into.new.items ≡ into.old.items
-        ++ flat_map (λ later. codes " " ++ count_text later) (map (λ entry. (entry.name, entry.count)) entries.now)) }
+        ++ flat_map (λ later. codes " " ++ count_text later) (map (λ entry.
+        (entry.name, entry.count)) entries.now)) }
 {
     for entry in entries {
         into.extend_from_slice(b" ".as_slice())?;
@@ -156,7 +160,8 @@ impl KindCounts {
 
     /// Counts the kind of each event.
     fn add_all(&mut self, events: &[Event]) -> Result<(), OutOfMemory>
-        ensures { OnOk result (self.new ≡ fold with_one_more self.old (map (λ event. kind_name event.kind) events.now)) }
+        ensures { OnOk result (self.new
+            ≡ fold with_one_more self.old (map (λ event. kind_name event.kind) events.now)) }
     {
         for event in events {
             self.add(event.kind.name())?;

@@ -17,13 +17,14 @@ pub struct Seat {
     pub name: Name,
     /// How many of its calls went well.
     pub calls: u64,
-    /// The indexer; none behind a call that failed.
+    /// The indexer; none after a call that failed.
     pub indexer: Option<Box<dyn Indexer>>,
 }
 
 /// Tells an indexer: whether the call went well.
 pub(crate) fn tell(indexer: &mut Box<dyn Indexer>, seen: &Seen) -> Result<bool, OutOfMemory>
-    ensures well { IfOk result (λ well. well ≡ not (fails_next (failing indexer.old) (list indexer.old))) }
+    ensures well { IfOk result (λ well.
+        well ≡ not (fails_next (failing indexer.old) (list indexer.old))) }
     ensures told { result ≡ Ok true → list indexer.new ≡ list indexer.old ++ seen.now ∷ [] }
     ensures title { title indexer.new ≡ title indexer.old }
     ensures failing { failing indexer.new ≡ failing indexer.old }
@@ -39,8 +40,10 @@ impl Seat {
     /// Tells the indexer, where it is still there. Where memory runs out, no more is said of the seat.
     #[tactic(auto, unfolding(crate::specs::Seats::after_told))]
     pub fn told(&mut self, seen: &Seen) -> Result<(), OutOfMemory>
-        ensures { OnOk result (seat_of self.new.name self.new.calls (option_map (λ b. shown (title b) (failing b) (list b)) self.new.indexer)
-            ≡ after_told seen.now (seat_of self.old.name self.old.calls (option_map (λ b. shown (title b) (failing b) (list b)) self.old.indexer))) }
+        ensures { OnOk result (seat_of self.new.name self.new.calls
+            (option_map (λ b. shown (title b) (failing b) (list b)) self.new.indexer)
+            ≡ after_told seen.now (seat_of self.old.name self.old.calls
+            (option_map (λ b. shown (title b) (failing b) (list b)) self.old.indexer))) }
     {
         let Some(indexer) = &mut self.indexer else {
             return Ok(());
@@ -56,8 +59,10 @@ impl Seat {
     /// Tells the indexer of each of these, up to its first call that fails. Where memory runs out, no more is said of
     /// the seat.
     pub fn catch_up(&mut self, seen: &[Seen]) -> Result<(), OutOfMemory>
-        ensures { OnOk result (seat_of self.new.name self.new.calls (option_map (λ b. shown (title b) (failing b) (list b)) self.new.indexer)
-            ≡ after_all seen.now (seat_of self.old.name self.old.calls (option_map (λ b. shown (title b) (failing b) (list b)) self.old.indexer))) }
+        ensures { OnOk result (seat_of self.new.name self.new.calls
+            (option_map (λ b. shown (title b) (failing b) (list b)) self.new.indexer)
+            ≡ after_all seen.now (seat_of self.old.name self.old.calls
+            (option_map (λ b. shown (title b) (failing b) (list b)) self.old.indexer))) }
     {
         for one in seen {
             self.told(one)?;
@@ -69,7 +74,9 @@ impl Seat {
     #[tactic(auto, unfolding(crate::specs::Seats::seat_line))]
     pub fn line(&self, into: &mut Vec<u8>) -> Result<(), OutOfMemory>
         ensures { OnOk result (into.new.items ≡ into.old.items
-            ++ seat_line (seat_of self.now.name self.now.calls (option_map (λ b. shown (title b) (failing b) (list b)) self.now.indexer)) (own_text (option_map text self.now.indexer))) }
+            ++ seat_line (seat_of self.now.name self.now.calls
+            (option_map (λ b. shown (title b) (failing b) (list b)) self.now.indexer)) (own_text
+            (option_map text self.now.indexer))) }
     {
         into.extend_from_slice(b"index ".as_slice())?;
         into.extend_from_slice(self.name.as_bytes())?;
@@ -84,14 +91,16 @@ impl Seat {
 
 /// Appends what an indexer shows.
 fn push_line(indexer: &Box<dyn Indexer>, into: &mut Vec<u8>) -> Result<(), OutOfMemory>
-    ensures { OnOk result (into.new.items ≡ into.old.items ++ text_of (title indexer.now) (text indexer.now) (list indexer.now)) }
+    ensures { OnOk result (into.new.items
+        ≡ into.old.items ++ text_of (title indexer.now) (text indexer.now) (list indexer.now)) }
 {
     indexer.line(into)
 }
 
 /// Appends after how many calls an indexer failed.
 fn push_failed(calls: u64, into: &mut Vec<u8>) -> Result<(), OutOfMemory>
-    ensures { OnOk result (into.new.items ≡ into.old.items ++ (codes "failed after " ++ decimal calls)) }
+    ensures { OnOk result (into.new.items
+        ≡ into.old.items ++ (codes "failed after " ++ decimal calls)) }
 {
     let mut buffer = itoa::Buffer::new();
     into.extend_from_slice(b"failed after ".as_slice())?;
@@ -100,8 +109,13 @@ fn push_failed(calls: u64, into: &mut Vec<u8>) -> Result<(), OutOfMemory>
 
 /// Tells the indexer of each seat.
 pub(crate) fn tell_all(seats: &mut Vec<Seat>, seen: &Seen) -> Result<(), OutOfMemory>
-    ensures { OnOk result (map (λ seat. seat_of seat.name seat.calls (option_map (λ b. shown (title b) (failing b) (list b)) seat.indexer)) seats.new.items
-        ≡ map (after_told seen.now) (map (λ seat. seat_of seat.name seat.calls (option_map (λ b. shown (title b) (failing b) (list b)) seat.indexer)) seats.old.items)) }
+    ensures { OnOk result (map (λ seat.
+        seat_of seat.name seat.calls
+        (option_map (λ b. shown (title b) (failing b) (list b)) seat.indexer)) seats.new.items
+        ≡ map (after_told seen.now) (map (λ seat.
+        seat_of seat.name seat.calls
+        (option_map (λ b. shown (title b) (failing b) (list b)) seat.indexer))
+        seats.old.items)) }
 {
     for seat in seats.iter_mut() {
         seat.told(seen)?;
@@ -111,8 +125,13 @@ pub(crate) fn tell_all(seats: &mut Vec<Seat>, seen: &Seen) -> Result<(), OutOfMe
 
 /// Tells the indexer of each seat all of these, up to its first call that fails.
 pub(crate) fn catch_up_all(seats: &mut Vec<Seat>, seen: &[Seen]) -> Result<(), OutOfMemory>
-    ensures { OnOk result (map (λ seat. seat_of seat.name seat.calls (option_map (λ b. shown (title b) (failing b) (list b)) seat.indexer)) seats.new.items
-        ≡ map (after_all seen.now) (map (λ seat. seat_of seat.name seat.calls (option_map (λ b. shown (title b) (failing b) (list b)) seat.indexer)) seats.old.items)) }
+    ensures { OnOk result (map (λ seat.
+        seat_of seat.name seat.calls
+        (option_map (λ b. shown (title b) (failing b) (list b)) seat.indexer)) seats.new.items
+        ≡ map (after_all seen.now) (map (λ seat.
+        seat_of seat.name seat.calls
+        (option_map (λ b. shown (title b) (failing b) (list b)) seat.indexer))
+        seats.old.items)) }
 {
     for seat in seats.iter_mut() {
         seat.catch_up(seen)?;
@@ -123,7 +142,10 @@ pub(crate) fn catch_up_all(seats: &mut Vec<Seat>, seen: &[Seen]) -> Result<(), O
 /// Appends the lines of seats.
 pub(crate) fn push_lines(seats: &[Seat], into: &mut Vec<u8>) -> Result<(), OutOfMemory>
     ensures { OnOk result (into.new.items ≡ into.old.items
-        ++ flat_map (λ seat. seat_line (seat_of seat.name seat.calls (option_map (λ b. shown (title b) (failing b) (list b)) seat.indexer)) (own_text (option_map text seat.indexer))) seats.now) }
+        ++ flat_map (λ seat. seat_line
+        (seat_of seat.name seat.calls
+        (option_map (λ b. shown (title b) (failing b) (list b)) seat.indexer))
+        (own_text (option_map text seat.indexer))) seats.now) }
 {
     for seat in seats {
         seat.line(into)?;

@@ -8,7 +8,7 @@ use ndc_event::OutOfMemory;
 use std::alloc::Global;
 use std::marker::Model;
 
-/// Appends two words with a number behind each.
+/// Appends two words with a number after each.
 fn push_counts(
     into: &mut Vec<u8>,
     first: &str,
@@ -16,7 +16,8 @@ fn push_counts(
     second: &str,
     seconds: u64,
 ) -> Result<(), OutOfMemory>
-    ensures { OnOk result (into.new.items ≡ into.old.items ++ (first.now ++ decimal firsts ++ second.now ++ decimal seconds)) }
+    ensures { OnOk result (into.new.items
+        ≡ into.old.items ++ (first.now ++ decimal firsts ++ second.now ++ decimal seconds)) }
 {
     let mut buffer = itoa::Buffer::new();
     into.extend_from_slice(first.as_bytes())?;
@@ -40,7 +41,8 @@ impl Model for OpenIndexer {
 
     ghost view = { λ indexer. indexer.tally.list };
 
-    ghost invariant = { λ indexer. (indexer.tally.first ≡ Starts) × (indexer.tally.second ≡ Closes) };
+    ghost invariant = { λ indexer.
+        (indexer.tally.first ≡ Starts) × (indexer.tally.second ≡ Closes) };
 }
 
 impl OpenIndexer {
@@ -99,7 +101,8 @@ impl Model for SignalsIndexer {
 
     ghost view = { λ indexer. indexer.tally.list };
 
-    ghost invariant = { λ indexer. (indexer.tally.first ≡ Originals) × (indexer.tally.second ≡ Copies) };
+    ghost invariant = { λ indexer.
+        (indexer.tally.first ≡ Originals) × (indexer.tally.second ≡ Copies) };
 }
 
 impl SignalsIndexer {

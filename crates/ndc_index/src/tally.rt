@@ -25,7 +25,11 @@ impl Model for Tally {
 
     ghost Value = { TallyValue };
 
-    ghost view = { λ tally. record { list = tally.seen.items; first = tally.first; second = tally.second } };
+    ghost view = { λ tally. record {
+      list = tally.seen.items;
+      first = tally.first;
+      second = tally.second;
+    } };
 
     ghost invariant = { λ tally. (tally.firsts ≡ count_told tally.first tally.seen.items)
         × (tally.seconds ≡ count_told tally.second tally.seen.items) };
@@ -118,7 +122,8 @@ impl Tally {
     /// Notes what is told. Where memory runs out, or a count is too great, all stays as it was.
     #[tactic(auto, using(crate::proofs::CountLemmas::count_more))]
     pub(crate) fn told(&mut self, seen: &Seen) -> Result<(), OutOfMemory>
-        ensures told { OnOk result (self.new ≡ record self.old { list = self.old.list ++ seen.now ∷ [] }) }
+        ensures told { OnOk result
+            (self.new ≡ record self.old { list = self.old.list ++ seen.now ∷ [] }) }
         ensures unchanged { OnErr result (self.new ≡ self.old) }
     {
         let events = seen.batch.events.as_slice();

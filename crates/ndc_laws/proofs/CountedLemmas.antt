@@ -1,4 +1,4 @@
--- Every world of a script is as it should be behind as many lines as led to it.
+-- Every world of a script is as it should be after the lines that led to it.
 use Rattle.std.proofs.Common.{ℕ, ◌+◌, ◌≤◌, List, [], ◌∷◌, length, map, append-nil, sym, subst, arith}
 use Rattle.std.specs.List.{AllByRecursion}
 use Rattle.std.proofs.lemmas.List.{length-append}
@@ -19,7 +19,7 @@ use Rattle.ndc_model.specs.World.{World, opening_world}
 use Rattle.ndc_model.proofs.FairLemmas.{opening_reached}
 use Rattle.ndc_model.proofs.ListLemmas.{all-listed}
 
--- the worlds behind lines
+-- the worlds after lines
 ran-counted : (header : Header) → IsWellFormedHeader header → (list : List Line) (lines : ℕ) (w : World) → AllByRecursion (IsWellFormedLine header) list → lines + length list ≤ 100000 → IsReached header lines w
     → AreReachedFrom header (lines + 1) (map (λ run. run.step.world) (ran_from header w list))
 ran-counted header sound [] lines w fit short is = tt

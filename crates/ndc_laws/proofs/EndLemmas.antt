@@ -1,4 +1,4 @@
--- Behind a handover the target goes on where all that was written ends.
+-- After a handover the target goes on where all that was written ends.
 use Rattle.std.proofs.Common.{◌≡◌, ◌≤◌, ℕ, Bool, true, false, List, [], ◌∷◌, ◌++◌, ◌⊎◌, inl, inr, Option, Some, None, Result, Ok, Err, slice_index_or, if◌then◌else◌, refl, sym, ◌∙◌, subst, ap, arith}
 use Rattle.std.specs.Prelude.{option_to_list}
 use Rattle.std.specs.List.{AllByRecursion, filter, flat_map}

@@ -1,4 +1,4 @@
--- Behind further lines tables have grown, and so an ended version stays ended, and nothing more is written with it.
+-- After further lines tables have grown, and so an ended version stays ended, and nothing more is written with it.
 use Rattle.std.proofs.Common.{◌≡◌, ◌≢◌, ℕ, ◌+◌, ◌<◌, ◌≤◌, true, ◌⊎◌, inl, inr, List, [], ◌∷◌, length, Some, Ok, sym, ◌∙◌, subst, ap, arith}
 use Rattle.std.specs.List.{AllByRecursion, IsAmong, flat_map}
 use Rattle.ndc_script_types.specs.WellFormed.{IsCluster, IsWellFormedHeader}
@@ -36,7 +36,7 @@ use Rattle.ndc_model_sets.specs.Sets.{Has}
 use Rattle.ndc_model_sets.proofs.BranchLemmas.{has-among}
 use Rattle.ndc_model_sets.proofs.Lists.{Among, all-among, filter-among}
 
--- tables grow behind lines that run one after the other
+-- tables grow after lines that run one after the other
 pub lines-grow : (header : Header) (lines : ℕ) (more : List Line) (w : World) → IsWellFormedHeader header → AllByRecursion (IsWellFormedLine header) more → lines + length more ≤ 100000 → IsReached header lines w
     → TablesGrow w (world_after header more w)
 lines-grow header lines [] w sound fit few is = λ one. grows-none (cluster_at one w).table
@@ -124,7 +124,7 @@ module _ (header : Header) (lines later : ℕ) (w v : World) (sound : IsWellForm
           let writers : Some f.0 ≡ Some handover.from = sym o.version ∙ ap (writer_of header.clusters) old ∙ handed.writer in
           of-cluster f.0 listed writers (above-one w v above f.0 at b f.2)
 
--- behind further lines nothing more is written with an ended version
+-- after further lines nothing more is written with an ended version
 pub nothing-behind : (header : Header) (lines : ℕ) (more : List Line) (w : World) (handover : Handover) → IsWellFormedHeader header → AllByRecursion (IsWellFormedLine header) more → lines + length more ≤ 100000 → IsReached header lines w
     → IsAmong w.handovers handover → (workflow : Name) (b : Batch) → Has (written_of header handover.domain workflow (world_after header more w)) b → b.key.version ≡ handover.old
     → Has (written_of header handover.domain workflow w) b

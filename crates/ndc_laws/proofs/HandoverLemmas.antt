@@ -81,7 +81,7 @@ length-levels : (lanes : List Lane) → length (map (λ lane. lane.levels) lanes
 length-levels [] = refl
 length-levels (lane ∷ lanes) = ap suc (length-levels lanes)
 
--- what stands in a front stands in a longer one
+-- what stands in a prefix stands in a longer one
 among-front : {X : Type 0} (x : X) (xs : List X) (n m : ℕ) → n ≤ m → Among x (take n xs) → Among x (take m xs)
 among-front x [] n m most h = h' n h
   where

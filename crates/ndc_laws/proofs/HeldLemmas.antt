@@ -41,7 +41,7 @@ held-is : (activity : ActivityRef) (list : List Report) → Known activity list 
 held-is activity [] = inl (refl, λ x h. absurd h)
 held-is activity (y ∷ ys) = by (same_activity activity y.activity) refl (held-is activity ys)
   where
-    -- the first one, where none behind it is greater
+    -- the first one, where none after it is greater
     first : same_activity activity y.activity ≡ true → ((x : Report) → Among x ys → same_activity activity x.activity ≡ true → report_lt y x ≡ false) → IsHeld activity (y ∷ ys) y
     first mine rest = record { among = inl refl; own = mine; most = each }
       where
@@ -49,7 +49,7 @@ held-is activity (y ∷ ys) = by (same_activity activity y.activity) refl (held-
         each x (inl e) own = subst (λ (z : Report). report_lt y z ≡ false) (sym e) (not-itself y.version y.beat)
         each x (inr h) own = rest x h own
 
-    -- one behind it, where the first is not greater
+    -- one after it, where the first is not greater
     behind : (r : Report) → IsHeld activity ys r → (same_activity activity y.activity ≡ true → report_lt r y ≡ false) → IsHeld activity (y ∷ ys) r
     behind r is less = record { among = inr is.among; own = is.own; most = each }
       where

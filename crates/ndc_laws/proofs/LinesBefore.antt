@@ -26,7 +26,7 @@ pub front-fits : (header : Header) (front back : List Line) → AllByRecursion (
 front-fits header [] back all = tt
 front-fits header (line ∷ front) back all = all-append (Fits header) (lines_of_act line.number line.act) (plain_lines front) (act-fits header line.number line.act all.0) (front-fits header front back all.1)
 
--- and so is the line behind them
+-- and so is the line after them
 behind-fits : (header : Header) (front back : List Line) (line : Line) → AllByRecursion (Fits header) (front ++ line ∷ back) → IsWellFormedAct header line.act
 behind-fits header [] back line all = all.0
 behind-fits header (first ∷ front) back line all = behind-fits header front back line all.1
@@ -48,7 +48,7 @@ front-short header (first ∷ front) back line =
       length-append (act_lines header first.act) (body_lines header (front ++ line ∷ back)),
     )
 
--- the world behind lines
+-- the world after lines
 front-reached : (header : Header) → IsWellFormedHeader header → (list : List Line) (lines : ℕ) (w : World) → AllByRecursion (Fits header) list → lines + length list < 100000 → IsReached header lines w
     → IsReached header (lines + length list) (world_behind w (ran_from header w list))
 front-reached header sound [] lines w fit short is = subst (λ n. IsReached header n w) (omega arith) is

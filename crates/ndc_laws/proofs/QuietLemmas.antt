@@ -1,4 +1,4 @@
--- Behind reapplication by a cluster that may write to a workflow it has no stray of it.
+-- After reapplication by a cluster that may write to a workflow it has no stray of it.
 use Rattle.std.proofs.Common.{◌≡◌, ◌<◌, ◌+◌, ℕ, Bool, true, false, List, [], ◌∷◌, ◌++◌, map, ◌⊎◌, inl, inr, Option, Some, None, Result, Ok, Err, refl, sym, ◌∙◌, subst, ap, true≢false, if◌then◌else◌}
 use Rattle.std.specs.List.{cons_option}
 use Rattle.std.specs.Prelude.{is_some}

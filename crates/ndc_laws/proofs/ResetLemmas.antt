@@ -145,7 +145,7 @@ module _ (header : Header) (well : IsWellFormedHeader header) (lines : ℕ) (few
   later : IsSound after
   later = learned_sound header (lines + 1) v cluster domain workflow well.shards_least names.known reached
 
-  -- what the cell has learned behind these entries
+  -- what the cell has learned after these entries
   after-is : (entries : List Entry) → reset_at (home_at header cluster w) domain workflow event here ≡ Ok entries → after ≡ learned_of domain workflow (with_all_written entries here)
   unfolding act_step reset_step jobs_done cells_after after_job
   after-is entries e = ap (learned_of domain workflow) (cell-here header w is.shaped cluster names.known place there (written_at (reset_at (home_at header cluster w) domain workflow event here) here) ∙ ap (λ r. written_at r here) e)
@@ -247,7 +247,7 @@ module _ (header : Header) (well : IsWellFormedHeader header) (lines : ℕ) (few
           most x (inl same_batch) = inl same_batch
           most x (inr has) = inr (new-above all part version adds x has)
 
-      -- the new run behind the batch that closes the old one
+      -- the new run after the batch that closes the old one
       behind-leaves : (closing : Batch) → closing.key ≡ key → closing.domain ≡ domain → closing.workflow ≡ workflow → IsWrite all part domain workflow version 1 (alone closing)
           → ((other : List Batch) → IsWrite (arrived closing all) other domain workflow version 0 (alone (begun (key_behind key))))
           → after ≡ learned_of domain workflow (with_written (alone (begun (key_behind key))) (with_written (alone closing) here)) → IsResetFrom event part after

@@ -1,4 +1,4 @@
--- In a script tables grow from each world to those behind it.
+-- In a script tables grow from each world to those after it.
 use Rattle.std.proofs.Common.{◌≡◌, ◌≢◌, ℕ, List, [], ◌∷◌, ◌++◌, map, Ok, append-nil, append_assoc, refl, sym, ◌∙◌, subst, ap}
 use Rattle.std.specs.List.{AllByRecursion, IsAmong}
 use Rattle.std.proofs.lemmas.List.Concat.{flat_map-append}
@@ -31,7 +31,7 @@ use Rattle.ndc_model.specs.Lines.{act_step, job_line, lines_of_act, plain_lines,
 use Rattle.ndc_model.specs.World.{World, cell_of, cluster_at, home_at, opening_world}
 use Rattle.ndc_model_sets.specs.Sets.{Has}
 
--- lines behind others run in the world that these left
+-- lines after others run in the world that these left
 pub after-both : (header : Header) (one two : List Line) (w : World) → world_after header (one ++ two) w ≡ world_after header two (world_after header one w)
 after-both header [] two w = refl
 after-both header (line ∷ one) two w = after-both header one two (act_step header line.act w).world
@@ -39,7 +39,7 @@ after-both header (line ∷ one) two w = after-both header one two (act_step hea
 plain-both : (one two : List Line) → plain_lines (one ++ two) ≡ plain_lines one ++ plain_lines two
 plain-both one two = flat_map-append (λ (line : Line). lines_of_act line.number line.act) one two
 
--- the world behind a line of a script is that which it leads to from the world before it
+-- the world after a line of a script is that which it leads to from the world before it
 before-next : (header : Header) (front : List Line) (line : Line) → world_before header (front ++ line ∷ []) ≡ world_after header (lines_of_act line.number line.act) (world_before header front)
 before-next header front line =
     ap (λ (list : List Line). world_after header list (opening_world header)) (plain-both front (line ∷ []))
@@ -53,12 +53,12 @@ burst-stay header cluster [] w = λ one. refl
 burst-stay header cluster (job ∷ jobs) w =
     λ one. burst-stay header cluster jobs (act_step header (act.Command cluster job.domain job.workflow job.command) w).world one ∙ command-stay header cluster job.domain job.workflow job.command w one
 
--- tables grow behind the lines that stand for an act
+-- tables grow after the lines of an act
 act-grows : (header : Header) (lines number : ℕ) (asked : Act) (w : World) → IsWellFormedHeader header → IsWellFormedAct header asked → IsReached header lines w → TablesGrow w (world_after header (lines_of_act number asked) w)
 act-grows header lines number (act.Burst cluster jobs) w sound fit is = stay-grow w (world_after header (map (job_line cluster) jobs) w) (burst-stay header cluster jobs w)
 act-grows header lines number other w sound fit is = line-grows header lines other w sound fit is
 
--- tables grow from the world behind some lines of a script to the one behind more of them
+-- tables grow from the world after some lines of a script to the one after more of them
 pub script-grows : (header : Header) (back front : List Line) → IsWellFormed (script_of header (front ++ back)) → TablesGrow (world_before header front) (world_before header (front ++ back))
 script-grows header [] front is = subst (λ (list : List Line). TablesGrow (world_before header front) (world_before header list)) (sym (append-nil front)) (λ one. grows-none (cluster_at one (world_before header front)).table)
 script-grows header (line ∷ back) front is =
@@ -75,7 +75,7 @@ script-grows header (line ∷ back) front is =
     first : TablesGrow (world_before header front) (world_before header (front ++ line ∷ []))
     first = subst (TablesGrow (world_before header front)) (sym (before-next header front line)) (act-grows header runs.lines line.number line.act (world_before header front) is.header runs.fit runs.reached)
 
--- what holds of all worlds behind lines holds of the one behind the first of them
+-- what holds of all worlds after lines holds of the one after the first of them
 one-of : (header : Header) (P : World → Type 0) (one two : List Line) (w : World) → P w → AllByRecursion P (map (λ run. run.step.world) (ran_from header w (one ++ two))) → P (world_after header one w)
 one-of header P [] two w p all = p
 one-of header P (line ∷ one) two w p all = one-of header P one two (act_step header line.act w).world all.0 all.1

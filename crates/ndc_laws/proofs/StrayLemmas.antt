@@ -1,4 +1,4 @@
--- Behind a batch below the current tip that copies all strays there is none.
+-- After a batch below the current tip that copies all strays there is none.
 use Rattle.std.proofs.Common.{◌≡◌, Bool, true, false, ◌&&◌, ◌||◌, not, is_some, List, [], ◌∷◌, ◌++◌, ◌⊎◌, inl, inr, Option, Some, None, refl, sym, ◌∙◌, subst, ap, true≢false, if◌then◌else◌}
 use Rattle.std.specs.List.{cons_option, filter}
 use Rattle.std.specs.Prelude.{is_none}

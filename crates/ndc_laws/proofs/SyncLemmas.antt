@@ -26,7 +26,7 @@ abbrev IsOfSome : World → List ClusterNo → Report → Type 0
 IsOfSome w froms report = (from : ClusterNo) × Among from froms × Among report (cluster_at from w).reports
 
 module _ (header : Header) (to : ClusterNo) where
-  -- the world behind one `sync`
+  -- the world after one `sync`
   abbrev once : ClusterNo → World → World
   once from w = with_reports to ((cluster_at to w).reports ++ (cluster_at from w).reports) w
 
@@ -44,7 +44,7 @@ module _ (header : Header) (to : ClusterNo) where
   still-within : (from : ClusterNo) (w : World) → to.number < length w.clusters → to.number < length (once from w).clusters
   still-within from w within = subst (λ n. to.number < n) (sym (set-length w.clusters to.number _)) within
 
-  -- what a cluster has behind taking over is its own, or was another's
+  -- what a cluster has after taking over is its own, or was another's
   synced-from : (froms : List ClusterNo) (w : World) → to.number < length w.clusters → AllByRecursion (AreTwoClusters header to) froms
       → (report : Report) → Among report (cluster_at to (synced header to froms w)).reports → Among report (cluster_at to w).reports ⊎ IsOfSome w froms report
   synced-from [] w within two report among = inl among

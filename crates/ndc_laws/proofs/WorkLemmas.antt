@@ -1,4 +1,4 @@
--- Behind `work` nothing is in flight to the cluster, and it has applied again what it may.
+-- After `work` nothing is in flight to the cluster, and it has applied again what it may.
 use Rattle.std.proofs.Common.{◌≡◌, ℕ, suc, ◌+◌, ◌*◌, ◌<◌, ◌≤◌, Bool, true, false, if◌then◌else◌, List, [], ◌∷◌, ◌++◌, length, map, Option, Some, None, inl, inr, refl, sym, ◌∙◌, subst, ap, arith, true≢false}
 use Rattle.std.specs.List.{AllByRecursion}
 use Rattle.std.specs.Prelude.{find}
@@ -116,7 +116,7 @@ module _ (header : Header) (lines : ℕ) (keeps : ApplyingKeeps header lines) (c
   abbrev OfOne : List Batch → Name → Name → Type 0
   OfOne bs domain workflow = (b : Batch) × Among b bs × (is_of domain workflow b ≡ true)
 
-  -- a world behind reapplication in the workflows of these batches, in one shard
+  -- a world after reapplication in the workflows of these batches, in one shard
   record AreApplied (shard : ℕ) (bs : List Batch) (w v : World) : Type 0 where
     reached : IsReached header lines v
     home : home_at header cluster v ≡ home_at header cluster w
@@ -158,7 +158,7 @@ module _ (header : Header) (lines : ℕ) (keeps : ApplyingKeeps header lines) (c
     others-there : (place : ℕ) → (place ≡ shard → ⊥) → cell_at cluster place v ≡ cell_at cluster place w
     others-there place apart = cell-other header w is.shaped cluster known shard below (cell_applied header cluster shard b w) cluster place (λ _. apart)
 
-    -- it, and the others behind it
+    -- it, and the others after it
     then-applied : (bs : List Batch) (u : World) → AllByRecursion (λ other. is_of b.domain b.workflow other ≡ false) bs → AreApplied shard bs v u → AreApplied shard (b ∷ bs) w u
     then-applied bs u apart rest = record {
       reached = rest.reached;
@@ -207,7 +207,7 @@ module _ (header : Header) (lines : ℕ) (keeps : ApplyingKeeps header lines) (c
         still list none.1 all.1,
       )
 
-  -- a world behind reapplication in these shards
+  -- a world after reapplication in these shards
   record IsRound (shards : List ℕ) (w v : World) : Type 0 where
     reached : IsReached header lines v
     home : home_at header cluster v ≡ home_at header cluster w
@@ -316,7 +316,7 @@ module _ (header : Header) (lines : ℕ) (keeps : ApplyingKeeps header lines) (c
               (applied-still shard domain workflow middle v rest.home (ap (learned_of domain workflow) (rest.cells shard (λ among. apart shard among refl))) (first.applied domain workflow shard (inl refl)))
           here domain workflow place (inr among) = rest.applied domain workflow place among
 
--- all shards, behind all that was in flight
+-- all shards, after all that was in flight
 work-applied : (header : Header) (lines : ℕ) (cluster : ClusterNo) (w : World) → 0 < header.shards → IsCluster header cluster → lines < 100000 → IsReached header lines w
     → (domain workflow : Name) → HasApplied (home_at header cluster (worked header cluster w).world) domain workflow (cell_of header cluster domain workflow (worked header cluster w).world)
 unfolding worked reapplied_all renewed
@@ -344,7 +344,7 @@ work_leaves header lines cluster w some known most is = record {
   applied = work-applied header lines cluster w some known most is;
 }
 
--- so it has behind each line `work` of a script
+-- so it has after each line `work` of a script
 pub work_line : (header : Header) (front back : List Line) (number : ℕ) (cluster : ClusterNo) → IsWellFormed (script_of header (front ++ line number (act.Work cluster) ∷ back))
     → HasWorked header cluster (act_step header (act.Work cluster) (world_before header front)).world
 unfolding act_step

@@ -122,7 +122,7 @@ line number asked = record { number = number; act = asked }
 abbrev pub world_before : Header → List Line → World
 world_before header front = world_behind (opening_world header) (ran_of (script_of header front))
 
--- a well-formed line runs behind these, and fewer than 100,000 led to the world in which it does
+-- a well-formed line runs after these, and fewer than 100,000 led to the world in which it does
 pub record RunsReached (header : Header) (front : List Line) (asked : Act) : Type 0 where
   pub fit : IsWellFormedAct header asked
   pub lines : ℕ

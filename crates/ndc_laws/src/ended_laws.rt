@@ -20,17 +20,26 @@ ghost use Rattle.ndc_model_sets.specs.Sets.{Has};
 /// Where a handover is open in a reached world, no cluster may write to its domain with the old version in any world
 /// that further well-formed lines lead to, also once the handover is completed.
 pub fn an_ended_version_stays_ended()
-    ensures { (header : Head) (lines : ℕ) (more : List ScriptLine) (w : World) (handover : Handover) → IsWellFormedHeader header → AllByRecursion (IsWellFormedLine header) more → lines + length more ≤ 100000 → IsReached header lines w
+    ensures { (header : Head) (lines : ℕ) (more : List ScriptLine) (w : World) (handover : Handover)
+        → IsWellFormedHeader header → AllByRecursion (IsWellFormedLine header) more
+        → lines + length more ≤ 100000 → IsReached header lines w
         → IsAmong w.handovers handover → (cluster : Number) (workflow : Text) (version : ℕ)
-        → may_write (home_at header cluster (world_after header more w)) handover.domain workflow (cell_of header cluster handover.domain workflow (world_after header more w)) ≡ Ok version → version ≢ handover.old }
+        → may_write (home_at header cluster
+        (world_after header more w)) handover.domain workflow (cell_of header cluster
+        handover.domain workflow (world_after header more w)) ≡ Ok version
+        → version ≢ handover.old }
 {}
 
-/// Where a handover is open behind some lines of a well-formed script, no cluster may write to its domain with the old
-/// version behind these or more of its lines.
+/// Where a handover is open after some lines of a well-formed script, no cluster may write to its domain with the old
+/// version after these or more of its lines.
 pub fn in_a_script_an_ended_version_stays_ended()
-    ensures { (header : Head) (front back : List ScriptLine) (handover : Handover) → IsWellFormed (script_of header (front ++ back)) → IsAmong (world_before header front).handovers handover
+    ensures { (header : Head) (front back : List ScriptLine) (handover : Handover)
+        → IsWellFormed (script_of header (front ++ back))
+        → IsAmong (world_before header front).handovers handover
         → (cluster : Number) (workflow : Text) (version : ℕ)
-        → may_write (home_at header cluster (world_before header (front ++ back))) handover.domain workflow (cell_of header cluster handover.domain workflow (world_before header (front ++ back))) ≡ Ok version
+        → may_write (home_at header cluster
+        (world_before header (front ++ back))) handover.domain workflow (cell_of header cluster
+        handover.domain workflow (world_before header (front ++ back))) ≡ Ok version
         → version ≢ handover.old }
 {}
 
@@ -38,15 +47,23 @@ pub fn in_a_script_an_ended_version_stays_ended()
 /// that further well-formed lines lead to, also once the handover is completed: each batch of the old version that stands
 /// among all that was written then was written already.
 pub fn nothing_more_is_written_with_an_ended_version()
-    ensures { (header : Head) (lines : ℕ) (more : List ScriptLine) (w : World) (handover : Handover) → IsWellFormedHeader header → AllByRecursion (IsWellFormedLine header) more → lines + length more ≤ 100000 → IsReached header lines w
-        → IsAmong w.handovers handover → (workflow : Text) (b : OneBatch) → Has (written_of header handover.domain workflow (world_after header more w)) b → b.key.version ≡ handover.old
+    ensures { (header : Head) (lines : ℕ) (more : List ScriptLine) (w : World) (handover : Handover)
+        → IsWellFormedHeader header → AllByRecursion (IsWellFormedLine header) more
+        → lines + length more ≤ 100000 → IsReached header lines w
+        → IsAmong w.handovers handover → (workflow : Text) (b : OneBatch)
+        → Has (written_of header handover.domain workflow (world_after header more w)) b
+        → b.key.version ≡ handover.old
         → Has (written_of header handover.domain workflow w) b }
 {}
 
-/// Where a handover is open behind some lines of a well-formed script, each batch that these or more of its lines wrote to
-/// the domain with the old version was written by these already.
+/// Where a handover is open after some lines of a well-formed script, each batch that these or more of its lines wrote
+/// to the domain with the old version was written by these already.
 pub fn in_a_script_nothing_more_is_written_with_an_ended_version()
-    ensures { (header : Head) (front back : List ScriptLine) (handover : Handover) → IsWellFormed (script_of header (front ++ back)) → IsAmong (world_before header front).handovers handover
-        → (workflow : Text) (b : OneBatch) → Has (written_of header handover.domain workflow (world_before header (front ++ back))) b → b.key.version ≡ handover.old
+    ensures { (header : Head) (front back : List ScriptLine) (handover : Handover)
+        → IsWellFormed (script_of header (front ++ back))
+        → IsAmong (world_before header front).handovers handover
+        → (workflow : Text) (b : OneBatch)
+        → Has (written_of header handover.domain workflow
+        (world_before header (front ++ back))) b → b.key.version ≡ handover.old
         → Has (written_of header handover.domain workflow (world_before header front)) b }
 {}

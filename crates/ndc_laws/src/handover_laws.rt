@@ -23,27 +23,40 @@ ghost use Rattle.ndc_model_sets.specs.Sets.{Has};
 /// old version. In each run that has such a batch, where no batch of the workflow has a greater version, the current
 /// branch at the cluster is that of all that was written.
 pub fn at_the_end_of_a_handover_all_of_the_old_version_is_learned()
-    ensures learned { (header : Head) (lines : ℕ) (w : World) (at : Number) (domain workflow : Text) (handover : Handover) (b : Batch) → IsWellFormedHeader header → IsReached header lines w
-        → handover_to at domain w ≡ Some handover → ready_in handover w ≡ Ok tt → Has (written_of header handover.domain workflow w) b → b.key.version ≡ handover.old
+    ensures learned { (header : Head) (lines : ℕ) (w : World) (at : Number) (domain workflow : Text)
+        (handover : Handover) (b : Batch) → IsWellFormedHeader header → IsReached header lines w
+        → handover_to at domain w ≡ Some handover → ready_in handover w ≡ Ok tt
+        → Has (written_of header handover.domain workflow w) b → b.key.version ≡ handover.old
         → Has (learned_at header handover.to handover.domain workflow w) b }
-    ensures current { (header : Head) (lines : ℕ) (w : World) (at : Number) (domain workflow : Text) (handover : Handover) (b : Batch) → IsWellFormedHeader header → IsReached header lines w
-        → handover_to at domain w ≡ Some handover → ready_in handover w ≡ Ok tt → Has (written_of header handover.domain workflow w) b → b.key.version ≡ handover.old
-        → ((other : Batch) → Has (written_of header handover.domain workflow w) other → other.key.version ≤ handover.old)
-        → current_tip b.run (learned_at header handover.to handover.domain workflow w) ≡ current_tip b.run (written_of header handover.domain workflow w) }
+    ensures current { (header : Head) (lines : ℕ) (w : World) (at : Number) (domain workflow : Text)
+        (handover : Handover) (b : Batch) → IsWellFormedHeader header → IsReached header lines w
+        → handover_to at domain w ≡ Some handover → ready_in handover w ≡ Ok tt
+        → Has (written_of header handover.domain workflow w) b → b.key.version ≡ handover.old
+        → ((other : Batch) → Has (written_of header handover.domain workflow w) other
+        → other.key.version ≤ handover.old)
+        → current_tip b.run (learned_at header handover.to handover.domain workflow w)
+        ≡ current_tip b.run (written_of header handover.domain workflow w) }
 {}
 
-/// Behind `complete` of a handover to a cluster, in each workflow of the domain that has a batch of the old version and
+/// After `complete` of a handover to a cluster, in each workflow of the domain that has a batch of the old version and
 /// none of a greater one, the tip of the cluster's current run has no child in all that was written, and whatever the
 /// cluster writes next, by a command, a reset or reapplication, begins a run or goes below it.
 pub fn behind_a_handover_the_target_goes_on_where_all_that_was_written_ends()
-    ensures { (header : Head) (lines : ℕ) (w : World) (at : Number) (domain workflow : Text) (handover : Handover) (b : Batch) → IsWellFormedHeader header → IsReached header lines w
-        → handover_to at domain w ≡ Some handover → ready_in handover w ≡ Ok tt → Has (written_of header handover.domain workflow w) b → b.key.version ≡ handover.old
-        → ((other : Batch) → Has (written_of header handover.domain workflow w) other → other.key.version ≤ handover.old)
-        → GoesOnAtTheEnd header handover.to handover.domain workflow (act_step header (act.Complete at domain) w).world }
+    ensures { (header : Head) (lines : ℕ) (w : World) (at : Number) (domain workflow : Text)
+        (handover : Handover) (b : Batch) → IsWellFormedHeader header → IsReached header lines w
+        → handover_to at domain w ≡ Some handover → ready_in handover w ≡ Ok tt
+        → Has (written_of header handover.domain workflow w) b → b.key.version ≡ handover.old
+        → ((other : Batch) → Has (written_of header handover.domain workflow w) other
+        → other.key.version ≤ handover.old)
+        → GoesOnAtTheEnd header handover.to handover.domain workflow (act_step header
+        (act.Complete at domain) w).world }
 {}
 
 /// While a handover is open no cluster may write to its domain with the old version.
 pub fn an_open_handover_ends_the_old_version()
-    ensures { (header : Head) (lines : ℕ) (w : World) (handover : Handover) → IsReached header lines w → IsAmong w.handovers handover → (cluster : Number) (workflow : Text) (version : ℕ)
-        → may_write (home_at header cluster w) handover.domain workflow (cell_of header cluster handover.domain workflow w) ≡ Ok version → version ≢ handover.old }
+    ensures { (header : Head) (lines : ℕ) (w : World) (handover : Handover)
+        → IsReached header lines w → IsAmong w.handovers handover
+        → (cluster : Number) (workflow : Text) (version : ℕ)
+        → may_write (home_at header cluster w) handover.domain workflow (cell_of header cluster
+        handover.domain workflow w) ≡ Ok version → version ≢ handover.old }
 {}

@@ -16,19 +16,25 @@ ghost use Rattle.ndc_progress.specs.declared.report.ActivityRef.{ActivityRef};
 /// In every world of a well-formed script two reports of one activity, version and beat are equal, and each stands in the
 /// list of the cluster that writes with its version.
 pub fn reports_of_one_beat_are_one_in_every_world()
-    ensures { (script : Whole) → IsWellFormed script → AllByRecursion (ReportsAgree script.header) (worlds_of script) }
+    ensures { (script : Whole) → IsWellFormed script
+        → AllByRecursion (ReportsAgree script.header) (worlds_of script) }
 {}
 
 /// Clusters that have the same reports hold the same of each activity.
 pub fn clusters_with_the_same_reports_hold_the_same()
-    ensures { (header : Head) (lines : ℕ) (w : World) (one two : Number) (activity : ActivityRef) → IsReached header lines w → IsCluster header one → IsCluster header two
-        → HaveTheSameReports one two w → held activity (cluster_at one w).reports ≡ held activity (cluster_at two w).reports }
+    ensures { (header : Head) (lines : ℕ) (w : World) (one two : Number) (activity : ActivityRef)
+        → IsReached header lines w → IsCluster header one → IsCluster header two
+        → HaveTheSameReports one two w → held activity (cluster_at one w).reports
+        ≡ held activity (cluster_at two w).reports }
 {}
 
-/// What a cluster holds behind taking over the reports of others, one after the other, does not depend on their order, nor
-/// on how often they are taken over.
+/// What a cluster holds after taking over the reports of others, one after the other, does not depend on their order,
+/// nor on how often they are taken over.
 pub fn reports_are_taken_over_in_any_order()
-    ensures { (header : Head) (lines : ℕ) (w : World) (to : Number) (one two : List Number) (activity : ActivityRef) → IsReached header lines w → IsCluster header to
-        → AllByRecursion (AreTwoClusters header to) one → AllByRecursion (AreTwoClusters header to) two → HaveTheSameClusters one two
-        → held activity (cluster_at to (synced header to one w)).reports ≡ held activity (cluster_at to (synced header to two w)).reports }
+    ensures { (header : Head) (lines : ℕ) (w : World) (to : Number) (one two : List Number)
+        (activity : ActivityRef) → IsReached header lines w → IsCluster header to
+        → AllByRecursion (AreTwoClusters header to) one
+        → AllByRecursion (AreTwoClusters header to) two → HaveTheSameClusters one two
+        → held activity (cluster_at to (synced header to one w)).reports
+        ≡ held activity (cluster_at to (synced header to two w)).reports }
 {}

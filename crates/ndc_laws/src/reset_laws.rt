@@ -15,7 +15,12 @@ ghost use Rattle.ndc_model.specs.World.{World, cell_of, home_at};
 /// Where a reset is not refused the new run is the current one of its workflow at the cluster. Its state is the replay of the
 /// events of the reset, and it has each origin of the old current branch once, and no other.
 pub fn a_reset_goes_on_in_a_new_current_run()
-    ensures { (header : Head) (lines : ℕ) (w : World) (cluster : Number) (domain workflow : Text) (event : ℕ) (entries : List Entry) → IsWellFormedHeader header → lines < 100000 → IsReached header lines w
-        → IsWorkflowAt header cluster domain workflow → reset_at (home_at header cluster w) domain workflow event (cell_of header cluster domain workflow w) ≡ Ok entries
-        → IsResetFrom event (learned_at header cluster domain workflow w) (learned_at header cluster domain workflow (act_step header (act.Reset cluster domain workflow event) w).world) }
+    ensures { (header : Head) (lines : ℕ) (w : World) (cluster : Number) (domain workflow : Text)
+        (event : ℕ) (entries : List Entry) → IsWellFormedHeader header → lines < 100000
+        → IsReached header lines w
+        → IsWorkflowAt header cluster domain workflow
+        → reset_at (home_at header cluster w) domain workflow event (cell_of header cluster
+        domain workflow w) ≡ Ok entries
+        → IsResetFrom event (learned_at header cluster domain workflow w) (learned_at header cluster
+        domain workflow (act_step header (act.Reset cluster domain workflow event) w).world) }
 {}

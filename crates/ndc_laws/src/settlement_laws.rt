@@ -23,17 +23,21 @@ pub fn a_writer_that_has_learned_all_settles_the_workflow()
 /// clusters are one, each member of a domain has learned all that was written of its workflows, and nothing is put off,
 /// in flight, late or to be applied again.
 pub fn a_settlement_leaves_a_settled_world()
-    ensures { (header : Head) (lines : ℕ) (w : World) → IsWellFormedHeader header → lines < 100000 → IsReached header lines w → IsSettled header (after_settlement header w).world }
+    ensures { (header : Head) (lines : ℕ) (w : World) → IsWellFormedHeader header → lines < 100000
+        → IsReached header lines w → IsSettled header (after_settlement header w).world }
 {}
 
-/// Behind each line `settle` of a well-formed script the world is settled.
+/// After each line `settle` of a well-formed script the world is settled.
 pub fn behind_settle_the_world_is_settled()
-    ensures { (header : Head) (front back : List ScriptLine) (number : ℕ) → IsWellFormed (script_of header (front ++ line number act.Settle ∷ back))
+    ensures { (header : Head) (front back : List ScriptLine) (number : ℕ)
+        → IsWellFormed (script_of header (front ++ line number act.Settle ∷ back))
         → IsSettled header (act_step header act.Settle (world_before header front)).world }
 {}
 
-/// Behind each line `resend` of a well-formed script nothing is put off at its cluster.
+/// After each line `resend` of a well-formed script nothing is put off at its cluster.
 pub fn behind_resend_nothing_is_put_off()
-    ensures { (header : Head) (front back : List ScriptLine) (number : ℕ) (cluster : Number) → IsWellFormed (script_of header (front ++ line number (act.Resend cluster) ∷ back))
-        → NothingPutOff header cluster (act_step header (act.Resend cluster) (world_before header front)).world }
+    ensures { (header : Head) (front back : List ScriptLine) (number : ℕ) (cluster : Number)
+        → IsWellFormed (script_of header (front ++ line number (act.Resend cluster) ∷ back))
+        → NothingPutOff header cluster (act_step header (act.Resend cluster)
+        (world_before header front)).world }
 {}

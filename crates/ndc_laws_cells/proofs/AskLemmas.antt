@@ -198,7 +198,7 @@ module _ (all : List Batch) (domain workflow : Name) (cell : Cell) (fine : IsFin
             by (inr (inl e)) = some-if (λ s. is_of domain workflow s ≡ true) entry.second x second-own e
             by (inr (inr old)) = all-among (λ y. is_of domain workflow y ≡ true) all x fine.kept.own (has-among all x old)
 
-    -- what is learned behind it
+    -- what is learned after it
     still-learned : IsPart part (learned_of domain workflow (with_written entry cell))
     still-learned = writing_only_adds domain workflow entry cell fine.cell_is first-back second-back
 
@@ -285,7 +285,7 @@ module _ (all : List Batch) (domain workflow : Name) (cell : Cell) (fine : IsFin
       awaited = all-from (λ sent. waits_for (both (carrying entry.batch entry.second)) sent ≡ false) waiting not-awaited;
     }
 
-    -- its batches are learned behind it
+    -- its batches are learned after it
     then-set : IsSet (arrived_of domain workflow (with_written entry cell))
     then-set = set_of_workflow domain workflow (with_written entry cell) then-fine.cell_is
 
@@ -359,7 +359,7 @@ module _ (all : List Batch) (domain workflow : Name) (cell : Cell) (fine : IsFin
         here : Has (with_entry entry held) s
         here = subst (λ (o : Option Batch). Has (arrived_second o (arrived entry.batch held)) s) (sym e) (is_there s (arrived entry.batch held) (arrival_keeps_sets entry.batch held held-set first-back).ordered fresh)
 
-    -- which batches the set has behind it
+    -- which batches the set has after it
     pub then-which : (x : Batch) → Has (with_entry entry all) x → (x ≡ entry.batch) ⊎ ((entry.second ≡ Some x) ⊎ Has all x)
     then-which x has = joined-has entry.second entry.batch all x order write.added.sound.set.ordered has
 

@@ -17,7 +17,7 @@ use Rattle.ndc_model_sets.proofs.SetLemmas.{at-cases}
 use Rattle.ndc_state.specs.Replay.{history_of}
 use Rattle.ndc_laws_cells.proofs.KindLemmas.{one_if}
 
--- arrival of a new batch, by whether it goes in front or behind the first
+-- arrival of a new batch, by whether it goes before or after the first
 pub arrived-cases : (P : List Batch → Type 0) (new b : Batch) (bs : List Batch) → batch_at new.key (b ∷ bs) ≡ None
     → P (new ∷ b ∷ bs) → (batch_at new.key bs ≡ None → P (b ∷ arrived new bs)) → P (arrived new (b ∷ bs))
 arrived-cases P new b bs fresh front behind = by (key_lt new.key b.key) (key_eq new.key b.key) refl

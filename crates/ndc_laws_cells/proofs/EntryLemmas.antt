@@ -133,7 +133,7 @@ as-write all part domain workflow version originals entry e small seconds = reco
       small = s;
     }
 
--- kinds that go below a tip: they replay, their copies name originals, and where they end by going on, it is as the run of the key behind
+-- kinds that go below a tip: they replay, their copies name originals, and where they end by going on, it is as the run of the next key
 pub record IsBelow (all : List Batch) (s : StateValue) (version : ℕ) (next : RunId) (kinds : List EventKind) : Type 0 where
   pub first : EventKind
   pub rest : List EventKind

@@ -65,7 +65,7 @@ place-irrefl place l = by (place-parts place place l)
     by (inl e) = not-less place.domain e
     by (inr (d, w)) = workflow w
 
--- a batch is not at a place that comes behind its own
+-- a batch is not at a place that comes after its own
 at-not : (place : Place) (b : Batch) → place_lt (place_of b) place ≡ true → is_at place b ≡ false
 at-not place b l = by (is_at place b) refl
   where
@@ -89,7 +89,7 @@ pub or-none : {X : Type 0} (o : Option X) → option_or o None ≡ o
 or-none None = refl
 or-none (Some x) = refl
 
--- what is found behind a putting: what was there, or else the new batch
+-- what is found after a putting: what was there, or else the new batch
 pub placed-there : (new : Batch) (bs : List Batch) (q : Place) → AreInOrder bs → batch_there (placed new bs) q ≡ option_or (batch_there bs q) (batch_there (new ∷ []) q)
 placed-there new [] q order = refl
 placed-there new (b ∷ bs) q order =

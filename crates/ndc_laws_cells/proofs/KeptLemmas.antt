@@ -68,7 +68,7 @@ own-is own all b sent e = by (is_some b.carrier) refl e
     by true at e = absurd (cc)
     by false at e = (at, let same : message_of own all b ≡ sent = cc in same)
 
--- the first batch of a run that goes on is the one behind its carrier
+-- the first batch of a run that goes on is the one after its carrier
 pub carried-by : (b s : Batch) → s.carrier ≡ Some b.key → is_carrier_fit s.key s.parent s.carrier ≡ true → IsCarriedBy b s
 carried-by b s e fit = record { key = key; parent = none-is s.parent (alone (is_some s.parent) p.0); carrier = e }
   where
@@ -175,7 +175,7 @@ module _ (all : List Batch) (sent : Message) (cell : Cell) (kept : IsKept all se
   second-back = if-some PointsBack sent.second (λ s e. faultless-back s (kept.sound.faultless s (second-of s e).has))
 
   module _ (is : IsCell cell) where
-    -- what has arrived behind it
+    -- what has arrived after it
     pub arrived-then : has_arrived sent.batch cell ≡ false → arrived_of domain workflow (arrived_at sent cell) ≡ arrived_second sent.second (arrived sent.batch held)
     unfolding arrived_at
     arrived-then fresh = by (has_arrived sent.batch cell) fresh

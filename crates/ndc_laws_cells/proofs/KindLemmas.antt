@@ -24,11 +24,11 @@ use Rattle.ndc_text.specs.Ranges.{KindFits, is_run}
 use Rattle.ndc_laws_cells.specs.Entries.{IsPlain}
 use Rattle.ndc_laws_cells.proofs.PlanLemmas.{close-each, kinds_by, planned-below, planned-each, row-each, wake-each}
 
--- the kind is no original signal
+-- the kind is not an original signal
 abbrev pub IsQuiet : EventKind → Type 0
 IsQuiet kind = is_original kind ≡ false
 
--- what is no copied signal names originals
+-- what is not a copied signal names originals
 pub plain-names : (all : List Batch) (run : RunId) (k : EventKind) → IsPlain run k → NamesOriginal all k
 plain-names all run k plain name input origin e = let copied : Some origin ≡ None = subst (IsPlain run) e plain in absurd (cc)
 

@@ -31,7 +31,7 @@ either-way m n = by (nat_lt m n) refl (nat_lt n m) refl
     by false e true f = inr (inr (grind (arith, nat_tests)))
     by false e false f = inr (inl (grind (arith, nat_tests)))
 
--- events that follow come behind
+-- events that follow come after
 follow-behind : (id : ℕ) (es : List Event) (e : Event) → follow_from id es ≡ true → Among e es → id < e.id
 follow-behind id [] e follows h = absurd h
 follow-behind id (x ∷ es) e follows (inl same) =

@@ -45,7 +45,7 @@ pub more-all : (P : Batch → Type 0) (b : Batch) (second : Option Batch) (bs : 
 more-all P b None bs p q all = all-placed P b bs p all
 more-all P b (Some s) bs p q all = all-placed P s (placed b bs) q (all-placed P b bs p all)
 
--- what is found behind: what was there, or else one of them
+-- what is found after it: what was there, or else one of them
 pub more-there : (b : Batch) (second : Option Batch) (bs : List Batch) (q : Place) → AreInOrder bs → batch_there (more b second bs) q ≡ option_or (batch_there bs q) (batch_there (news b second) q)
 more-there b None bs q order = placed-there b bs q order
 more-there b (Some s) bs q order =

@@ -69,7 +69,7 @@ module _ (P : EventKind → Type 0) (run : RunId) where
       (repeated-each (events_before point history) (λ e h. each e (filter-among _ history e h).1))
       (failed, (scheduled, repeated-each (signals_onward point history) (λ e h. each e (filter-among _ history e h).1)))
 
--- a repeated kind is no original signal
+-- a repeated kind is not an original signal
 repeated-quiet : (run : RunId) (id version : ℕ) (k : EventKind) → IsQuiet (repeated run id version k)
 repeated-quiet run id version (kind.WorkflowExecutionSignaled _ _ _) = refl
 repeated-quiet run id version _ = refl
@@ -161,7 +161,7 @@ close-planned s version limit run running full = by s.running refl running full
 close-stays : (s : StateValue) (version : ℕ) → goes_on_as (reset_close s version) ≡ None
 close-stays s version = goes-behind (failover_close s version) (kind.WorkflowExecutionTerminated (codes "reset")) []
 
--- what a reset gives: the first batch of a new run, or that behind one that closes the old run
+-- what a reset gives: the first batch of a new run, or that after one that closes the old run
 module _ (part : List Batch) (version : ℕ) (domain workflow : Name) (limit : ℕ) where
   abbrev key : BatchKey
   key = next_key version part
@@ -245,7 +245,7 @@ module _ (all part : List Batch) (version : ℕ) (may : MayAdd all part version)
           first-entry all may.sound may.named (next_key version part) (next-newest all part version may) (λ b has. let t = tasks b has in omega (arith, t))
           (let t = next-most all part version may (10 ^ 11) tasks in omega (arith, t)) domain workflow part kinds (reset-begins all (next_key version part) refl (λ b has. has)) stays-on
 
-      -- the new run behind the batch that closes the old one
+      -- the new run after the batch that closes the old one
       pub behind-entry : (other : List Batch) → IsEntryOf all part domain workflow version (closing_of part version domain workflow limit tip)
           → IsEntryOf (arrived (closing_of part version domain workflow limit tip).batch all) other domain workflow version (first_of part version domain workflow limit (key_behind (next_key version part)) kinds)
       behind-entry other close =
@@ -312,7 +312,7 @@ module _ (all part : List Batch) (version : ℕ) (may : MayAdd all part version)
         (one-entry all part version may tip is_tip limit point kinds is (few-tasks all part version may few) domain workflow)
         (first-is-small domain workflow d w (next_key version part) (key-small all part version may few) None tt 0 (length all + 1) kinds reset-short (let t = next-task all part version may few in omega (arith, t))) tt
 
-    -- the new run behind the batch that closes the old one
+    -- the new run after the batch that closes the old one
     pub behind-write : (other : List Batch) → IsEntryOf all part domain workflow version (closing_of part version domain workflow limit tip)
         → IsWrite (arrived (closing_of part version domain workflow limit tip).batch all) other domain workflow version 0 (first_of part version domain workflow limit (key_behind (next_key version part)) kinds)
     behind-write other close =

@@ -85,7 +85,7 @@ pub beginning-replays : (run : RunId) (version : ℕ) (workflow_type : Name) →
 unfolding row
 beginning-replays run version workflow_type = refl
 
--- behind a batch with the newest key, the next key is the newest
+-- after a batch with the newest key, the next key is the newest
 pub behind-newest : (all : List Batch) (b : Batch) → IsSound all → IsNewest all b.key → IsNewest (arrived b all) (key_behind b.key)
 behind-newest all b sound newest x has same = by (was_or_new b all x sound.set.ordered has)
   where

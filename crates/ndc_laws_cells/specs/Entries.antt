@@ -17,7 +17,7 @@ use Rattle.ndc_laws_cells.specs.Adding.{Added}
 abbrev pub originals_in : List Batch → ℕ
 originals_in batches = count_kinds is_original (flat_map (λ b. b.events) batches)
 
--- how much a batch holds: so many original signals at most, no more events than a history may have with what goes before and behind a
+-- how much a batch holds: so many original signals at most, no more events than a history may have with what goes before and after a
 -- command, a task up to this one, and numbers in the ranges of batch texts
 pub record IsSmall (originals tasks : ℕ) (b : Batch) : Type 0 where
   pub originals_most : count_kinds is_original b.events ≤ originals
@@ -58,7 +58,7 @@ pub record IsEntryOf (all part : List Batch) (domain workflow : Name) (version :
   pub goes : goes_on entry.batch ≡ is_some entry.second
   pub second : IfSome entry.second (IsCarriedIn all entry.batch)
 
--- what a writer with this version adds at once: one entry, or a batch that closes a run and behind it the first one of a new run, whatever
+-- what a writer with this version adds at once: one entry, or a batch that closes a run and after it the first one of a new run, whatever
 -- is learned then
 pub record AddsOne (all part : List Batch) (domain workflow : Name) (version : ℕ) (entries : List Entry) : Type 0 where
   pub entry : Entry
@@ -109,7 +109,7 @@ pub record WritesAlone (all part : List Batch) (domain workflow : Name) (version
   pub lone : entry.second ≡ None
   pub may_be : IsWrite all part domain workflow version 0 entry
 
--- a batch is written that closes a run, and behind it the first one of a new run, whatever is learned then; neither carries another
+-- a batch is written that closes a run, and after it the first one of a new run, whatever is learned then; neither carries another
 pub record WritesBehind (all part : List Batch) (domain workflow : Name) (version : ℕ) (entries : List Entry) : Type 0 where
   pub closing : Entry
   pub entry : Entry
@@ -119,7 +119,7 @@ pub record WritesBehind (all part : List Batch) (domain workflow : Name) (versio
   pub may_close : IsWrite all part domain workflow version 1 closing
   pub may_be : (other : List Batch) → IsWrite (arrived closing.batch all) other domain workflow version 0 entry
 
--- the kind is no copied signal, and where a run goes on by it, it does so as this one
+-- the kind is not a copied signal, and where a run goes on by it, it does so as this one
 abbrev pub IsPlain : RunId → EventKind → Type 0
 IsPlain run (kind.WorkflowExecutionSignaled name input from) = from ≡ None
 IsPlain run (kind.WorkflowExecutionContinuedAsNew next workflow_type) = next ≡ run

@@ -68,10 +68,10 @@ module _ (header : Header) (well : IsWellFormedHeader header) (lines : ℕ) (w :
           subst (λ (l : List Entry). MayWriteAll domain workflow l here) (sym one.are)
           (entry-may header lines w is cluster names.known domain workflow there m.version 1 one.entry m.with.by_record one.may_be, tt)
 
-  -- a batch that closes a run, and the first one of a new run behind it
+  -- a batch that closes a run, and the first one of a new run after it
   module _ (few : lines < 100000) (version : ℕ) (writer : IsWriter home domain version) (closing entry : Entry) (lone_closing : closing.second ≡ None)
       (close : IsWrite before part domain workflow version 1 closing) (write : (other : List Batch) → IsWrite (arrived closing.batch before) other domain workflow version 0 entry) where
-    -- the same world behind one line more
+    -- the same world after one line more
     later : IsReached header (lines + 1) w
     later = more-lines header lines w few is
 

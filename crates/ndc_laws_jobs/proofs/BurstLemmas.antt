@@ -21,7 +21,7 @@ use Rattle.ndc_model.specs.Allowed.{burst_jobs, job_for}
 use Rattle.ndc_laws_jobs.proofs.AskLemmas.{command-allowed}
 use Rattle.ndc_laws_jobs.proofs.ComeLemmas.{allowed-more}
 
--- the world behind a command is that behind its job
+-- the world after a command is that after its job
 command-behind : (header : Header) (cluster : ClusterNo) (domain workflow : Name) (command : Command) (w : World)
     → (command_step header cluster domain workflow command w).world ≡ world_after header cluster (job_for header domain workflow (job.Command domain workflow command) ∷ []) w
 unfolding command_step jobs_done

@@ -38,7 +38,7 @@ use Rattle.ndc_model_sets.proofs.Lists.{Among, all-among, all-from, filter-among
 use Rattle.ndc_model_cells.specs.Allowed.{IsAllowed}
 use Rattle.ndc_laws_jobs.proofs.OneLemmas.{may-arrive}
 
--- one job first, and then others in the world behind it
+-- one job first, and then others in the world after it
 pub allowed-more : (header : Header) (cluster : ClusterNo) (w : World) → IsShaped header w → IsCluster header cluster → (asked : ShardJob) (jobs : List ShardJob)
     → IsAllowed (home_at header cluster w) asked.job (cell_at cluster asked.shard w) → MayDoAll IsAllowed header cluster jobs (world_after header cluster (asked ∷ []) w)
     → MayDoAll IsAllowed header cluster (asked ∷ jobs) w

@@ -61,7 +61,7 @@ module _ (it : Write) where
   abbrev waiting : List Message
   waiting = filter (λ sent. is_of b.domain b.workflow sent.batch) cell.waiting
 
-  -- what is learned behind the writing is sound
+  -- what is learned after the writing is sound
   still-sound : IsSound (learned_of b.domain b.workflow new)
   still-sound = found-sound (all_written header at (behind it)) b.domain b.workflow new ((writing-kept it).sound b.domain b.workflow) fit.once fit.written
     where

@@ -29,7 +29,7 @@ of-names : (one two : Batch) → two.domain ≡ one.domain → two.workflow ≡ 
 of-names one two d u =
     and_from (bytes_eq two.domain one.domain) (bytes_eq two.workflow one.workflow) ((bytes_eq-Decides two.domain one.domain).1 d) ((bytes_eq-Decides two.workflow one.workflow).1 u)
 
--- one that comes behind is of the same workflow, or of a later one
+-- one that comes after is of the same workflow, or of a later one
 earlier-or : (one two : Batch) → place_lt (place_of one) (place_of two) ≡ true → (is_of one.domain one.workflow two ≡ true) ⊎ IsEarlier one two
 earlier-or one two l = by (place-parts (place_of one) (place_of two) l)
   where
@@ -57,7 +57,7 @@ earlier-place : (one two : Batch) → IsEarlier one two → place_lt (place_of o
 earlier-place one two (inl less) = place-from (place_of one) (place_of two) (inl less)
 earlier-place one two (inr (d, less)) = place-from (place_of one) (place_of two) (inr (d, inl less))
 
--- an earlier workflow is not that of what comes behind
+-- an earlier workflow is not that of what comes after
 not-before : (one two other : Batch) → IsEarlier one two → place_lt (place_of two) (place_of other) ≡ true → is_of one.domain one.workflow other ≡ true → ⊥
 not-before one two other early l own =
     place-irrefl (place_of other) (place-trans (place_of other) (place_of two) (place_of other) (earlier-place other two (earlier-same one other two own early)) l)

@@ -66,7 +66,7 @@ module _ (w : World) where
       ap (λ (c : Cluster). record (bare w) { clusters = slice_set (bare w).clusters cluster.number (record c { table = table }); links = map (with_late cluster c.table table) w.links }) (cluster-bare cluster)
       ∙ put-bare cluster (record (cluster_at cluster w) { table = table }) (map (with_late cluster (cluster_at cluster w).table table) w.links)
 
-  -- a cluster changes in what is no report
+  -- a cluster changes in what is not a report
   pub changed-bare : (cluster : ClusterNo) (change : Cluster → Cluster) → ((c : Cluster) → change (bare_cluster c) ≡ bare_cluster (change c))
       → with_cluster cluster (change (cluster_at cluster (bare w))) (bare w) ≡ bare (with_cluster cluster (change (cluster_at cluster w)) w)
   changed-bare cluster change same =

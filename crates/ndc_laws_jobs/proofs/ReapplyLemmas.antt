@@ -82,7 +82,7 @@ module _ (header : Header) (lines : ℕ) (keeps : ApplyingKeeps header lines) (c
   abbrev Room : World → Name → Name → Type 0
   Room w domain workflow = owns header cluster w domain ≡ true → count_in header domain workflow w + 1 ≤ 2 * lines
 
-  -- a world behind some reapplication: it is as it should be, its tables are the same, and nothing more is written of some workflows
+  -- a world after some reapplication: it is as it should be, its tables are the same, and nothing more is written of some workflows
   record Leaves (same : Name → Name → Type 0) (w v : World) : Type 0 where
     reached : IsReached header lines v
     tables : tables_in v ≡ tables_in w

@@ -13,21 +13,30 @@ ghost use Rattle.ndc_model_cells.specs.Allowed.{IsAllowed, MayArrive};
 
 /// A message of what was written may arrive at each cluster, in the shard where its workflow lives.
 pub fn a_message_of_what_was_written_may_arrive()
-    ensures { (header : Head) (lines : ℕ) (w : World) (cluster : Number) (shard : ℕ) (sent : Sent) → IsCluster header cluster → shard < header.shards → IsReached header lines w
+    ensures { (header : Head) (lines : ℕ) (w : World) (cluster : Number) (shard : ℕ) (sent : Sent)
+        → IsCluster header cluster → shard < header.shards → IsReached header lines w
         → IsMessageTrue header shard w sent → MayArrive sent (cell_at cluster shard w) }
 {}
 
 /// All that is in flight to a cluster may arrive, one message after the other, and all entries that are due to it.
 pub fn what_is_in_flight_or_due_may_arrive()
-    ensures flights { (header : Head) (lines : ℕ) (reader : Number) (w : World) → IsCluster header reader → IsReached header lines w → MayDoAll IsAllowed header reader (flight_jobs header reader w) w }
-    ensures due { (header : Head) (lines : ℕ) (reader : Number) (w : World) → IsCluster header reader → IsReached header lines w → MayDoAll IsAllowed header reader (due_jobs header reader w) w }
+    ensures flights { (header : Head) (lines : ℕ) (reader : Number) (w : World)
+        → IsCluster header reader → IsReached header lines w
+        → MayDoAll IsAllowed header reader (flight_jobs header reader w) w }
+    ensures due { (header : Head) (lines : ℕ) (reader : Number) (w : World)
+        → IsCluster header reader → IsReached header lines w
+        → MayDoAll IsAllowed header reader (due_jobs header reader w) w }
 {}
 
 /// The ancestors of what is put off may arrive, what a late member lacks of a source, and the messages of letters.
 pub fn what_is_sent_again_may_arrive()
-    ensures resent { (header : Head) (lines : ℕ) (reader : Number) (w : World) → IsCluster header reader → IsReached header lines w → MayDoAll IsAllowed header reader (again_jobs header reader w) w }
-    ensures late { (header : Head) (lines : ℕ) (reader source : Number) (w : World) → AreTwoClusters header reader source → IsReached header lines w
+    ensures resent { (header : Head) (lines : ℕ) (reader : Number) (w : World)
+        → IsCluster header reader → IsReached header lines w
+        → MayDoAll IsAllowed header reader (again_jobs header reader w) w }
+    ensures late { (header : Head) (lines : ℕ) (reader source : Number) (w : World)
+        → AreTwoClusters header reader source → IsReached header lines w
         → MayDoAll IsAllowed header reader (late_jobs header reader source w) w }
-    ensures letters { (header : Head) (lines : ℕ) (reader : Number) (w : World) → IsCluster header reader → 0 < header.shards → IsReached header lines w
+    ensures letters { (header : Head) (lines : ℕ) (reader : Number) (w : World)
+        → IsCluster header reader → 0 < header.shards → IsReached header lines w
         → MayDoAll IsAllowed header reader (letter_jobs header reader w) w }
 {}

@@ -13,6 +13,8 @@ ghost use Rattle.ndc_model_sets.specs.Sets.{Has};
 
 /// The author of each batch that was written, the cluster that writes with its version, has learned it.
 pub fn authors_have_learned_what_was_written()
-    ensures { (header : Head) (lines : ℕ) (w : World) (shard : ℕ) (b : One) → IsReached header lines w → shard < header.shards → IsAmong (all_written header shard w) b
-        → Has (learned_of b.domain b.workflow (cell_by shard w (writer_of header.clusters b.key.version))) b }
+    ensures { (header : Head) (lines : ℕ) (w : World) (shard : ℕ) (b : One)
+        → IsReached header lines w → shard < header.shards → IsAmong (all_written header shard w) b
+        → Has (learned_of b.domain b.workflow
+        (cell_by shard w (writer_of header.clusters b.key.version))) b }
 {}

@@ -62,7 +62,7 @@ act-shares header lines number (act.Work cluster) w fit is it shares = stay-shar
 act-shares header lines number act.Settle w fit is it shares = settle-shares header w is.fair.records.tables shares
 act-shares header lines number other w fit is it shares = absurd it
 
--- the world behind a line of a script is that which it leads to from the world before it
+-- the world after a line of a script is that which it leads to from the world before it
 before-next : (header : Header) (front : List Line) (line : Line)
     → world_before header (front ++ line ∷ []) ≡ world_behind (world_before header front) (ran_from header (world_before header front) (lines_of_act line.number line.act))
 before-next header front line =
@@ -135,7 +135,7 @@ all-sharing count seed =
     Sharing : Line → Type 0
     Sharing line = IsSharing generated_header line.act
 
--- such a line is no burst: it is answered once
+-- such a line is not a burst: it is answered once
 plain-one : (header : Header) (number : ℕ) (asked : Act) → IsSharing header asked → length (lines_of_act number asked) ≡ 1
 plain-one header number (act.Command cluster domain workflow command) it = refl
 plain-one header number (act.Register at domain target days members) it = refl
@@ -173,7 +173,7 @@ generated-answers count seed =
       drawn-count count 1 seed,
     )
 
--- the world behind so many made lines
+-- the world after so many made lines
 module _ (count seed : ℕ) (most : count ≤ 99000) where
   abbrev front : List Line
   front = first_lines ++ drawn_lines count 1 seed

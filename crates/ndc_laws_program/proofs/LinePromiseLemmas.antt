@@ -1,4 +1,4 @@
--- What is promised behind each kind of line of a script holds.
+-- What is promised after each kind of line of a script holds.
 use Rattle.std.proofs.Common.{ℕ, List, ◌∷◌, ◌++◌, subst}
 use Rattle.std.specs.Prelude.{◌&&◌}
 use Rattle.ndc_script_types.specs.WellFormed.{IsWellFormed}

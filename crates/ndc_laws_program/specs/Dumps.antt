@@ -17,7 +17,7 @@ abbrev pub LearnedCanBeDumped : Header → World → Type 0
 LearnedCanBeDumped header w = (cluster : ClusterNo) (domain workflow : Name) → IsWorkflowAt header cluster domain workflow → learned_at header cluster domain workflow w ≢ []
     → CanBeDumped domain workflow (learned_at header cluster domain workflow w)
 
--- an answer holds a dump of a workflow behind how many batches there are: it is read, and printed again it is the same
+-- an answer holds a dump of a workflow after how many batches there are: it is read, and printed again it is the same
 pub record HoldsDump (domain workflow : Name) (answer : List ℕ) : Type 0 where
   pub text : List ℕ
   pub dump : Dump

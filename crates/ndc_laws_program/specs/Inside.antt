@@ -22,12 +22,12 @@ abbrev pub AnswersEach : Header → ClusterNo → List ShardJob → World → Ty
 AnswersEach header cluster jobs w =
     (front back : List ShardJob) (shard : ℕ) (sent : Message) → jobs ≡ front ++ arrives shard sent ∷ back → IsAnswered header (behind_jobs header cluster front w) cluster shard sent
 
--- a round of settlement, behind which these readers, and of the next one these sources, are done with what members lack that are late
+-- a round of settlement, after which these readers, and of the next one these sources, are done with what members lack that are late
 abbrev pub at_source : Header → Trace → List ClusterNo → ClusterNo → List ClusterNo → World
 at_source header t readers reader sources =
     (fold (bootstrapped header reader) (fold (reader_bootstrapped header) (quietly (tables_merged header) t) readers) sources).world
 
--- the same round, behind which these readers are done with what is due to them
+-- the same round, after which these readers are done with what is due to them
 abbrev pub at_reader : Header → Trace → List ClusterNo → World
 at_reader header t readers = (fold (due_arrived header) (all_bootstrapped header (quietly (tables_merged header) t)) readers).world
 

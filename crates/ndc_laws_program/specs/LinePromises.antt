@@ -1,4 +1,4 @@
--- What is promised behind each kind of line, of the world in which it runs.
+-- What is promised after each kind of line, of the world in which it runs.
 use Rattle.std.specs.Prelude.{◌≡◌, ◌≢◌, ◌⊎◌, ℕ, ◌<◌, ◌≤◌, true, false, List, [], ◌∷◌, ◌++◌, codes, length, slice_get, Some, Ok}
 use Rattle.std.specs.List.{AllByRecursion}
 use Rattle.ndc_script_types.specs.declared.script.Act.{Act}
@@ -28,7 +28,7 @@ use Rattle.ndc_model_sets.specs.Branches.{current_tip}
 use Rattle.ndc_model_sets.specs.Sets.{Has}
 use Rattle.ndc_text.specs.Text.{batch_text}
 
--- the world behind a line that runs in this one
+-- the world after a line that runs in this one
 abbrev pub behind : Header → Act → World → World
 behind header asked w = (act_step header asked w).world
 

@@ -26,7 +26,7 @@ use Rattle.ndc_model.specs.World.{World, cluster_at}
 abbrev pub AtEach : Script → Act → (World → Type 0) → Type 0
 AtEach script asked P = (front back : List Line) (number : ℕ) → script.lines ≡ front ++ line number asked ∷ back → P (world_before script.header front)
 
--- every world of a script is as promised, and as it should be behind as many lines as led to it: fair, with open handovers, letters, beats and
+-- every world of a script is as promised, and as it should be after the lines that led to it: fair, with open handovers, letters, beats and
 -- reports as they should be; each version has one writer there; each closed part of what was written has one current branch a run; messages are
 -- answered by what has arrived; and reports are held as they were told
 pub record KeepsInWorlds (script : Script) : Type 0 where
@@ -37,7 +37,7 @@ pub record KeepsInWorlds (script : Script) : Type 0 where
   pub arrivals : AllByRecursion (AnswersArrivals script.header) (worlds_of script)
   pub reports : AllByRecursion (HoldsReports script.header) (worlds_of script)
 
--- behind each line of these kinds the world is as promised of it
+-- after each line of these kinds the world is as promised of it
 pub record KeepsBehindLines (script : Script) : Type 0 where
   pub settled : AtEach script act.Settle (λ w. IsSettled script.header (behind script.header act.Settle w))
   pub worked : (cluster : ClusterNo) → AtEach script (act.Work cluster) (λ w. HasWorked script.header cluster (behind script.header (act.Work cluster) w))
@@ -54,20 +54,20 @@ pub record KeepsBehindLines (script : Script) : Type 0 where
   pub overtaken : (at : ClusterNo) (domain : Name) → AtEach script (act.Complete at domain) (OvertakenEndsAlone script.header at domain)
   pub listed : (cluster : ClusterNo) → AtEach script (act.LettersOf cluster) (λ w. behind script.header (act.LettersOf cluster) w ≡ w)
 
--- where a handover is open behind some lines of a script, its old version is ended behind these and any further ones
+-- where a handover is open after some lines of a script, its old version is ended after these and any further ones
 abbrev pub EndsOldVersions : Script → Type 0
 EndsOldVersions script =
     (front more back : List Line) (handover : Handover) → script.lines ≡ (front ++ more) ++ back → IsAmong (world_before script.header front).handovers handover
     → IsEnded script.header handover (world_before script.header front) (world_before script.header (front ++ more))
 
--- behind some lines of a script each progress report that a cluster has was told by one of them, with bursts taken apart: by a `beat` of the cluster
+-- after some lines of a script each progress report that a cluster has was told by one of them, with bursts taken apart: by a `beat` of the cluster
 -- that writes with its version
 abbrev pub ReportsWereTold : Script → Type 0
 ReportsWereTold script =
     (front back : List Line) → script.lines ≡ front ++ back → (cluster : ClusterNo) → IsCluster script.header cluster
     → AllByRecursion (WasTold script.header (plain_lines front)) (cluster_at cluster (world_before script.header front)).reports
 
--- what is promised of every script: of its worlds, behind its lines, of versions that handovers have ended, and of progress reports
+-- what is promised of every script: of its worlds, after its lines, of versions that handovers have ended, and of progress reports
 pub record KeepsPromises (script : Script) : Type 0 where
   pub worlds : KeepsInWorlds script
   pub lines : KeepsBehindLines script

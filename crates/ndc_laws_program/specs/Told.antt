@@ -13,7 +13,7 @@ use Rattle.ndc_model.specs.World.{World, cluster_at, opening_world}
 use Rattle.ndc_progress.specs.declared.report.Report.{Report}
 
 -- a line that asks for this, from one world to another, told a report: it is a `beat` of the cluster that writes with the report's version, and
--- puts the report behind those of the cluster
+-- puts the report after those of the cluster
 pub record Tells (header : Header) (asked : Act) (w v : World) (report : Report) : Type 0 where
   pub cluster : ClusterNo
   pub domain : Name

@@ -35,7 +35,7 @@ ClosedPartsHaveOneCurrent header w =
     (domain workflow : Name) (part : List Batch) → IsSet part → IsClosed part → IsPart part (written_of header domain workflow w) → EachHasOneCurrent part × TipsDiffer part
 
 -- progress reports: two of one activity, version and beat are one, and each stands in the list of the cluster that writes with its version;
--- clusters that have the same hold the same; and what is held behind taking over those of others does not depend on their order or number
+-- clusters that have the same hold the same; and what is held after taking over those of others does not depend on their order or number
 pub record HoldsReports (header : Header) (w : World) : Type 0 where
   pub agree : ReportsAgree header w
   pub same : (one two : ClusterNo) (activity : ActivityRef) → IsCluster header one → IsCluster header two → HaveTheSameReports one two w

@@ -32,7 +32,7 @@ pub fn settled_clusters_that_share_all_domains_are_the_same()
     ensures { (header : Head) (lines : ℕ) (w : World) → IsReached header lines w → IsSettled header w → SharesAll header w → (totals_of header w).same ≡ true }
 {}
 
-/// Behind each generated script the clusters are the same.
+/// After each generated script the clusters are the same.
 pub fn generated_scripts_leave_all_clusters_the_same()
     ensures { (count seed : ℕ) → count ≤ 99000 → (totals_of generated_header (world_before generated_header (generated_lines count seed))).same ≡ true }
 {}

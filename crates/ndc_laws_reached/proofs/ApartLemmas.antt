@@ -27,7 +27,7 @@ pub pairs-from : {X : Type 0} (xs : List X) → Differ xs → AllPairs (λ one t
 pairs-from [] differ = λ i j d l m. absurd (omega (arith, m))
 pairs-from (x ∷ xs) differ = AllPairs-cons (λ one two. one ≢ two) x xs (All-from_recursion (λ y. x ≢ y) xs (all-from (λ y. x ≢ y) xs differ.0)) (pairs-from xs differ.1)
 
--- where lists are apart, one behind the other differs
+-- where lists are apart, one after the other differs
 differ-append : {X : Type 0} (xs ys : List X) → Differ xs → Differ ys → ((x : X) → Among x xs → Among x ys → ⊥) → Differ (xs ++ ys)
 differ-append [] ys one two apart = two
 differ-append {X = X} (x ∷ xs) ys one two apart = (first, differ-append xs ys one.1 two (λ y h k. apart y (inr h) k))

@@ -255,7 +255,7 @@ module _ (header : Header) (lines : ℕ) (w : World) (is : IsReached header line
     named = is.fair.members.arrived cluster shard known below;
   }
 
-  -- the cell behind the arrival
+  -- the cell after the arrival
   pub arrival-grown : IsGrown header w shard cluster (cell_at cluster shard w) (arrived_at sent (cell_at cluster shard w))
   unfolding arrived_at
   arrival-grown = by (has_arrived sent.batch cell) refl

@@ -25,7 +25,7 @@ use Rattle.ndc_laws_reached.proofs.FrameLemmas.{named_by}
 use Rattle.ndc_laws_reached.proofs.ArrivalLemmas.{arrival-grown, arrived-itself, arrived-stays, second-arrived}
 use Rattle.ndc_laws_reached.proofs.CellLemmas.{IsGrown, IsKept, by-cell, cell-grown}
 
--- the world behind jobs of a cluster
+-- the world after jobs of a cluster
 abbrev pub world_after : Header → ClusterNo → List ShardJob → World → World
 world_after header cluster jobs w = with_cells cluster (cells_after (home_at header cluster w) jobs (cluster_at cluster w).cells) w
 
@@ -113,7 +113,7 @@ brought-then header lines cluster u v w one two = record {
   others = λ other shard apart. two.others other shard apart ∙ one.others other shard apart;
 }
 
--- what has arrived has arrived behind what is brought
+-- what has arrived has arrived after what is brought
 some-grows : (header : Header) (lines : ℕ) (cluster : ClusterNo) (w v : World) → IsBrought header lines cluster w v → (shard : ℕ) (b : Batch) → has_arrived b (cell_at cluster shard w) ≡ true → has_arrived b (cell_at cluster shard v) ≡ true
 some-grows header lines cluster w v brought shard b h = by (batch_there (cell_at cluster shard w).arrived (place_of b)) refl h
   where

@@ -1,4 +1,4 @@
--- Behind the arrivals of a settlement all that was written of a domain has arrived at each of its members.
+-- After the arrivals of a settlement all that was written of a domain has arrived at each of its members.
 use Rattle.std.proofs.Common.{◌≡◌, ℕ, ◌<◌, Bool, true, false, ◌||◌, not, if◌then◌else◌, List, [], ◌∷◌, take, drop, Option, Some, None, ◌⊎◌, inl, inr, refl, sym, ◌∙◌, subst, ap, true≢false}
 use Rattle.std.specs.Prelude.{◌==◌, find, is_some, option_to_list}
 use Rattle.std.specs.List.{filter, flat_map, fold, list_any}
@@ -117,7 +117,7 @@ written-message header w shard b among = by (in_order-among (flat_map (λ c. fla
         let g = flat-among both (cell_at f.0 shard w).written b f.2 in
         (f.0, clusters-among (count_of header.clusters) f.0 f.1, (g.0, g.1, g.2))
 
--- what had arrived at any cluster has arrived still behind what is brought to one
+-- what had arrived at any cluster has arrived still after what is brought to one
 pub brought-still : (header : Header) (lines : ℕ) (cluster : ClusterNo) (w v : World) → IsBrought header lines cluster w v → (other : ClusterNo) (shard : ℕ) (b : Batch) → has_arrived b (cell_at other shard w) ≡ true
     → has_arrived b (cell_at other shard v) ≡ true
 brought-still header lines cluster w v brought other shard b there = by (other.number == cluster.number) refl
@@ -229,7 +229,7 @@ module _ (header : Header) (lines : ℕ) (w : World) (none : NoneLate header w) 
                     subst (λ (d : Name). names_cluster reader (record_of (table_at f.0 u) d) ≡ true) (message-domain header lines u kept.reached f.0 shard f.1 below f.2.0 b f.2.1 f.2.2)
                     (subst (λ (table : List DomainRecord). names_cluster reader (record_of table b.domain) ≡ true) one named)
 
-  -- behind what is due to another cluster all has arrived still
+  -- after what is due to another cluster all has arrived still
   all-stays : (reader other : ClusterNo) → IsCluster header other → (t : Trace) → (kept : IsKept header lines w t.world) → HasAll header t.world reader → HasAll header (due_arrived header t other).world reader
   all-stays reader other also t kept has shard below b written named =
       let brought = (due-brought other also t kept).0 in
@@ -237,7 +237,7 @@ module _ (header : Header) (lines : ℕ) (w : World) (none : NoneLate header w) 
       (has shard below b (subst (λ (f : ℕ → List Batch). Among b (f shard)) brought.kept.batches written)
       (subst (λ (f : ClusterNo → List DomainRecord). names_cluster reader (record_of (f reader) b.domain) ≡ true) brought.kept.tables named))
 
-  -- behind all that is due
+  -- after all that is due
   pub dues-came : IsReached header lines w → (t : Trace) → t.world ≡ w → IsKept header lines w (fold (due_arrived header) t (all_clusters header)).world
       × ((cluster : ClusterNo) → IsCluster header cluster → HasAll header (fold (due_arrived header) t (all_clusters header)).world cluster)
   dues-came is t same = (

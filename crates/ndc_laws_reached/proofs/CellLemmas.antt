@@ -36,7 +36,7 @@ pub record IsGrown (header : Header) (w : World) (shard : ℕ) (cluster : Cluste
   pub messages : AreMessagesTrue header w shard new
   pub named : AllByRecursion (λ b. is_named header cluster w b.domain ≡ true) new.arrived
 
--- a world behind another one, in which the same was written, tables are the same, and links are
+-- a world after another one, in which the same was written, tables are the same, and links are
 pub record IsKept (header : Header) (lines : ℕ) (w v : World) : Type 0 where
   pub reached : IsReached header lines v
   pub batches : batches_in header v ≡ batches_in header w

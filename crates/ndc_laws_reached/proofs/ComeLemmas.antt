@@ -1,4 +1,4 @@
--- What has arrived behind jobs in which messages arrive.
+-- What has arrived after jobs in which messages arrive.
 use Rattle.std.proofs.Common.{◌≡◌, ℕ, Bool, true, false, if◌then◌else◌, List, [], ◌∷◌, map, Option, Some, None, ◌⊎◌, inl, inr, refl, sym, ◌∙◌, subst, ap, true≢false}
 use Rattle.std.specs.Option.{option_or}
 use Rattle.std.specs.Prelude.{is_some, option_to_list}
@@ -20,7 +20,7 @@ use Rattle.ndc_model_sets.proofs.Lists.{Among, map-among}
 use Rattle.ndc_laws_cells.proofs.FoundLemmas.{in_order-ordered, order-finds, placed-stays, placed-there, there-among, there-place}
 use Rattle.ndc_laws_reached.proofs.WrittenLemmas.{flat-among, in_order-among, among-placed}
 
--- what has arrived behind an arrival had arrived, or is of the message
+-- what has arrived after an arrival had arrived, or is of the message
 arrival-from : (sent : Message) (cell : Cell) (x : Batch) → Among x (arrived_at sent cell).arrived → Among x cell.arrived ⊎ Among x (both sent)
 unfolding arrived_at
 arrival-from sent cell x = by (has_arrived sent.batch cell)
@@ -49,7 +49,7 @@ IsBroughtBy shard jobs x = (asked : ShardJob) × Among asked jobs × (asked.shar
 abbrev pub Arrives : ShardJob → Type 0
 Arrives asked = (sent : Message) × (asked.job ≡ Arrive sent)
 
--- what has arrived behind such jobs had arrived, or is of one of their messages
+-- what has arrived after such jobs had arrived, or is of one of their messages
 pub jobs-from : (home : Desk) (shard : ℕ) (jobs : List ShardJob) (cells : List Cell) (x : Batch) → AllByRecursion Arrives jobs → Among x (cell_for shard (cells_after home jobs cells)).arrived
     → Among x (cell_for shard cells).arrived ⊎ IsBroughtBy shard jobs x
 unfolding cells_after after_job

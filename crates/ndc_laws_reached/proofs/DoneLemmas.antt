@@ -1,4 +1,4 @@
--- A round of reapplication in which each writer has learned all that was written: behind it nothing is to be applied again.
+-- A round of reapplication in which each writer has learned all that was written: after it nothing is to be applied again.
 use Rattle.std.proofs.Common.{◌≡◌, ℕ, ◌+◌, ◌*◌, ◌<◌, ◌≤◌, Bool, true, false, ◌&&◌, if◌then◌else◌, List, [], ◌∷◌, length, slice_index_or, slice_set, Option, Some, None, Result, Ok, Err, ◌⊎◌, inl, inr, refl, sym, ◌∙◌, subst, ap, true≢false}
 use Rattle.std.specs.Prelude.{not}
 use Rattle.std.specs.Str.{bytes_eq}
@@ -105,7 +105,7 @@ pub record IsReady (header : Header) (lines : ℕ) (w : World) : Type 0 where
       → learned_of domain workflow (cell_of header cluster domain workflow w) ≡ written_of header domain workflow w
   pub room : (domain workflow : Name) → IsDone header domain workflow w ⊎ (count_in header domain workflow w + 1 ≤ 2 * lines)
 
--- a world behind such a one: what was done is done still
+-- a world after such a one: what was done is done still
 pub record IsOn (header : Header) (lines : ℕ) (w v : World) : Type 0 where
   pub ready : IsReady header lines v
   pub tables : tables_in v ≡ tables_in w
@@ -189,7 +189,7 @@ module _ (header : Header) (lines : ℕ) where
         learned other there domain workflow owned false e =
             learned-others domain workflow e other (shard_of domain workflow header.shards) ∙ is.learned other there domain workflow owned ∙ sym (applied.others domain workflow e)
 
-    -- one reapplication: behind that of a writer the workflow is done
+    -- one reapplication: after that of a writer the workflow is done
     pub step-on : ApplyingKeeps header lines → ApplyingSettles header lines → IsOn header lines w v × (owns header cluster w b.domain ≡ true → IsDone header b.domain b.workflow v)
     step-on keeps settles = by (owns header cluster w b.domain) refl
       where

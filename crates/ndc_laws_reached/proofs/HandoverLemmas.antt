@@ -106,7 +106,7 @@ complete_kept header lines at domain w is = by (handover_to at domain w) refl
     by (Some handover) e =
         completed handover (all-among (IsHandoverFit header w) w.handovers handover is.handovers.each (find-among (λ other. is_handover_of domain other && same_cluster other.to at) w.handovers handover e)) (ready_in handover w)
 
--- where nothing is found, the first item fails the test, and nothing is found behind it
+-- where nothing is found, the first item fails the test, and nothing is found after it
 first-fails : (t : Bool) (first : Handover) (rest : Option Handover) → cond t (Some first) rest ≡ None → (t ≡ false) × (rest ≡ None)
 first-fails true first rest e = absurd (cc)
 first-fails false first rest e = (refl, e)

@@ -1,4 +1,4 @@
--- Behind all bootstraps nothing is late; nothing comes into flight in a settlement.
+-- After all bootstraps nothing is late; nothing comes into flight in a settlement.
 use Rattle.std.proofs.Common.{◌≡◌, ℕ, suc, Bool, true, false, cond, List, [], ◌∷◌, ◌++◌, map, Option, Some, None, option_map, refl, sym, ◌∙◌, ap}
 use Rattle.std.specs.Prelude.{find, not}
 use Rattle.std.specs.List.{AllByRecursion, fold}
@@ -75,7 +75,7 @@ module _ (header : Header) (reader source : ClusterNo) where
       renewed-late (with_link one two (λ link. record link { late = [] }) (jobs_done header one (all_arrive (λ shard. learned_of_domains (link_at one two t.world).late (cell_at two shard t.world)) (shards_of header)) t).world) one
       (changed-late (is_link one two) t.world.links late)
 
--- a world behind all bootstraps
+-- a world after all bootstraps
 pub bootstraps-late : (header : Header) (lines : ℕ) (t : Trace) → IsReached header lines t.world → NoneLate header (fold (λ v reader. fold (bootstrapped header reader) v (others_of header reader)) t (all_clusters header)).world
 bootstraps-late header lines t is reader source two =
     (fold-visit (λ (u : Trace). IsReached header lines u.world) (λ (u : Trace). (link_at reader source u.world).late ≡ []) (λ v one. fold (bootstrapped header one) v (others_of header one)) (all_clusters header) reader

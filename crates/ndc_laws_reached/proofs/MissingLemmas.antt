@@ -18,11 +18,11 @@ pub data Up (held : List Batch) (first : Option BatchKey) : Option BatchKey → 
   stay : Up held first first
   more : (key : BatchKey) (c : Batch) → Up held first (Some key) → batch_at key held ≡ Some c → Up held first (earlier c)
 
--- what is wanted behind a walk down these
+-- what is wanted after a walk down these
 abbrev pub wanted_behind : Option BatchKey → List Batch → Option BatchKey
 wanted_behind first bs = (ancestors_down bs (record { wanted = first; path = [] })).wanted
 
--- a key of a batch is not that of one behind it, nor its own
+-- a key of a batch is not that of one after it, nor its own
 not-wanted : (x : Batch) (key : BatchKey) → key_lt key x.key ≡ true → is_wanted (Some key) x ≡ false
 not-wanted x key less = by (key_eq x.key key) refl
   where

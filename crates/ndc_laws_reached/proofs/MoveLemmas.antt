@@ -138,7 +138,7 @@ module _ (header : Header) (well : IsWellFormedHeader header) (lines : ℕ) (few
   there : place < header.shards
   there = shard-below domain workflow header.shards (let l = well.shards_least in omega (arith, l))
 
-  -- the same world behind one line more
+  -- the same world after one line more
   later : IsReached header (lines + 1) w
   later = lines_pass header lines (lines + 1) w (omega arith) (omega (arith, few)) is
 
@@ -174,7 +174,7 @@ module _ (header : Header) (well : IsWellFormedHeader header) (lines : ℕ) (few
           subst (λ (l : List Entry). IsReached header (lines + 1) (with_cell cluster place (with_all_written l here) w)) (sym one.are)
           (one-leaves m.version 1 one.entry (omega arith) m.with.by_record one.may_be).reached
 
-  -- the first batch of a reset's new run, behind the one that closes the old one
+  -- the first batch of a reset's new run, after the one that closes the old one
   module _ (version : ℕ) (writer : IsWriter (home_at header cluster w) domain version) (closing entry : Entry) (lone_closing : closing.second ≡ None) (lone : entry.second ≡ None)
       (close : IsWrite before (learned_of domain workflow here) domain workflow version 1 closing)
       (write : (other : List Batch) → IsWrite (arrived closing.batch before) other domain workflow version 0 entry) where

@@ -1,4 +1,4 @@
--- Behind a resend all that has arrived at the cluster is learned.
+-- After a resend all that has arrived at the cluster is learned.
 use Rattle.std.proofs.Common.{◌≡◌, ℕ, ◌<◌, Bool, true, false, cond, not, List, [], ◌∷◌, map, Option, Some, None, ◌⊎◌, inl, inr, refl, sym, ◌∙◌, subst, ap, arith, true≢false}
 use Rattle.std.specs.Prelude.{find, is_some, option_to_list}
 use Rattle.std.specs.List.{filter, flat_map}
@@ -255,7 +255,7 @@ module _ (header : Header) (lines : ℕ) (reader : ClusterNo) (known : IsCluster
           on : (p : Batch) × Among p (put_off_in old) × Among x (ancestors_of all p) → EarlierCame b
           on f = part f.0 f.1 f.2 (find (carries x) all) refl (subst (λ (m : Message). Among b (both m)) (sym same) of_it)
 
-  -- the cell behind the jobs
+  -- the cell after the jobs
   new-cell : new ≡ cell_for shard (cells_after (home_at header reader w) jobs (cluster_at reader w).cells)
   new-cell =
       ap (λ (c : Cluster). cell_for shard c.cells)
@@ -309,7 +309,7 @@ module _ (header : Header) (lines : ℕ) (reader : ClusterNo) (known : IsCluster
           ap (λ (list : List Batch). has_key (Some b.key) list) (closed_whole (arrived_of b.domain b.workflow new) set (closed b.domain b.workflow))
           ∙ ap is_some (among-has (arrived_of b.domain b.workflow new) b set.ordered (among-filter (is_of b.domain b.workflow) new.arrived b (own-names b) among))
 
--- behind a resend nothing is put off
+-- after a resend nothing is put off
 pub resent_whole : (header : Header) (lines : ℕ) (reader : ClusterNo) (w : World) (shard : ℕ) → IsCluster header reader → IsReached header lines w → shard < header.shards
     → put_off_in (cell_at reader shard (resent header reader w).world) ≡ []
 unfolding resent jobs_done renewed

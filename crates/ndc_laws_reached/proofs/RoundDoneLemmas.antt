@@ -1,4 +1,4 @@
--- A round of reapplication of all clusters: behind it each workflow is done; where each is done before, nothing changes.
+-- A round of reapplication of all clusters: after it each workflow is done; where each is done before, nothing changes.
 use Rattle.std.proofs.Common.{◌≡◌, ℕ, ◌<◌, Bool, true, false, List, [], ◌∷◌, map, inl, inr, refl, sym, ◌∙◌, subst, ap, arith}
 use Rattle.std.specs.List.{AllByRecursion, fold}
 use Rattle.ndc_script_types.specs.WellFormed.{IsCluster}

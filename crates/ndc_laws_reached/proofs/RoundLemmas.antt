@@ -27,7 +27,7 @@ use Rattle.ndc_laws_reached.proofs.WrittenLemmas.{arrived-written, lives, names-
 use Rattle.ndc_laws_reached.proofs.ApplyLemmas.{HasCell, applied_all, one-shard, reapplies}
 use Rattle.ndc_laws_reached.proofs.OwnLemmas.{AreApart, Rise, apart-flip, idle-applied, of-both, owns, owns_by, range-rises, workflows-among, workflows-apart}
 
--- a world behind a round of a cluster in some workflows: nothing more is written of other workflows, nor of a domain to
+-- a world after a round of a cluster in some workflows: nothing more is written of other workflows, nor of a domain to
 -- which the cluster does not write; one batch more of a workflow at most
 pub record IsRound (header : Header) (lines : ℕ) (cluster : ClusterNo) (touched : Name → Name → Type 0) (w v : World) : Type 0 where
   pub reached : IsReached header lines v
@@ -61,12 +61,12 @@ module _ (header : Header) (lines : ℕ) (keeps : ApplyingKeeps header lines) (c
   round-none : (touched : Name → Name → Type 0) (w : World) → IsReached header lines w → IsRound header lines cluster touched w w
   round-none touched w is = record { reached = is; tables = refl; rest = λ domain workflow never. refl; strange = λ domain workflow never. refl; most = λ domain workflow. omega arith }
 
-  -- one workflow, and the others behind it
+  -- one workflow, and the others after it
   module _ (shard : ℕ) (below : shard < header.shards) (b : Batch) (bs : List Batch) (w : World) (is : IsReached header lines w) (apart : AllByRecursion (λ other. is_of b.domain b.workflow other ≡ false) bs) where
     abbrev middle : World
     middle = applied_in header cluster shard b w
 
-    -- nothing of a workflow is written behind its own turn
+    -- nothing of a workflow is written after its own turn
     own-rest : (domain workflow : Name) (v : World) → IsRound header lines cluster (OfOne bs) middle v → is_of domain workflow b ≡ true → written_of header domain workflow v ≡ written_of header domain workflow middle
     own-rest domain workflow v round own =
         round.rest domain workflow

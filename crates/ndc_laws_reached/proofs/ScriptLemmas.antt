@@ -25,7 +25,7 @@ use Rattle.ndc_laws_reached.proofs.LineLemmas.{line_kept}
 abbrev pub Fits : Header → Line → Type 0
 Fits header line = IsWellFormedAct header line.act
 
--- the lines that stand for a well-formed act are well-formed
+-- the lines of a well-formed act are well-formed
 pub act-fits : (header : Header) (number : ℕ) (asked : Act) → IsWellFormedAct header asked → AllByRecursion (Fits header) (lines_of_act number asked)
 act-fits header number (act.Burst cluster jobs) fit = each jobs (all-listed IsWellFormedJob jobs fit.1)
   where
@@ -50,7 +50,7 @@ lines-short header (line ∷ lines) =
     omega (arith, act-short header line.number line.act, lines-short header lines, length-append (lines_of_act line.number line.act) (plain_lines lines), length-append (act_lines header line.act) (body_lines header lines))
 
 module _ (header : Header) (sound : IsWellFormedHeader header) (writes : (lines : ℕ) → lines < 100000 → WritingKeeps header lines) where
-  -- the worlds behind lines
+  -- the worlds after lines
   ran-kept : (list : List Line) (lines : ℕ) (w : World) → AllByRecursion (Fits header) list → lines + length list ≤ 100000 → IsReached header lines w
       → AllByRecursion (IsReachedSometime header) (map (λ run. run.step.world) (ran_from header w list))
   ran-kept [] lines w fit short is = tt

@@ -56,7 +56,7 @@ below-different (suc count) = behind (clusters_below count) (all-from (λ c. c.n
     behind [] below different = (tt, tt)
     behind (c ∷ cs) below different = (all-append (λ other. other.number ≢ c.number) cs (cluster_no count ∷ []) different.0 ((λ same. omega (arith, same, below.0)), tt), behind cs below.1 different.1)
 
--- a world behind a round of some clusters
+-- a world after a round of some clusters
 pub record AreRounds (header : Header) (lines : ℕ) (clusters : List ClusterNo) (w v : World) : Type 0 where
   pub reached : IsReached header lines v
   pub strange : (domain workflow : Name) → AllByRecursion (λ cluster. owns header cluster w domain ≡ false) clusters → written_of header domain workflow v ≡ written_of header domain workflow w
@@ -119,7 +119,7 @@ others-two header reader source known among = record {
     found : (not (same_cluster reader source) ≡ true) × Among source (all_clusters header)
     found = filter-among (λ other. not (same_cluster reader other)) (all_clusters header) source among
 
--- a world behind another one, in which the same was written and tables are the same
+-- a world after another one, in which the same was written and tables are the same
 pub record IsAlike (header : Header) (lines : ℕ) (w v : World) : Type 0 where
   pub reached : IsReached header lines v
   pub batches : batches_in header v ≡ batches_in header w

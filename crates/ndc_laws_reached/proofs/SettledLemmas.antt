@@ -230,7 +230,7 @@ module _ (header : Header) (sound : IsWellFormedHeader header) (lines : ℕ) (ke
   written-alike : (v w : World) → batches_in header v ≡ batches_in header w → (domain workflow : Name) → written_of header domain workflow v ≡ written_of header domain workflow w
   written-alike v w same domain workflow = ap (λ (f : ℕ → List Batch). filter (is_of domain workflow) (f (shard_of domain workflow header.shards))) same
 
-  -- behind the arrivals each writer is ready
+  -- after the arrivals each writer is ready
   arrivals-ready : (t : Trace) → IsReached header lines t.world → ((domain workflow : Name) → IsDone header domain workflow t.world ⊎ (count_in header domain workflow t.world + 1 ≤ 2 * lines)) → IsReady header lines (arrivals t).world
   arrivals-ready t is room = record {
     reached = come.0.reached;
@@ -249,7 +249,7 @@ module _ (header : Header) (sound : IsWellFormedHeader header) (lines : ℕ) (ke
       same domain workflow (inl done) = inl (subst HasNoStray (sym (written-alike (arrivals t).world t.world come.1 domain workflow)) done)
       same domain workflow (inr left) = inr (subst (λ (l : List Batch). length l + 1 ≤ 2 * lines) (sym (written-alike (arrivals t).world t.world come.1 domain workflow)) left)
 
-  -- behind a round each workflow is done
+  -- after a round each workflow is done
   once-done : (t : Trace) → IsReached header lines t.world → ((domain workflow : Name) → count_in header domain workflow t.world + 1 ≤ 2 * lines)
       → IsReached header lines (settled_once header t).world × ((domain workflow : Name) → IsDone header domain workflow (settled_once header t).world)
   unfolding settled_once

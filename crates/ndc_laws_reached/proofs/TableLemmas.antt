@@ -100,7 +100,7 @@ module _ (header : Header) (lines : ℕ) (cluster : ClusterNo) (table : List Dom
       list_any-one (λ other. names_cluster c (record_of (cluster_at other v).table domain)) (all_clusters header) f.0 f.1
       (names-grow (cluster_at f.0 w).table (cluster_at f.0 v).table (tables-grow f.0) c domain f.2)
 
-  -- links behind the table
+  -- links after the table
   ends-same : (link : Link) → ends_of (with_late cluster before table link) ≡ ends_of link
   ends-same link = by (same_cluster link.source cluster)
     where
@@ -171,7 +171,7 @@ module _ (header : Header) (lines : ℕ) (cluster : ClusterNo) (table : List Dom
   source-known : (link : Link) → Among link w.links → IsCluster header link.source
   source-known link among = (all-among (λ l. AreTwoClusters header l.reader l.source) w.links link is.shaped.ends among).second
 
-  -- a lane is true behind the table
+  -- a lane is true after the table
   lane-true : (link : Link) → Among link w.links → (shard : ℕ) → shard < header.shards → IsLaneTrue w link shard (lane_in link shard)
       → IsLaneTrue v (with_late cluster before table link) shard (lane_in (with_late cluster before table link) shard)
   lane-true link among shard below t = by (same_cluster link.source cluster) all_done

@@ -27,7 +27,7 @@ use Rattle.ndc_laws_reached.proofs.FrameLemmas.{batches_in, cells_in}
 use Rattle.ndc_laws_reached.proofs.LaneLemmas.{below-among}
 use Rattle.ndc_laws_reached.proofs.MergeLemmas.{merged_kept, table-offered}
 
--- what holds behind one item of a fold, and stays, holds behind all
+-- what holds after one item of a fold, and stays, holds after all
 fold-stays : {A B : Type 0} (I Q : B → Type 0) (f : B → A → B) (xs : List A) → ((b : B) (y : A) → Among y xs → I b → I (f b y) × (Q b → Q (f b y))) → (b : B) → I b → Q b → I (fold f b xs) × Q (fold f b xs)
 fold-stays I Q f [] step b is q = (is, q)
 fold-stays I Q f (y ∷ ys) step b is q = let r = step b y (inl refl) is in fold-stays I Q f ys (λ c z among. step c z (inr among)) (f b y) r.0 (r.1 q)
@@ -148,7 +148,7 @@ module _ (header : Header) (lines : ℕ) (start : World) where
 
   -- a cluster merges the tables of all others
   module _ (cluster : ClusterNo) (known : IsCluster header cluster) where
-    -- what stays behind each merge stays behind all
+    -- what stays after each merge stays after all
     all-spread : (Q : World → Type 0) → ((v : World) (other : ClusterNo) → IsCluster header other → IsSpread v → Q v → Q (takes cluster other v)) → (v : World) → IsSpread v → Q v
         → IsSpread (merged_all header v cluster) × Q (merged_all header v cluster)
     all-spread Q stays v is q =

@@ -59,7 +59,7 @@ link-there header w reader source shaped two =
     found : (link : Link) × Among link w.links × ((reader, source) ≡ ends_of link)
     found = map-among ends_of w.links (reader, source) (subst (λ (ends : List (ClusterNo × ClusterNo)). Among (reader, source) ends) (sym shaped.links) opening)
 
--- what holds of a longer front holds of a shorter one
+-- what holds of a longer prefix holds of a shorter one
 take-less : {X : Type 0} (P : X → Type 0) (n m : ℕ) (xs : List X) → n ≤ m → AllByRecursion P (take m xs) → AllByRecursion P (take n xs)
 take-less P zero m xs less all = tt
 take-less P (suc n) m [] less all = tt
@@ -152,13 +152,13 @@ module _ (header : Header) (reader source : ClusterNo) where
           by true = refl
           by false = refl
 
-  -- nothing is late behind a bootstrap
+  -- nothing is late after a bootstrap
   pub none-late : (t : Trace) → (link_at reader source (bootstrapped header reader t source).world).late ≡ []
   unfolding bootstrapped jobs_done
   none-late t =
       ended-late (with_link reader source never_late (jobs_done header reader (all_arrive (λ shard. learned_of_domains (link_at reader source t.world).late (cell_at source shard t.world)) (shards_of header)) t).world) t.world.links refl
 
--- behind a bootstrap nothing is trimmed that the reader has not learned, unless it is not addressed to it
+-- after a bootstrap nothing is trimmed that the reader has not learned, unless it is not addressed to it
 pub bootstrapped_fit : (header : Header) (lines : ℕ) (t : Trace) (reader source : ClusterNo) (shard : ℕ) → IsReached header lines t.world → AreTwoClusters header reader source → shard < header.shards
     → AllByRecursion (IsLearnedWhereAddressed reader source shard (bootstrapped header reader t source).world) (trimmed_of source shard (bootstrapped header reader t source).world)
 bootstrapped_fit header lines t reader source shard is two below =

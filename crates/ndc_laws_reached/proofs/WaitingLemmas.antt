@@ -18,11 +18,11 @@ filter-within p q (b ∷ bs) weaker = by (q b) refl (p b) refl (filter-within p 
     by false e true f rest = absurd (true≢false (sym (weaker b f) ∙ e))
     by false e false f rest = rest
 
--- each batch comes behind a place where it is none of the place's
+-- each batch comes after a place where it is none of the place's
 abbrev pub IsFresh : Place → List Batch → Type 0
 IsFresh place bs = AllByRecursion (λ b. is_at place b ≡ false) bs
 
--- a batch before all goes in front
+-- a batch before all goes first
 placed-first : (new : Batch) (bs : List Batch) → AreBehind (place_of new) bs → placed new bs ≡ new ∷ bs
 placed-first new [] all = refl
 placed-first new (b ∷ bs) all = ap (λ t. if t then new ∷ b ∷ bs else if is_at (place_of new) b then b ∷ bs else b ∷ placed new bs) all.0
@@ -66,7 +66,7 @@ placed-within p q new (b ∷ bs) order fresh weaker =
         fails false f = refl
 
 module _ (f : Batch → Option Message) (own : (b : Batch) (sent : Message) → f b ≡ Some sent → sent.batch ≡ b) where
-  -- a message before all goes in front
+  -- a message before all goes first
   message-first : (sent : Message) (place : Place) (bs : List Batch) → place_of sent.batch ≡ place → AreBehind place bs → message_placed sent (filter_map f bs) ≡ sent ∷ filter_map f bs
   message-first sent place [] at all = refl
   message-first sent place (b ∷ bs) at all = by (f b) refl (message-first sent place bs at all.1)

@@ -19,7 +19,7 @@ use Rattle.ndc_laws_reached.proofs.WrittenLemmas.{wanted-some}
 abbrev pub Follows : List Batch → Batch → Type 0
 Follows path x = (y : Batch) × Among y path × (earlier x ≡ Some y.key)
 
--- a way from a batch through some of a set: what is on it is one of those; what is wanted next is no key, or that of a batch of the
+-- a way from a batch through some of a set: what is on it is one of those; what is wanted next is not a key, or that of a batch of the
 -- set that is none of those; the earlier key of the batch, and of each on the way, is wanted next or is that of one on the way
 record IsWay (b : Batch) (all bs : List Batch) (walk : Walk) : Type 0 where
   inside : (x : Batch) → Among x walk.path → Among x bs

@@ -60,7 +60,7 @@ module _ (header : Header) (lines : ℕ) (w : World) (is : IsReached header line
   arrived-named cluster known shard below b among =
       named-own cluster known b.domain (all-among (λ x. is_named header cluster w x.domain ≡ true) (cell_at cluster shard w).arrived b (is.fair.members.arrived cluster shard known below) among)
 
-  -- nothing has arrived at a cluster that is no member
+  -- nothing has arrived at a cluster that is not a member
   pub arrived-none : (cluster : ClusterNo) → IsCluster header cluster → (domain workflow : Name) (shard : ℕ) → shard < header.shards → names_cluster cluster (record_of (table_at cluster w) domain) ≡ false
       → arrived_of domain workflow (cell_at cluster shard w) ≡ []
   arrived-none cluster known domain workflow shard below stranger =

@@ -24,7 +24,7 @@ count_in header domain workflow w = length (written_of header domain workflow w)
 abbrev pub with_cell : ClusterNo → ℕ → Cell → World → World
 with_cell cluster shard cell w = with_cells cluster (slice_set (cluster_at cluster w).cells shard cell) w
 
--- the cell behind reapplication in the workflow of a batch
+-- the cell after reapplication in the workflow of a batch
 abbrev pub cell_applied : Header → ClusterNo → ℕ → Batch → World → Cell
 cell_applied header cluster shard b w =
     with_all_written (reapplication_of (home_at header cluster w) b.domain b.workflow (cell_at cluster shard w)) (cell_at cluster shard w)
@@ -46,7 +46,7 @@ ApplyingKeeps header lines =
     (cluster : ClusterNo) (shard : ℕ) (b : Batch) (w : World) → IsCluster header cluster → shard < header.shards → shard_of b.domain b.workflow header.shards ≡ shard
     → IsReached header lines w → count_in header b.domain b.workflow w + 1 ≤ 2 * lines → IsApplied header lines b w (applied_in header cluster shard b w)
 
--- commands, resets and reapplication keep worlds reached behind so many lines, the first two with a line more
+-- commands, resets and reapplication keep worlds reached after so many lines, the first two with a line more
 pub record WritingKeeps (header : Header) (lines : ℕ) : Type 0 where
   pub command : (cluster : ClusterNo) (domain workflow : Name) (command : Command) (w : World) → IsWellFormedAct header (act.Command cluster domain workflow command)
       → IsReached header lines w → IsReached header (lines + 1) (command_step header cluster domain workflow command w).world

@@ -13,12 +13,16 @@ ghost use Rattle.ndc_model.specs.World.{World};
 
 /// Every well-formed line keeps a world as it should be, with one line more, where writing does.
 pub fn every_line_keeps_worlds_reached()
-    ensures { (header : Head) (lines : ℕ) (line : Asked) (w : World) → IsWellFormedHeader header → IsWellFormedAct header line → lines < 100000 → WritingKeeps header lines → IsReached header lines w
+    ensures { (header : Head) (lines : ℕ) (line : Asked) (w : World) → IsWellFormedHeader header
+        → IsWellFormedAct header line → lines < 100000 → WritingKeeps header lines
+        → IsReached header lines w
         → IsReached header (lines + 1) (act_step header line w).world }
 {}
 
-/// Every world of a well-formed script is as it should be behind some number of lines, at most 100,000, where writing
-/// keeps worlds so behind each number of lines below that.
+/// Every world of a well-formed script is as it should be after some number of lines, at most 100,000, where writing
+/// keeps worlds so after each number of lines below that.
 pub fn every_world_is_reached()
-    ensures { (script : Whole) → IsWellFormed script → ((lines : ℕ) → lines < 100000 → WritingKeeps script.header lines) → AllByRecursion (IsReachedSometime script.header) (worlds_of script) }
+    ensures { (script : Whole) → IsWellFormed script
+        → ((lines : ℕ) → lines < 100000 → WritingKeeps script.header lines)
+        → AllByRecursion (IsReachedSometime script.header) (worlds_of script) }
 {}

@@ -11,7 +11,12 @@ ghost use Rattle.ndc_model.specs.World.{World};
 /// A cluster may tell of an activity, and it may take over the reports of another: the world stays as it should be,
 /// with one line more where a beat is told.
 pub fn reports_keep_worlds_reached()
-    ensures told { (header : Head) (lines : ℕ) (cluster : Number) (domain workflow id details : Name) (w : World) → IsCluster header cluster → lines < 100000 → IsReached header lines w
-        → IsReached header (lines + 1) (beat_step header cluster domain workflow id details w).world }
-    ensures taken_over { (header : Head) (lines : ℕ) (to from : Number) (w : World) → AreTwoClusters header to from → IsReached header lines w → IsReached header lines (sync_step to from w).world }
+    ensures told { (header : Head) (lines : ℕ) (cluster : Number)
+        (domain workflow id details : Name) (w : World) → IsCluster header cluster → lines < 100000
+        → IsReached header lines w
+        → IsReached header (lines
+        + 1) (beat_step header cluster domain workflow id details w).world }
+    ensures taken_over { (header : Head) (lines : ℕ) (to from : Number) (w : World)
+        → AreTwoClusters header to from → IsReached header lines w
+        → IsReached header lines (sync_step to from w).world }
 {}

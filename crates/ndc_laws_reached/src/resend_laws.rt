@@ -8,8 +8,9 @@ ghost use Rattle.ndc_model.specs.Facts.{IsReached};
 ghost use Rattle.ndc_model.specs.Moves.{resent};
 ghost use Rattle.ndc_model.specs.World.{World, cell_at};
 
-/// Behind a resend nothing is put off at the cluster: all that has arrived there is learned.
+/// After a resend nothing is put off at the cluster: all that has arrived there is learned.
 pub fn behind_a_resend_nothing_is_put_off()
-    ensures { (header : Head) (lines : ℕ) (reader : Number) (w : World) (shard : ℕ) → IsCluster header reader → IsReached header lines w → shard < header.shards
+    ensures { (header : Head) (lines : ℕ) (reader : Number) (w : World) (shard : ℕ)
+        → IsCluster header reader → IsReached header lines w → shard < header.shards
         → put_off_in (cell_at reader shard (resent header reader w).world) ≡ [] }
 {}

@@ -14,25 +14,42 @@ ghost use Rattle.ndc_model.specs.World.{World, cluster_at, with_table};
 
 /// A table that fits may take the place of a cluster's: the world stays as it should be.
 pub fn fitting_tables_keep_worlds_reached()
-    ensures { (header : Head) (lines : ℕ) (cluster : Number) (table : List Domain) (w : World) → IsReached header lines w → IsCluster header cluster → IsTableFit header lines w cluster table
+    ensures { (header : Head) (lines : ℕ) (cluster : Number) (table : List Domain) (w : World)
+        → IsReached header lines w → IsCluster header cluster
+        → IsTableFit header lines w cluster table
         → IsReached header lines (with_table cluster table w) }
 {}
 
 /// A domain may be registered, get other days or a member more, or fail over, and a cluster may merge the table of
 /// another: the world stays as it should be, with one line more where days change.
 pub fn lines_on_domains_keep_worlds_reached()
-    ensures registered { (header : Head) (lines : ℕ) (at target : Number) (domain : Name) (days : ℕ) (members : List ℕ) (w : World) → AreClusters header.clusters → IsWellFormedRegister header at target domain days members
-        → IsReached header lines w → IsReached header lines (table_step register_words at w (register_of header.clusters at domain target days members (cluster_at at w).table)).world }
-    ensures retained { (header : Head) (lines : ℕ) (at : Number) (domain : Name) (days : ℕ) (w : World) → IsCluster header at → lines < 100000 → IsReached header lines w
-        → IsReached header (lines + 1) (table_step retain_words at w (retain_of at domain days (cluster_at at w).table)).world }
-    ensures joined { (header : Head) (lines : ℕ) (at member : Number) (domain : Name) (w : World) → IsCluster header at → IsCluster header member → IsReached header lines w
-        → IsReached header lines (join_step at w (join_of at domain member (cluster_at at w).table)).world }
-    ensures failed_over { (header : Head) (lines : ℕ) (at target : Number) (domain : Name) (w : World) → AreClusters header.clusters → IsCluster header at → IsReached header lines w
-        → IsReached header lines (table_step failover_words at w (failover_of header.clusters domain target (cluster_at at w).table)).world }
-    ensures merged { (header : Head) (lines : ℕ) (to from : Number) (w : World) → IsCluster header to → IsCluster header from → IsReached header lines w → IsReached header lines (domains_step to from w).world }
+    ensures registered { (header : Head) (lines : ℕ) (at target : Number) (domain : Name) (days : ℕ)
+        (members : List ℕ) (w : World) → AreClusters header.clusters
+        → IsWellFormedRegister header at target domain days members
+        → IsReached header lines w
+        → IsReached header lines (table_step register_words at w
+        (register_of header.clusters at domain target days members
+        (cluster_at at w).table)).world }
+    ensures retained { (header : Head) (lines : ℕ) (at : Number) (domain : Name) (days : ℕ)
+        (w : World) → IsCluster header at → lines < 100000 → IsReached header lines w
+        → IsReached header (lines
+        + 1) (table_step retain_words at w
+        (retain_of at domain days (cluster_at at w).table)).world }
+    ensures joined { (header : Head) (lines : ℕ) (at member : Number) (domain : Name) (w : World)
+        → IsCluster header at → IsCluster header member → IsReached header lines w
+        → IsReached header lines (join_step at w
+        (join_of at domain member (cluster_at at w).table)).world }
+    ensures failed_over { (header : Head) (lines : ℕ) (at target : Number) (domain : Name)
+        (w : World) → AreClusters header.clusters → IsCluster header at → IsReached header lines w
+        → IsReached header lines (table_step failover_words at w
+        (failover_of header.clusters domain target (cluster_at at w).table)).world }
+    ensures merged { (header : Head) (lines : ℕ) (to from : Number) (w : World)
+        → IsCluster header to → IsCluster header from → IsReached header lines w
+        → IsReached header lines (domains_step to from w).world }
 {}
 
 /// More lines may have been run, up to 100,000: the world stays as it should be.
 pub fn more_lines_keep_worlds_reached()
-    ensures { (header : Head) (lines more : ℕ) (w : World) → lines ≤ more → more ≤ 100000 → IsReached header lines w → IsReached header more w }
+    ensures { (header : Head) (lines more : ℕ) (w : World) → lines ≤ more → more ≤ 100000
+        → IsReached header lines w → IsReached header more w }
 {}

@@ -12,13 +12,18 @@ ghost use Rattle.ndc_model.specs.World.{World};
 /// Each message that a source has trimmed and that is addressed to a reader is learned by the reader, or of a domain
 /// in which the reader is late.
 pub fn what_is_trimmed_is_learned_or_late()
-    ensures { (header : Head) (lines : ℕ) (w : World) (reader source : Number) (shard : ℕ) → IsReached header lines w → AreTwoClusters header reader source → shard < header.shards
+    ensures { (header : Head) (lines : ℕ) (w : World) (reader source : Number) (shard : ℕ)
+        → IsReached header lines w → AreTwoClusters header reader source → shard < header.shards
         → AllByRecursion (IsLearnedOrLate reader source shard w) (trimmed_of source shard w) }
 {}
 
-/// Behind a bootstrap from a source the reader has learned each message that the source has trimmed and that is
+/// After a bootstrap from a source the reader has learned each message that the source has trimmed and that is
 /// addressed to the reader.
 pub fn behind_a_bootstrap_what_is_trimmed_is_learned()
-    ensures { (header : Head) (lines : ℕ) (t : Trace) (reader source : Number) (shard : ℕ) → IsReached header lines t.world → AreTwoClusters header reader source → shard < header.shards
-        → AllByRecursion (IsLearnedWhereAddressed reader source shard (bootstrapped header reader t source).world) (trimmed_of source shard (bootstrapped header reader t source).world) }
+    ensures { (header : Head) (lines : ℕ) (t : Trace) (reader source : Number) (shard : ℕ)
+        → IsReached header lines t.world → AreTwoClusters header reader source
+        → shard < header.shards
+        → AllByRecursion (IsLearnedWhereAddressed reader source shard
+        (bootstrapped header reader t source).world) (trimmed_of source shard
+        (bootstrapped header reader t source).world) }
 {}

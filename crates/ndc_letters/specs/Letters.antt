@@ -38,6 +38,6 @@ was_whole Aside = false
 abbrev pub is_whole : Letter → Bool
 is_whole letter = was_whole (taken_of letter)
 
--- the letters behind one that comes: it goes last, where it is not whole
+-- the letters after one that comes: it goes last, where it is not whole
 abbrev pub with_letter : Letter → List Letter → List Letter
 with_letter letter letters = if is_whole letter then letters else letters ++ letter ∷ []

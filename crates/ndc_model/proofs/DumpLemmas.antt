@@ -71,7 +71,7 @@ is_opened : List ℕ → Bool
 is_opened [] = false
 is_opened (c ∷ cs) = c == 123
 
--- behind the batches come the runs
+-- after the batches come the runs
 runs-behind : (runs : List RunView) → IsBehind (flat_map run_state_lines runs ++ codes "end\n")
 unfolding is_opened
 runs-behind [] rest e = true≢false (sym (ap is_opened e))

@@ -16,7 +16,7 @@ use Rattle.ndc_laws_cells.proofs.FoundLemmas.{is_at-own}
 use Rattle.ndc_letters.specs.Letters.{is_whole, letter_of, taken_as, taken_of, was_whole}
 use Rattle.ndc_letters.specs.declared.letters.Taken.TheVariants.{Aside, Whole}
 
--- a front of a batch text that is read as a batch is the whole text
+-- a prefix of a batch text that is read as a batch is the whole text
 front-whole : (b c : Batch) (cut : ℕ) → InRange b → read_of Two (take cut (batch_text b)) ≡ Ok c → length (batch_text b) ≤ cut
 front-whole b c cut range read =
     let f = found Two (take cut (batch_text b)) c read in

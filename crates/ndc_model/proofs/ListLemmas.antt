@@ -56,7 +56,7 @@ all-index P [] i d p all = p
 all-index P (x ∷ xs) zero d p all = all.0
 all-index P (x ∷ xs) (suc i) d p all = all-index P xs i d p all.1
 
--- what holds of the items up to a place, and of so many behind it
+-- what holds of the items up to a place, and of so many after it
 pub all-take-more : {X : Type 0} (P : X → Type 0) (n a b : ℕ) (xs : List X) → n ≡ a + b → AllByRecursion P (take a xs) → AllByRecursion P (take b (drop a xs)) → AllByRecursion P (take n xs)
 all-take-more {X = X} P n zero b xs e front back = let same : b ≡ n = omega (arith, e) in subst (λ (m : ℕ). AllByRecursion P (take m xs)) same back
 all-take-more P n (suc a) b [] e front back = all-take P n [] tt
@@ -82,7 +82,7 @@ filter-passes p (x ∷ xs) = by (p x) refl (filter-passes p xs)
     by true passes rest = (passes, rest)
     by false fails rest = rest
 
--- the longest front that passes passes
+-- the longest prefix that passes passes
 pub prefix-passes : {X : Type 0} (p : X → Bool) (xs : List X) → AllByRecursion (λ x. p x ≡ true) (take (prefix_len p xs) xs)
 prefix-passes p [] = tt
 prefix-passes {X = X} p (x ∷ xs) = by (p x) refl (prefix-passes p xs)
@@ -177,7 +177,7 @@ set-twice [] i x y = refl
 set-twice (z ∷ zs) zero x y = refl
 set-twice (z ∷ zs) (suc i) x y = ap (λ l. z ∷ l) (set-twice zs i x y)
 
--- a list has as many items behind a putting as before
+-- a list has as many items after a putting as before
 pub set-length : {X : Type 0} (xs : List X) (i : ℕ) (x : X) → length (slice_set xs i x) ≡ length xs
 set-length [] i x = refl
 set-length (y ∷ ys) zero x = refl

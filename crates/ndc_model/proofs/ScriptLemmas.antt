@@ -14,7 +14,7 @@ runs_in_parts header w [] more = refl
 runs_in_parts header w (line ∷ lines) more =
     ap (λ runs. record { number = line.number; step = act_step header line.act w } ∷ runs) (runs_in_parts header (act_step header line.act w).world lines more)
 
--- the world behind both parts
+-- the world after both parts
 pub world_in_parts : (header : Header) (w : World) (lines more : List Line)
     → world_behind w (ran_from header w (lines ++ more)) ≡ world_behind (world_behind w (ran_from header w lines)) (ran_from header (world_behind w (ran_from header w lines)) more)
 world_in_parts header w [] more = refl

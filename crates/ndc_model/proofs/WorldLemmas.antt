@@ -95,7 +95,7 @@ written-others : (domain workflow : Name) (result : Result (List Entry) CommandE
 written-others domain workflow (Ok entries) cell all = all-written-others domain workflow entries cell all
 written-others domain workflow (Err error) cell all = refl
 
--- an answer behind a first one
+-- an answer after a first one
 then-others : {A : Type 0} (domain workflow : Name) (first : Result A CommandError) (rest : A → Result (List Entry) CommandError) → ((x : A) → IsOfOthers domain workflow (rest x))
     → IsOfOthers domain workflow (first >>= rest)
 then-others domain workflow (Ok x) rest each = each x

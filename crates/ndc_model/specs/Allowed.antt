@@ -28,7 +28,7 @@ letter_jobs header reader w = filter_map (letter_job header w) (cluster_at reade
 abbrev pub burst_jobs : Header → List BurstJob → List ShardJob
 burst_jobs header jobs = map (λ one. job_for header one.domain one.workflow (job.Command one.domain one.workflow one.command)) jobs
 
--- the jobs of a line may be done, each in the cells that those before it leave; most lines have none, and a burst stands for the lines in it
+-- the jobs of a line may be done, each in the cells that those before it leave; most lines have none, and a burst is done as the lines in it
 abbrev pub LineIsAllowed : Condition → Header → Act → World → Type 0
 LineIsAllowed allows header (act.Command cluster domain workflow command) w = MayDoAll allows header cluster (job_for header domain workflow (job.Command domain workflow command) ∷ []) w
 LineIsAllowed allows header (act.Reset cluster domain workflow event) w = MayDoAll allows header cluster (job_for header domain workflow (job.Reset domain workflow event) ∷ []) w

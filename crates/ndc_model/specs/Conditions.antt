@@ -57,7 +57,7 @@ abbrev pub MayBootstrap : Condition → Header → Trace → ClusterNo → Type 
 MayBootstrap allows header t reader =
     EachStep (λ v source. MayDoAll allows header reader (late_jobs header reader source v.world) v.world) (bootstrapped header reader) t (others_of header reader)
 
--- the jobs of a round of settlement may be done, each behind those before it
+-- the jobs of a round of settlement may be done, each after those before it
 pub record MaySettleOnce (allows : Condition) (header : Header) (t : Trace) : Type 0 where
   pub bootstrap : EachStep (MayBootstrap allows header) (reader_bootstrapped header) (quietly (tables_merged header) t) (all_clusters header)
   pub due : EachStep (λ v reader. MayDoAll allows header reader (due_jobs header reader v.world) v.world) (due_arrived header)

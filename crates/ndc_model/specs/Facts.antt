@@ -29,7 +29,7 @@ abbrev pub place_in : Handover → ℕ → ℕ
 place_in handover shard = slice_index_or handover.places shard 0
 
 -- an open handover: its old version is one of its cluster's, the new one is above it, the cluster's record has come to it and names the target, and for each shard
--- there is a place in the cluster's queue behind all that is of the domain and of the old version
+-- there is a place in the cluster's queue after all that is of the domain and of the old version
 pub record IsHandoverFit (header : Header) (w : World) (handover : Handover) : Type 0 where
   pub clusters : AreTwoClusters header handover.from handover.to
   pub writer : writer_of header.clusters handover.old ≡ Some handover.from

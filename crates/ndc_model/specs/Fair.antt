@@ -103,7 +103,7 @@ ArrivalsWereWritten header w = EachCell header w (λ cluster shard cell. IsArriv
 abbrev pub EachLane : Header → World → (Link → ℕ → Lane → Type 0) → Type 0
 EachLane header w holds = AllByRecursion (λ link. (shard : ℕ) → shard < header.shards → holds link shard (lane_in link shard)) w.links
 
--- the levels of a lane: nothing is trimmed that is not done, nothing is done that was not read, and nothing was read behind the queue's end;
+-- the levels of a lane: nothing is trimmed that is not done, nothing is done that was not read, and nothing was read beyond the queue's end;
 -- what is done is learned by the reader, not addressed to it, or late; what is in flight is in the queue
 pub record IsLaneTrue (w : World) (link : Link) (shard : ℕ) (lane : Lane) : Type 0 where
   pub trimmed_most : trimmed_at link.source w shard ≤ lane.levels.done
@@ -139,7 +139,7 @@ pub record RecordsAgree (header : Header) (lines : ℕ) (w : World) : Type 0 whe
   pub known : EachRecord header w (IsConfigKnown (cluster_at primary w).table)
   pub days : (one two : ClusterNo) → IsCluster header one → IsCluster header two → DaysAgree (cluster_at one w).table (cluster_at two w).table
 
--- what was written of a workflow is bounded by the lines run: tasks by batches, batches and original signals by lines; no batch is longer than a history may be with what goes before and behind a command
+-- what was written of a workflow is bounded by the lines run: tasks by batches, batches and original signals by lines; no batch is longer than a history may be with what goes before and after a command
 pub record AreNumbersSmall (lines : ℕ) (batches : List Batch) : Type 0 where
   pub tasks : AllByRecursion (λ b. b.key.task ≤ length batches) batches
   pub batches_most : length batches ≤ 2 * lines
@@ -181,7 +181,7 @@ pub record IsShaped (header : Header) (w : World) : Type 0 where
   pub sources : length w.trimmed ≡ count_of header.clusters
   pub trimmed : AllByRecursion (λ levels. length levels ≡ header.shards) w.trimmed
 
--- a fair world, behind so many lines
+-- a fair world, after so many lines
 pub record IsFair (header : Header) (lines : ℕ) (w : World) : Type 0 where
   pub writing : WritingIsSound header w
   pub copies : CopiesNameOriginals header w

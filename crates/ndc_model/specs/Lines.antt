@@ -68,7 +68,7 @@ act_step header (act.ProgressOf cluster domain workflow id) w = answered w (prog
 abbrev pub job_line : ClusterNo → BurstJob → Line
 job_line cluster job = record { number = job.number; act = act.Command cluster job.domain job.workflow job.command }
 
--- the lines that stand for an act: those in a burst, or itself
+-- the lines of an act: those in a burst, or itself
 abbrev pub lines_of_act : ℕ → Act → List Line
 lines_of_act number (act.Burst cluster jobs) = map (job_line cluster) jobs
 lines_of_act number other = record { number = number; act = other } ∷ []
@@ -100,11 +100,11 @@ world_behind w (run ∷ runs) = world_behind run.step.world runs
 abbrev pub ran_of : Script → List AnsweredLine
 ran_of script = ran_from script.header (opening_world script.header) (plain_lines script.lines)
 
--- the worlds of a script: the opening one, and the one behind each line
+-- the worlds of a script: the opening one, and the one after each line
 abbrev pub worlds_of : Script → List World
 worlds_of script = opening_world script.header ∷ map (λ run. run.step.world) (ran_of script)
 
--- an answer behind the number of its line
+-- an answer after the number of its line
 abbrev pub answer_text : AnsweredLine → List ℕ
 answer_text run = decimal run.number ++ codes " " ++ run.step.answer
 

@@ -25,7 +25,7 @@ abbrev pub map_from : {X Y : Type 0} → (ℕ → X → Y) → ℕ → List X �
 map_from f place [] = []
 map_from f place (x ∷ xs) = f place x ∷ map_from f (suc place) xs
 
--- a lane behind a pull: of all, or of at most so many entries
+-- a lane after a pull: of all, or of at most so many entries
 abbrev pub pulled_lane : World → Option ℕ → Link → ℕ → Lane → Lane
 pulled_lane w count link shard lane = after_pull link.reader (cluster_at link.source w).table count (queue_at link.source shard w) lane
 
@@ -84,7 +84,7 @@ pub record Trace : Type 0 where
 abbrev pub from_world : World → Trace
 from_world w = record { world = w; notes = [] }
 
--- a change of the world that is no job
+-- a change of the world that is not a job
 abbrev pub quietly : (World → World) → Trace → Trace
 quietly change t = record t { world = change t.world }
 

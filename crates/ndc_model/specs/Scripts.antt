@@ -54,7 +54,7 @@ abbrev pub numbered : ℕ → List Act → List Line
 numbered number [] = []
 numbered number (asked ∷ acts) = record { number = number; act = asked } ∷ numbered (number + 1) acts
 
--- what lines answer, behind their numbers
+-- what lines answer, after their numbers
 abbrev pub answers : Header → List Line → List (ℕ × List ℕ)
 answers header lines = map (λ run. (run.number, run.step.answer)) (ran_of (script_of header lines))
 
@@ -189,7 +189,7 @@ on_domains =
     register A (0 ∷ 1 ∷ []) ∷ failover A B ∷ act.Register A (codes "beta") B 7 (0 ∷ 1 ∷ []) ∷ act.Failover A (codes "beta") A ∷ act.Failover A (codes "beta") A
     ∷ act.Domain A (codes "alpha") ∷ act.Retain A (codes "alpha") 30 ∷ act.Retain B (codes "alpha") 30 ∷ register A (0 ∷ 1 ∷ []) ∷ []
 
--- a workflow that goes on at B behind a failover, without a conflict
+-- a workflow that goes on at B after a failover, without a conflict
 abbrev pub without_conflict : List Act
 without_conflict =
     register A (0 ∷ 1 ∷ []) ∷ act.Domains B A ∷ start A ∷ signal A (codes "ping") (codes "x") ∷ act.Pull B A ∷ act.Work B ∷ failover A B ∷ act.Domains B A
@@ -341,6 +341,6 @@ index_lines header lines indexers = map (index_line (seen_in (ran_of (script_of 
 abbrev pub told_keys : Header → List Line → List (ClusterNo × BatchKey)
 told_keys header lines = map (λ told. (told.cluster, told.batch.key)) (seen_in (ran_of (script_of header lines)))
 
--- answers behind their numbers, as the report has them
+-- answers after their numbers, as the report has them
 abbrev pub told_lines : List (ℕ × List ℕ) → List ℕ
 told_lines lines = flat_map (λ line. decimal line.0 ++ codes " " ++ line.1) lines

@@ -14,12 +14,12 @@ use Rattle.ndc_model.specs.Bare.{bare}
 abbrev pub reports_of : World → List (List Report)
 reports_of w = map (λ cluster. cluster.reports) w.clusters
 
--- clusters without reports stand for a world, with the greatest report of each activity that each cluster of it has
+-- clusters without reports represent a world, with the greatest report of each activity that each cluster of it has
 pub record StandFor (v : World) (held : List (List Report)) (w : World) : Type 0 where
   pub clusters : v ≡ bare w
   pub reports : held ≡ map greatest_of (reports_of w)
 
--- they are as a line leaves the world for which they stood, and tell what it tells
+-- they are as a line leaves the world that they represented, and tell what it tells
 pub record IsLeftBy (step : Stepped) (v : World) (held : List (List Report)) (told : List ℕ) (shown : List Seen) : Type 0 where
   pub stands : StandFor v held step.world
   pub answer : told ≡ step.answer

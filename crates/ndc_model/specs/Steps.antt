@@ -26,7 +26,7 @@ use Rattle.ndc_model.specs.Moves.{Note, Trace, from_world, jobs_done}
 use Rattle.ndc_model.specs.Texts.{ok, refusal_words, refused}
 use Rattle.ndc_model.specs.World.{World, cell_at, home_at}
 
--- what a line leaves, what it answers behind its number, and what became learned, in the order of being told
+-- what a line leaves, what it answers after its number, and what became learned, in the order of being told
 pub record Stepped : Type 0 where
   pub world : World
   pub answer : List ℕ

@@ -8,7 +8,7 @@ use Rattle.ndc_event.specs.declared.batch.Event.{Event}
 use Rattle.ndc_model_sets.specs.Paths.{item_of}
 use Rattle.ndc_text.specs.Views.{item_text}
 
--- words behind a space each
+-- words after a space each
 abbrev pub spaced : List (List ℕ) → List ℕ
 spaced words = flat_map (λ word. codes " " ++ word) words
 

@@ -11,5 +11,6 @@ ghost use Rattle.ndc_letters.specs.Letters.{is_whole, letter_of};
 /// message is set aside exactly where it is cut.
 #[tactic(auto, using(crate::proofs::LetterLemmas::whole_where_uncut))]
 pub fn a_message_is_set_aside_where_it_is_cut()
-    ensures { (source : Number) (b : Written) (cut : ℕ) → InRange b → fault_of b ≡ None → is_whole (letter_of source cut b) ≡ not (nat_lt cut (length (batch_text b))) }
+    ensures { (source : Number) (b : Written) (cut : ℕ) → InRange b → fault_of b ≡ None
+        → is_whole (letter_of source cut b) ≡ not (nat_lt cut (length (batch_text b))) }
 {}

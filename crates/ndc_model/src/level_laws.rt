@@ -10,9 +10,14 @@ ghost use Rattle.ndc_queue.specs.Levels.{AreLevels};
 /// What is done was read, and what was read is in the queue: pulling, renewing and rewinding keep it so.
 #[tactic(auto, using(crate::proofs::LevelLemmas::pull_keeps, crate::proofs::LevelLemmas::renewal_keeps, crate::proofs::LevelLemmas::rewind_keeps))]
 pub fn levels_stay_in_order()
-    ensures pull { (reader : Number) (table : List Record) (count : Option ℕ) (queue : List Message) (lane : Lane)
-        → AreLevels queue lane.levels → AreLevels queue (after_pull reader table count queue lane).levels }
-    ensures renewal { (reader : Number) (table : List Record) (cell : Cell) (queue : List Message) (lane : Lane)
-        → AreLevels queue lane.levels → AreLevels queue (after_renewal reader table cell queue lane).levels }
-    ensures rewind { (queue : List Message) (lane : Lane) → AreLevels queue lane.levels → AreLevels queue (after_rewind lane).levels }
+    ensures pull { (reader : Number) (table : List Record) (count : Option ℕ) (queue : List Message)
+        (lane : Lane)
+        → AreLevels queue lane.levels
+        → AreLevels queue (after_pull reader table count queue lane).levels }
+    ensures renewal { (reader : Number) (table : List Record) (cell : Cell) (queue : List Message)
+        (lane : Lane)
+        → AreLevels queue lane.levels
+        → AreLevels queue (after_renewal reader table cell queue lane).levels }
+    ensures rewind { (queue : List Message) (lane : Lane) → AreLevels queue lane.levels
+        → AreLevels queue (after_rewind lane).levels }
 {}

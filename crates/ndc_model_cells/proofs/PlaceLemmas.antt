@@ -95,7 +95,7 @@ key-flip a b n = by (key_eq b a) refl
 pub key-turn : (a b : BatchKey) → key_eq a b ≡ true → key_eq b a ≡ true
 key-turn a b e = subst (λ (k : BatchKey). key_eq b k ≡ true) (sym (same-keys a b e)) (key_eq-self b)
 
--- a place comes before that of a batch, or behind it, or is its own
+-- a place comes before that of a batch, or after it, or is its own
 pub place-total : (a : Place) (b : Batch) → place_lt a (place_of b) ≡ false → is_at a b ≡ false → place_lt (place_of b) a ≡ true
 place-total a b l s = by (names_cmp a.domain b.domain) refl
   where
@@ -184,7 +184,7 @@ module _ (domain workflow : Name) (new : Batch) (own : is_of domain workflow new
       (λ mine. (sym (place-key new x (own-names domain workflow new x own mine)) ∙ all.0, after-key xs all.1))
       (λ _. after-key xs all.1)
 
-  -- a batch whose key comes before all goes in front
+  -- a batch whose key comes before all goes first
   arrived-first : (batches : List Batch) → ComeAfter new.key batches → arrived new batches ≡ new ∷ batches
   arrived-first [] all = refl
   arrived-first (x ∷ xs) all = ap (λ t. if t then new ∷ x ∷ xs else if key_eq new.key x.key then x ∷ xs else x ∷ arrived new xs) all.0

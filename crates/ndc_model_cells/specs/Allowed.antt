@@ -1,4 +1,4 @@
--- What a cell asks of a job: that what is learned behind it is sound, and room for numbers.
+-- What a cell asks of a job: that what is learned after it is sound, and room for numbers.
 use Rattle.std.specs.Prelude.{◌≡◌, ◌+◌, ◌≤◌, ◌^◌, false, true, length, List, [], ◌∷◌, IfSome, None, Result, Ok, Err}
 use Rattle.std.specs.List.{AllByRecursion}
 use Rattle.ndc_model_cells.specs.declared.job.Job.{Job}
@@ -19,7 +19,7 @@ use Rattle.ndc_model_cells.specs.Messages.{IsMessage, IsNewTo, batches_of, waits
 use Rattle.ndc_model_cells.specs.Workflow.{workflow_of}
 
 -- a message may arrive: it is one as cells write them, of a batch that is not carried by another, its batches have arrived together or not at
--- all, and what is learned behind it is sound
+-- all, and what is learned after it is sound
 pub record MayArrive (sent : Message) (cell : Cell) : Type 0 where
   pub message : IsMessage sent
   pub lone : sent.batch.carrier ≡ None
@@ -28,7 +28,7 @@ pub record MayArrive (sent : Message) (cell : Cell) : Type 0 where
   pub sound : IsSound (learned_of sent.batch.domain sent.batch.workflow (arrived_at sent cell))
   pub ids : AllByRecursion HasSmallIds (both sent)
 
--- an entry may be written to a workflow: what is learned behind it is sound, and nothing that is put off has the key of one of its batches, or
+-- an entry may be written to a workflow: what is learned after it is sound, and nothing that is put off has the key of one of its batches, or
 -- waits for it
 pub record MayWrite (domain workflow : Name) (entry : Entry) (cell : Cell) : Type 0 where
   pub sound : IsSound (learned_of domain workflow (with_written entry cell))

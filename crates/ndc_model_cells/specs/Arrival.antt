@@ -30,7 +30,7 @@ message_placed new (sent ∷ messages) =
 abbrev pub still_waiting : Cell → Cell
 still_waiting cell = record cell { waiting = filter (λ sent. not (is_learned_in cell sent.batch)) cell.waiting }
 
--- the cell behind the arrival of a batch, and of the one that it carries
+-- the cell after the arrival of a batch, and of the one that it carries
 abbrev pub cell_with : Message → Cell → Cell
 cell_with sent cell = still_waiting (record cell { arrived = placed_second sent.second (placed sent.batch cell.arrived); waiting = message_placed sent cell.waiting })
 

@@ -20,7 +20,7 @@ abbrev pub workflows_of : List Batch → List Batch
 workflows_of [] = []
 workflows_of (b ∷ batches) = b ∷ filter (λ other. not (is_of b.domain b.workflow other)) (workflows_of batches)
 
--- the cell behind what was to be written; a refusal leaves it as it was
+-- the cell after what was to be written; a refusal leaves it as it was
 abbrev pub written_at : Result (List Entry) CommandError → Cell → Cell
 written_at (Ok entries) cell = with_all_written entries cell
 written_at (Err error) cell = cell
@@ -40,13 +40,13 @@ keys_written [] = outcome.Reapplied 0
 keys_written (b ∷ []) = outcome.Written (record { key = b.key; second = None })
 keys_written (b ∷ second ∷ batches) = outcome.Written (record { key = b.key; second = Some second.key })
 
--- what a command or a reset answers; want of memory is no answer of the model
+-- what a command or a reset answers; want of memory is not an answer of the model
 abbrev pub written_outcome : Result (List Entry) CommandError → Outcome
 written_outcome (Ok entries) = keys_written (all_batches entries)
 written_outcome (Err (Refused refusal)) = outcome.Refused refusal
 written_outcome (Err Memory) = outcome.Reapplied 0
 
--- the cell behind reapplication in the workflows of these batches, in order
+-- the cell after reapplication in the workflows of these batches, in order
 abbrev pub reapplied_in : Desk → List Batch → Cell → Cell
 reapplied_in home [] cell = cell
 reapplied_in home (b ∷ workflows) cell = reapplied_in home workflows (with_all_written (reapplication_of home b.domain b.workflow cell) cell)
@@ -57,7 +57,7 @@ reapplied_now home [] cell = []
 reapplied_now home (b ∷ workflows) cell =
     all_batches (reapplication_of home b.domain b.workflow cell) ++ reapplied_now home workflows (with_all_written (reapplication_of home b.domain b.workflow cell) cell)
 
--- the cell behind a job
+-- the cell after a job
 unfoldable pub after_job : Desk → Job → Cell → Cell
 after_job home (job.Command domain workflow command) cell = written_at (command_of home domain workflow command cell) cell
 after_job home (job.Arrive message) cell = arrived_at message cell
@@ -86,11 +86,11 @@ reply_to home asked cell = record { outcome = outcome_of home asked cell; learne
 abbrev pub cell_for : ℕ → List Cell → Cell
 cell_for shard cells = slice_index_or cells shard empty_cell
 
--- the cells of a cluster behind a job
+-- the cells of a cluster after a job
 abbrev pub cells_behind : Desk → ShardJob → List Cell → List Cell
 cells_behind home asked cells = slice_set cells asked.shard (after_job home asked.job (cell_for asked.shard cells))
 
--- the cells of a cluster behind jobs, done one after the other
+-- the cells of a cluster after jobs, done one after the other
 unfoldable pub cells_after : Desk → List ShardJob → List Cell → List Cell
 cells_after home [] cells = cells
 cells_after home (asked ∷ jobs) cells = cells_after home jobs (cells_behind home asked cells)

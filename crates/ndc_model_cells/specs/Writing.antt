@@ -88,7 +88,7 @@ may_go_on desk domain workflow cell = may_write desk domain workflow cell >>= wh
 abbrev pub next_key : ℕ → List Batch → BatchKey
 next_key version batches = record { version = version; task = greatest_task batches + 1 }
 
--- the key behind another
+-- the key after another
 abbrev pub key_behind : BatchKey → BatchKey
 key_behind key = record { version = key.version; task = key.task + 1 }
 
@@ -206,7 +206,7 @@ abbrev pub closing_entries : Name → Name → BatchKey → Batch → StateValue
 closing_entries domain workflow key tip s =
     if s.running then alone (batch_below domain workflow key tip s (reset_close s key.version)) ∷ [] else []
 
--- the key of the new run's first batch: behind the closing one, where there is one
+-- the key of the new run's first batch: after the closing one, where there is one
 abbrev pub reset_key : BatchKey → StateValue → BatchKey
 reset_key key s = if s.running then key_behind key else key
 

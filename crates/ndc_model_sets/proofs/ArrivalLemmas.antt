@@ -131,7 +131,7 @@ waited_learned batches new b set back none known w =
     reaches-learned (arrived new batches) b (arrival_keeps_sets new batches set back)
     (waits-reaches (arrived new batches) new b (new_reaches batches new set none known) w)
 
--- behind first batches of one key, parts are parts
+-- after first batches of one key, parts are parts
 part-tail : (x : Batch) (xs ys : List Batch) → ComeAfter x.key xs → IsPart (x ∷ xs) (x ∷ ys) → IsPart xs ys
 part-tail x xs ys after part b has =
     at-cases (λ o. o ≡ Some b → Has ys b) x ys b.key

@@ -15,12 +15,12 @@ use Rattle.ndc_model_sets.proofs.HistoryLemmas.{same-or-not, versions-rise, vers
 abbrev pub NoneShared : (ℕ → Type 0) → List Item → List Item → Type 0
 NoneShared P one two = (version : ℕ) → P version → (id_of version one ≡ None) ⊎ (id_of version two ≡ None)
 
--- the items behind the first have greater versions
+-- the items after the first have greater versions
 rises-tail : (x : Item) (xs : List Item) → rises (x ∷ xs) ≡ true → rises xs ≡ true
 rises-tail x [] r = refl
 rises-tail x (y ∷ ys) r = (and_parts (nat_lt x.id y.id && nat_lt x.version y.version) (rise_from y ys) r).1
 
--- a version that stands behind the first is greater
+-- a version that stands after the first is greater
 behind-greater : (x : Item) (xs : List Item) (version id : ℕ) → rises (x ∷ xs) ≡ true → id_of version xs ≡ Some id → x.version < version
 behind-greater x [] version id r h = absurd (cc)
 behind-greater x (y ∷ ys) version id r h = by (same-or-not y.version version) (behind-greater y ys version id p.1)
@@ -145,7 +145,7 @@ above-last low version e (f ∷ fs) c l =
     up e f [] c = c.0
     up e f (g ∷ gs) c = omega (arith, c.0, up f g gs c.1)
 
--- ids behind others are greater
+-- ids after others are greater
 last-id-above : (id version : ℕ) (events : List Event) (i : ℕ) → follow_from id events ≡ true → last_id_of version events ≡ Some i → id < i
 last-id-above id version [] i f h = absurd (cc)
 last-id-above id version (e ∷ es) i f h = by (last_id_of version es) refl h (last-id-above e.id version es i p.1)
@@ -204,7 +204,7 @@ module _ (e : Event) (es one two : List Event) (first : Climbs 0 ((e ∷ es) ++ 
   rises-one : rises (versions_of ((e ∷ es) ++ one)) ≡ true
   rises-one = (versions-rise 0 0 ((e ∷ es) ++ one) ids first).0
 
-  -- an id behind the last is not smaller
+  -- an id after the last is not smaller
   id-behind : (rest : List Event) (i : ℕ) → follow_from 0 ((e ∷ es) ++ rest) ≡ true → last_id_of (last_from e es).version rest ≡ Some i → (last_from e es).id < i
   id-behind rest i f h =
       let from : follow_from (ends 0 (e ∷ es)) rest ≡ true = follow-rest 0 (e ∷ es) rest f in

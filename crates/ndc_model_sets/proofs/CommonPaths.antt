@@ -25,7 +25,7 @@ module _ (batches : List Batch) (sound : IsSound batches) (a b : Batch) (one two
   in-two : (c : Batch) → Among c other → Among c two
   in-two c h = subst (λ (l : List Batch). Among c l) (sym two_is) (among-right c front other h)
 
-  -- a batch on both paths stands in the front
+  -- a batch on both paths stands in the prefix
   pub on-both : (c : Batch) → Among c one → Among c two → Among c front
   on-both c h k =
       let s = comes-to batches a c one to_a h in
@@ -36,7 +36,7 @@ module _ (batches : List Batch) (sound : IsSound batches) (a b : Batch) (one two
       let m = shared-front front rest other (s.front ++ c ∷ []) s.rest t.rest first second apart in
       subst (λ (l : List Batch). Among c l) (sym m.1) (among-left c (s.front ++ c ∷ []) m.0 (among-right c s.front (c ∷ []) (inl refl)))
 
-  -- no batch behind the front stands on both
+  -- no batch after the prefix stands on both
   one-alone : (c : Batch) → Among c rest → Among c two → ⊥
   one-alone c h k = not-twice front rest c (subst Rise one_is (path-rises batches a one sound.set to_a).0) (on-both c (in-one c h) k) h
 
@@ -52,7 +52,7 @@ module _ (batches : List Batch) (sound : IsSound batches) (a b : Batch) (one two
       subst (λ (l : List Batch). Among c l) (sym t.whole)
       (among-left c (t.front ++ d ∷ []) t.rest (has-among (t.front ++ d ∷ []) c (subst (λ (l : List Batch). Has l c) same on)))
 
-  -- behind the front the paths share no version
+  -- after the prefix the paths share no version
   pub no-version-shared : (version : ℕ) → NotBoth (last_id_of version (history_of rest)) (last_id_of version (history_of other))
   no-version-shared version = by (last_id_of version (history_of rest)) refl (last_id_of version (history_of other)) refl
     where
@@ -91,7 +91,7 @@ module _ (batches : List Batch) (sound : IsSound batches) (a b : Batch) (one two
   events-two : AreEventsTo b (history_of front ++ history_of other)
   events-two = subst (AreEventsTo b) (ap history_of two_is ∙ history-append front other) (path-events batches b two sound.faultless sound.parents to_b)
 
-  -- the common item is that of the last event of the front
+  -- the common item is that of the last event of the prefix
   pub common-batches : common_of (versions_of (history_of one)) (versions_of (history_of two)) ≡ last_item_of (history_of front)
   common-batches =
       ap (λ (l : List Event). common_of (versions_of l) (versions_of (history_of two))) (ap history_of one_is ∙ history-append front rest)
@@ -110,7 +110,7 @@ module _ (batches : List Batch) (sound : IsSound batches) (a b : Batch) (one two
           none v (inr n) = inr (versions-ids v 0 (history_of other) t.climb ∙ n)
       by (e ∷ es) s t = common-front e es (history_of rest) (history_of other) s.climb t.climb s.follow t.follow no-version-shared
 
-  -- behind the front the events go apart too
+  -- after the prefix the events go apart too
   events-apart : GoApart (history_of rest) (history_of other)
   events-apart = by (history_of rest) (history_of other) no-version-shared
     where

@@ -97,14 +97,14 @@ path-rises batches b path set (below _ before key up has e at r) =
     let l : key_lt before.key b.key ≡ true = subst (λ (k : BatchKey). key_lt k b.key ≡ true) (sym own) (parent-back b (found-all PointsBack batches b.key b set.back has) key e) in
     (rise-push up b t.0 (t.1 b.key l), λ high m. push-all (λ x. key_lt x.key high ≡ true) up b (before-weaken b.key high up m (t.1 b.key l)) m)
 
--- in a list that rises, what stands in the front does not stand behind
+-- in a list that rises, what stands in the prefix does not stand after it
 pub not-twice : (front rest : List Batch) (c : Batch) → Rise (front ++ rest) → Among c front → Among c rest → ⊥
 not-twice [] rest c rise h k = h
 not-twice (x ∷ xs) rest c rise (inl same) k =
     before-irrefl c.key (subst (λ (y : Batch). key_lt y.key c.key ≡ true) (sym same) (all-among (λ y. key_lt x.key y.key ≡ true) (xs ++ rest) c rise.0 (among-right c xs rest k)))
 not-twice (x ∷ xs) rest c rise (inr h) k = not-twice xs rest c rise.1 h k
 
--- where two lists that go apart begin alike, what both begin with stands in the front
+-- where two lists that go apart begin alike, what both begin with stands in the prefix
 pub shared-front : {X : Type 0} (front one two alike three four : List X) → front ++ one ≡ alike ++ three → front ++ two ≡ alike ++ four → GoApart one two
     → (more : List X) × (front ≡ alike ++ more)
 shared-front front one two [] three four e f apart = (front, refl)

@@ -25,7 +25,7 @@ use Rattle.ndc_model_sets.proofs.ForkLemmas.{path-run, path-rises, not-twice, fo
 use Rattle.ndc_model_sets.proofs.CommonPaths.{on-both, common-batches}
 use Rattle.ndc_model_sets.proofs.GapLemmas.{IsAtMost, best-is, best-none, branch-above}
 
--- what is good in one cut of a list, and bad behind another, stands before it
+-- what is good in one cut of a list, and bad after another, stands before it
 cut-before : {X : Type 0} (Good Bad : X → Type 0) → ((x : X) → Good x → Bad x → ⊥) → (cut more front rest : List X) → cut ++ more ≡ front ++ rest
     → ((x : X) → Among x cut → Good x) → ((x : X) → Among x rest → Bad x) → (between : List X) × (front ≡ cut ++ between)
 cut-before Good Bad clash [] more front rest e good bad = (front, refl)
@@ -37,7 +37,7 @@ cut-before Good Bad clash (c ∷ cut) more (f ∷ front) rest e good bad =
     let t = cut-before Good Bad clash cut more front rest tails (λ x h. good x (inr h)) bad in
     (t.0, ap (λ x. x ∷ front) (sym head) ∙ ap (λ l. c ∷ l) t.1)
 
--- what ends a list ends what stands behind a front of it
+-- what ends a list ends what stands after a prefix of it
 last-behind : (a : Batch) (before shared : List Batch) (d : Batch) (between : List Batch) → before ++ a ∷ [] ≡ shared ++ d ∷ between → Among a (d ∷ between)
 last-behind a before [] d between e = subst (λ (l : List Batch). Among a l) e (among-right a before (a ∷ []) (inl refl))
 last-behind a [] (s ∷ shared) d between e = absurd (some shared (cc))
@@ -47,7 +47,7 @@ last-behind a [] (s ∷ shared) d between e = absurd (some shared (cc))
     some (x ∷ xs) e = absurd (cc)
 last-behind a (x ∷ before) (s ∷ shared) d between e = let tails : before ++ a ∷ [] ≡ shared ++ d ∷ between = cc in last-behind a before shared d between tails
 
--- the last of events behind others has a greater id than the last of these
+-- the last of events after others has a greater id than the last of these
 last-greater : (first : Event) (firsts : List Event) (e : Event) (es : List Event) → follow_from 0 ((first ∷ firsts) ++ e ∷ es) ≡ true → (last_from first firsts).id < (last_from e es).id
 last-greater first firsts e es f =
     let rest : follow_from (ends 0 (first ∷ firsts)) (e ∷ es) ≡ true = follow-rest 0 (first ∷ firsts) (e ∷ es) f in
@@ -84,7 +84,7 @@ module _ (batches part : List Batch) (b : Batch) (front rest : List Batch) (soun
   parents = λ c before key h e at. sound.parents c before key (within c h) e
       (has-found batches key before (found-key part key before at) (within before (found-has part key before at)))
 
-  -- what a branch that is learned has in common with the path is a front of the learned front
+  -- what a branch that is learned has in common with the path is a prefix of the learned prefix
   pub record Shares (t : Batch) : Type 0 where
     pub shared : List Batch
     pub between : List Batch
@@ -115,7 +115,7 @@ module _ (batches part : List Batch) (b : Batch) (front rest : List Batch) (soun
   on-path : (c : Batch) → Among c (front ++ rest) → Has batches c
   on-path c h = (path-run batches b c (front ++ rest) sound.parents to_b h).0
 
-  -- the item of a front of the learned front is at most that of the whole
+  -- the item of a prefix of the learned prefix is at most that of the whole
   at-most-front : (m : Event) (ms : List Event) → history_of front ≡ m ∷ ms → (shared between : List Batch) → front ≡ shared ++ between → IsAtMost (item_of (last_from m ms)) (last_item_of (history_of shared))
   at-most-front m ms e shared [] is =
       inr (item_of (last_from m ms), ap last_item_of (ap history_of (sym (append-nil shared)) ∙ ap history_of (sym is) ∙ e), inl refl)
@@ -161,7 +161,7 @@ module _ (batches part : List Batch) (b : Batch) (front rest : List Batch) (soun
   last-batch c [] = (c, [], refl)
   last-batch c (d ∷ ds) = let t = last-batch d ds in (t.0, c ∷ t.1, ap (λ l. c ∷ l) t.2)
 
-  -- a learned branch goes through the last batch of the learned front
+  -- a learned branch goes through the last batch of the learned prefix
   through : (a : Batch) (before : List Batch) → front ≡ before ++ a ∷ [] → (h : List Item) × Among h (histories b.run part) × (common_of h (versions_of (events_to b.key batches)) ≡ last_item_of (history_of front))
   through a before is =
       let on : Among a front = subst (λ (l : List Batch). Among a l) (sym is) (among-right a before (a ∷ []) (inl refl)) in

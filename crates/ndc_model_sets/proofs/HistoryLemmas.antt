@@ -25,12 +25,12 @@ strict a b l n = omega (arith, l, different)
     different : a ≡ b → ⊥
     different e = true≢false (sym (eq-eqb a b e) ∙ n)
 
--- the first item, where there is one, is behind this id and not below this version
+-- the first item, where there is one, is after this id and not below this version
 abbrev pub IsBehind : ℕ → ℕ → List Item → Type 0
 IsBehind id version [] = Unit {0}
 IsBehind id version (item ∷ items) = (id < item.id) × (version ≤ item.version)
 
--- items that rise, behind an id and a version
+-- items that rise, after an id and a version
 abbrev pub RisesBehind : ℕ → ℕ → List Item → Type 0
 RisesBehind id version items = (rises items ≡ true) × IsBehind id version items
 

@@ -91,7 +91,7 @@ reaches batches so_far (c ∷ cs) before rise part =
 pub learned-reaches : (batches : List Batch) (b : Batch) → IsSet batches → Has (learned batches) b → ReachesTop batches b
 learned-reaches batches b set = reaches batches [] batches (λ key e h. absurd (cc)) set.ordered (λ _ h. h) b
 
--- a key that stands in the front alone is found there
+-- a key that stands in the prefix alone is found there
 key-in-front : (front back : List Batch) (o : Option BatchKey) → ((key : BatchKey) → o ≡ Some key → ComeAfter key back) → has_key o (front ++ back) ≡ true → has_key o front ≡ true
 key-in-front front back None after h = refl
 key-in-front front back (Some key) after h = by (batch_at key front) refl (sym (ap is_some (at-append front back key)) ∙ h)
@@ -106,7 +106,7 @@ key-in-front front back (Some key) after h = by (batch_at key front) refl (sym (
 earlier-before : (b : Batch) (batches : List Batch) → PointsBack b → Rise (b ∷ batches) → (key : BatchKey) → earlier b ≡ Some key → ComeAfter key (b ∷ batches)
 earlier-before b batches back rise key e = (back key e, after-trans key b.key batches (back key e) rise.0)
 
--- the same behind a first batch, where it is so of what is learned with it and without it
+-- the same after a first batch, where it is so of what is learned with it and without it
 step-behind : (so_far cs : List Batch) (c b : Batch) → Rise (c ∷ cs) →
     (has_key (earlier b) ((so_far ++ c ∷ []) ++ learned_behind (so_far ++ c ∷ []) cs) ≡ true → Has (learned_behind (so_far ++ c ∷ []) cs) b) →
     (has_key (earlier b) (so_far ++ learned_behind so_far cs) ≡ true → Has (learned_behind so_far cs) b) →

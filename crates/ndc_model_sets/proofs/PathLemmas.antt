@@ -52,7 +52,7 @@ none-found (b ∷ batches) key after =
     ap (walk_over b) (none-found batches key after.1)
     ∙ ap (λ t. if t then record { wanted = b.parent; path = b ∷ [] } else from (Some key)) (other-key key b.key after.0)
 
--- what is wanted behind a batch comes before all that come after it
+-- what is wanted after a batch comes before all that come after it
 pub none-behind : (b : Batch) (batches : List Batch) (wanted : Option BatchKey) → ((key : BatchKey) → wanted ≡ Some key → key_lt key b.key ≡ true) →
     ComeAfter b.key batches → walk_down (b ∷ batches) (from wanted) ≡ from wanted
 none-behind b batches None back after = none-wanted (b ∷ batches)
@@ -62,7 +62,7 @@ none-behind b batches (Some key) back after = none-found (b ∷ batches) key (ba
 pub parent-back : (b : Batch) → PointsBack b → (key : BatchKey) → b.parent ≡ Some key → key_lt key b.key ≡ true
 parent-back b back key e = back key (ap (λ p. earlier_of p b.carrier) e)
 
--- the walk from a batch goes on behind the walk from its parent
+-- the walk from a batch goes on after the walk from its parent
 walk-parent : (batches : List Batch) (b : Batch) → Rise batches → PointsBack b → Has batches b →
     GoesOn (b ∷ []) (walk_down batches (from (Some b.key))) (walk_down batches (from b.parent))
 walk-parent [] b rise back = λ h. absurd (cc)

@@ -59,7 +59,7 @@ pub after-trans : (low high : BatchKey) (batches : List Batch) → key_lt low hi
 after-trans low high [] l all = tt
 after-trans low high (x ∷ xs) l all = (before-trans low high x.key l all.0, after-trans low high xs l all.1)
 
--- in a list that rises, what is found behind the first is found in the whole
+-- in a list that rises, what is found after the first is found in the whole
 pub at-behind : (c : Batch) (batches : List Batch) (key : BatchKey) (b : Batch) → ComeAfter c.key batches → batch_at key batches ≡ Some b → batch_at key (c ∷ batches) ≡ Some b
 at-behind c batches key b after h =
     at-cases (λ o. o ≡ Some b) c batches key

@@ -1,4 +1,4 @@
--- Paths behind a write.
+-- Paths after a write.
 use Rattle.std.proofs.Common.{◌≡◌, true, List, [], ◌∷◌, ◌++◌, Some, None, ap, ◌∙◌}
 use Rattle.ndc_event.specs.Batch.{fault_of}
 use Rattle.ndc_event.specs.declared.batch.Batch.{Batch}
@@ -13,7 +13,7 @@ pub paths_stay : (batches : List Batch) (new b : Batch) → IsSound batches → 
     → Has batches b → path_to b.key (arrived new batches) ≡ path_to b.key batches
 paths_stay batches new b sound fresh faultless reached has = old-path batches new sound fresh faultless reached b has
 
--- the path to a batch that is written goes on behind its parent's
+-- the path to a batch that is written goes on after its parent's
 pub path_behind_parent : (batches : List Batch) (new parent : Batch) → IsSound batches → batch_at new.key batches ≡ None → fault_of new ≡ None → has_key (earlier new) batches ≡ true
     → Has batches parent → new.parent ≡ Some parent.key → path_to new.key (arrived new batches) ≡ path_to parent.key batches ++ new ∷ []
 path_behind_parent batches new parent sound fresh faultless reached has at =

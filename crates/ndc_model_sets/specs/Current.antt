@@ -52,7 +52,7 @@ abbrev pub origins_at : RunId → Option Batch → List Batch → List Origin
 origins_at run None batches = []
 origins_at run (Some tip) batches = origins_in run (events_to tip.key batches)
 
--- the origins that a run settles: those on its current branch, where it is no zombie
+-- the origins that a run settles: those on its current branch, where it is not a zombie
 abbrev pub settled_by : RunId → List Batch → List Origin
 settled_by run batches = if is_zombie (run_status run batches) then [] else origins_at run (current_tip run batches) batches
 

@@ -9,7 +9,7 @@ abbrev pub has_key : Option BatchKey → List Batch → Bool
 has_key None batches = true
 has_key (Some key) batches = is_some (batch_at key batches)
 
--- which of the batches are learned, behind those that are learned so far
+-- which of the batches are learned, after those that are learned so far
 abbrev pub learned_behind : List Batch → List Batch → List Batch
 learned_behind so_far [] = []
 learned_behind so_far (b ∷ batches) =

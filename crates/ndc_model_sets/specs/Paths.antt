@@ -18,7 +18,7 @@ abbrev pub is_wanted : Option BatchKey → Batch → Bool
 is_wanted None b = false
 is_wanted (Some key) b = key_eq b.key key
 
--- a wanted batch goes in front of the path, and its parent is wanted next
+-- a wanted batch goes before the path, and its parent is wanted next
 abbrev pub walk_over : Batch → Walk → Walk
 walk_over b w = if is_wanted w.wanted b then record { wanted = b.parent; path = b ∷ w.path } else w
 

@@ -53,7 +53,8 @@ impl KeySet {
     /// Takes the least key; none exactly where there is none. In time of the logarithm of their number.
     pub fn take_least(&mut self) -> Option<BatchKey>
         ensures taken { MatchOption result (self.old ≡ []) (λ key. self.old ≡ key ∷ self.new) }
-        ensures least { IfSome result (λ key. AllByRecursion (λ other. key_lt key other ≡ true) self.new) }
+        ensures least { IfSome result (λ key.
+            AllByRecursion (λ other. key_lt key other ≡ true) self.new) }
     {
         self.keys.pop_first()
     }

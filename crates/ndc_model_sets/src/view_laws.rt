@@ -13,7 +13,8 @@ ghost use Rattle.ndc_model_sets.specs.View.{view_of};
 /// On each path of a sound set no origin stands twice.
 #[tactic(auto, using(crate::proofs::ViewLaws::apart_on_paths))]
 pub fn no_origin_stands_twice_on_a_path()
-    ensures { (batches : List Batch) (b : Batch) → IsSound batches → Has batches b → AreApart (origins_in b.run (events_to b.key batches)) }
+    ensures { (batches : List Batch) (b : Batch) → IsSound batches → Has batches b
+        → AreApart (origins_in b.run (events_to b.key batches)) }
 {}
 
 /// The state of a path of a sound set has exactly the origins of the path's signals, in order.
@@ -26,6 +27,7 @@ pub fn states_have_the_origins_of_their_paths()
 /// Clusters that have learned the same batches show the same view, whatever else has arrived at either.
 #[tactic(auto, using(crate::proofs::ViewLaws::one_view))]
 pub fn equal_learned_sets_give_equal_views()
-    ensures { (one two : List Batch) → IsSet one → IsSet two → IsPart (learned one) (learned two) → IsPart (learned two) (learned one)
+    ensures { (one two : List Batch) → IsSet one → IsSet two → IsPart (learned one) (learned two)
+        → IsPart (learned two) (learned one)
         → view_of (learned one) ≡ view_of (learned two) }
 {}

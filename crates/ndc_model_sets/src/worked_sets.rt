@@ -17,7 +17,8 @@ ghost use Rattle.ndc_model_sets.specs.Worked.{key, key_of, item, run, from, begu
 pub fn the_greater_version_leads()
     ensures tips { map (λ b. b.key) (tips (run 1) forked) ≡ key 1 2 ∷ key 2 2 ∷ [] }
     ensures current { key_of (workflow_tip forked) ≡ Some (key 2 2) }
-    ensures histories { histories (run 1) forked ≡ (item 3 1 ∷ []) ∷ (item 2 1 ∷ item 3 2 ∷ []) ∷ [] }
+    ensures histories { histories (run 1) forked ≡ (item 3 1 ∷ []) ∷ (item 2 1 ∷ item 3 2 ∷ [])
+        ∷ [] }
     ensures strays { origins_of (strays forked) ≡ from 3 1 ∷ [] }
 {}
 
@@ -26,7 +27,8 @@ pub fn the_greater_version_leads()
 #[tactic(auto, unfolding(ndc_state::specs::Table::row))]
 pub fn a_batch_behind_a_gap_is_put_off()
     ensures learned { map (λ b. b.key) (learned behind_a_gap) ≡ key 1 1 ∷ key 1 2 ∷ key 1 3 ∷ [] }
-    ensures gap { best_item (best_from 0 (histories (run 1) (learned behind_a_gap)) (item 3 1 ∷ item 7 2 ∷ [])) ≡ Some (item 3 1) }
+    ensures gap { best_item (best_from 0 (histories (run 1) (learned behind_a_gap))
+        (item 3 1 ∷ item 7 2 ∷ [])) ≡ Some (item 3 1) }
 {}
 
 /// A closed run that was gone on with elsewhere, with a greater version, is the current run again: the run begun
@@ -36,7 +38,8 @@ pub fn the_old_run_wins()
     ensures current { key_of (workflow_tip old_run_wins) ≡ Some (key 2 2) }
     ensures old { run_status (run 1) old_run_wins ≡ Running }
     ensures later { run_status (run 3) old_run_wins ≡ Zombie }
-    ensures strays { origins_of (strays old_run_wins) ≡ record { run = run 3; event = 3; version = 1 } ∷ [] }
+    ensures strays { origins_of (strays old_run_wins)
+        ≡ record { run = run 3; event = 3; version = 1 } ∷ [] }
 {}
 
 /// A signal that was copied to two branches is settled by the one that leads; only the other branch's own signal
@@ -51,7 +54,8 @@ pub fn a_copied_signal_is_settled_once()
 /// The branch that loses may have more events than the one that leads.
 #[tactic(auto, unfolding(ndc_state::specs::Table::row))]
 pub fn the_number_of_events_decides_nothing()
-    ensures histories { histories (run 1) longer_loses ≡ (item 4 1 ∷ []) ∷ (item 2 1 ∷ item 3 2 ∷ []) ∷ [] }
+    ensures histories { histories (run 1) longer_loses
+        ≡ (item 4 1 ∷ []) ∷ (item 2 1 ∷ item 3 2 ∷ []) ∷ [] }
     ensures current { key_of (workflow_tip longer_loses) ≡ Some (key 2 2) }
     ensures old { run_status (run 1) longer_loses ≡ Running }
     ensures later { run_status (run 4) longer_loses ≡ Zombie }
@@ -61,7 +65,8 @@ pub fn the_number_of_events_decides_nothing()
 #[tactic(auto, unfolding(ndc_state::specs::Table::row))]
 pub fn what_is_carried_waits_for_its_carrier()
     ensures nothing { learned first_lost ≡ [] }
-    ensures all { map (λ b. b.key) (learned (arrived begun first_lost)) ≡ key 1 1 ∷ key 1 2 ∷ key 1 3 ∷ key 1 4 ∷ [] }
+    ensures all { map (λ b. b.key) (learned (arrived begun first_lost))
+        ≡ key 1 1 ∷ key 1 2 ∷ key 1 3 ∷ key 1 4 ∷ [] }
     ensures current { key_of (workflow_tip (arrived begun first_lost)) ≡ Some (key 1 4) }
     ensures old { run_status (run 1) (arrived begun first_lost) ≡ Closed }
     ensures later { run_status (run 4) (arrived begun first_lost) ≡ Running }

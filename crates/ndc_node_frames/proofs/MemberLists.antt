@@ -29,7 +29,7 @@ next_number (suc (suc (suc (suc (suc (suc zero)))))) h = refl
 next_number (suc (suc (suc (suc (suc (suc (suc zero))))))) h = refl
 next_number (suc (suc (suc (suc (suc (suc (suc (suc n)))))))) h = absurd (omega (arith, h))
 
--- a number that is no member
+-- a number that is not a member
 pub passed : (members : List ℕ) (n : ℕ) → n < 8 → has_member members n ≡ false → filter (has_member members) (drop n numbers) ≡ filter (has_member members) (drop (n + 1) numbers)
 passed members n h e = ap (filter (has_member members)) (next_number n h) ∙ rw e refl
 

@@ -90,7 +90,8 @@ fn kind_in(word: &[u8]) -> Option<Kind>
 /// Takes a kind by its name.
 #[tactic(auto, using(crate::proofs::KindNames::named))]
 pub(crate) fn take_kind(alloc: Global, left: &[u8]) -> Result<(Kind, &[u8]), Fault>
-    ensures { Gives Memory (λ taken. (kind_word taken.0, taken.1.now)) result (read_of kind_shape left.now) }
+    ensures { Gives Memory (λ taken. (kind_word taken.0, taken.1.now)) result
+        (read_of kind_shape left.now) }
 {
     let (name, rest) = take_name(alloc, left)?;
     match kind_in(name.as_bytes()) {

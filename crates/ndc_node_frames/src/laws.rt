@@ -20,7 +20,8 @@ pub fn one_text_of_a_frame()
 
 /// No text is that of two frames.
 pub fn one_frame_of_a_text()
-    ensures { (one other : Frame) → FrameFits one → FrameFits other → frame_text one ≡ frame_text other → one ≡ other }
+    ensures { (one other : Frame) → FrameFits one → FrameFits other
+        → frame_text one ≡ frame_text other → one ≡ other }
 {}
 
 /// The text of a frame has the bytes from space to `~` alone, so it is one line.

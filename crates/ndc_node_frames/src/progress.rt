@@ -35,7 +35,8 @@ pub struct Held {
 
 /// Appends the text of an activity.
 fn push_activity(text: &mut Vec<u8>, activity: &ActivityRef) -> Result<(), OutOfMemory>
-    ensures { OnOk result (text.new.items ≡ onto activity_shape text.old.items (activity_value activity.now)) }
+    ensures { OnOk result (text.new.items
+        ≡ onto activity_shape text.old.items (activity_value activity.now)) }
 {
     push_first(text, "domain")?;
     activity.domain.push(text)?;
@@ -52,7 +53,8 @@ fn push_activity(text: &mut Vec<u8>, activity: &ActivityRef) -> Result<(), OutOf
 
 /// Takes an activity.
 fn take_activity(alloc: Global, left: &[u8]) -> Result<(ActivityRef, &[u8]), Fault>
-    ensures { Gives Memory (λ taken. (activity_value taken.0, taken.1.now)) result (read_of activity_shape left.now) }
+    ensures { Gives Memory (λ taken. (activity_value taken.0, taken.1.now)) result
+        (read_of activity_shape left.now) }
 {
     let left = take_first(left, "domain")?;
     let (domain, left) = take_name(alloc, left)?;

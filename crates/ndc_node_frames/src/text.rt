@@ -143,7 +143,8 @@ fn at_end(left: &[u8]) -> Result<(), Fault>
 
 /// Takes what follows the body.
 fn take_members(alloc: Global, left: &[u8]) -> Result<(Tail, &[u8]), Fault>
-    ensures { Gives Memory (λ taken. (tail_seen taken.0, taken.1.now)) result (read_of tail_shape left.now) }
+    ensures { Gives Memory (λ taken. (tail_seen taken.0, taken.1.now)) result
+        (read_of tail_shape left.now) }
 {
     let left = take_next(left, "format")?;
     let (_format, left) = take_number(left, 1, 1)?;

@@ -35,7 +35,7 @@ levels_within reader epoch level entries levels all = by (not (epoch == levels.e
     by false true e = all
     by false false e = set-within entries levels.told reader level (ltb-false entries level e) all
 
--- the least of numbers, one of which stands for all before
+-- the least of numbers, one of which is the least of all before
 fold-least : (x : ℕ) (xs : List ℕ) → (fold min x xs ≤ x) × AllByRecursion (λ t. fold min x xs ≤ t) xs
 fold-least x [] = (omega arith, tt)
 fold-least x (y ∷ ys) =

@@ -51,7 +51,7 @@ heard from next entries lane =
     else if not (are_in_turn from next entries) then Err OutOfTurn
     else with_fresh next (fresh lane.read entries) lane
 
--- a lane behind which the batch of this key of a workflow is learned
+-- a lane after which the batch of this key of a workflow is learned
 abbrev pub with_learned : Name → Name → BatchKey → LaneValue → LaneValue
 with_learned domain workflow key lane = record lane { held = filter (λ entry. not (is_for domain workflow key entry)) lane.held }
 

@@ -20,7 +20,7 @@ telling_of epoch level entries levels =
 abbrev pub noted : ℕ → ℕ → LevelsValue → LevelsValue
 noted reader level levels = record levels { told = slice_set levels.told reader (max (slice_index levels.told reader) level) }
 
--- the levels behind what came of a level that a reader told
+-- the levels after what came of a level that a reader told
 abbrev pub after_telling : ℕ → ℕ → Telling → LevelsValue → LevelsValue
 after_telling reader level Noted levels = noted reader level levels
 after_telling reader level OtherEpoch levels = levels

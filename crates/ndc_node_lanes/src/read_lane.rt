@@ -61,10 +61,20 @@ impl Model for ReadLane {
 
     ghost Value = { LaneValue };
 
-    ghost view = { λ lane. record { epoch = lane.epoch; read = lane.read; held = lane.held.items; most = lane.most } };
+    ghost view = { λ lane. record {
+      epoch = lane.epoch;
+      read = lane.read;
+      held = lane.held.items;
+      most = lane.most;
+    } };
 
     ghost invariant = { λ lane.
-        IsLane (record { epoch = lane.epoch; read = lane.read; held = lane.held.items; most = lane.most }) };
+        IsLane (record {
+          epoch = lane.epoch;
+          read = lane.read;
+          held = lane.held.items;
+          most = lane.most;
+        }) };
 }
 
 /// The place of the first entry, or this number where there is none.

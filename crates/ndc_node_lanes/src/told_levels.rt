@@ -9,7 +9,7 @@ pub enum Telling {
     Noted,
     /// It was told under another epoch, and counts as what is trimmed: nothing changed.
     OtherEpoch,
-    /// It is above the queue's length: the source is behind its own past. Nothing changed.
+    /// It is above the queue's length: the source has lost some of what it wrote. Nothing changed.
     Ahead,
 }
 

@@ -1,4 +1,4 @@
--- The message that a text is, or why it is none.
+-- The message that a text is, or why it is not one.
 use Rattle.std.specs.Prelude.{ℕ, List, [], ◌∷◌, codes, length, map, Bool, true, false, Option, Some, None, Result, Ok, Err}
 use Rattle.ndc_event.specs.Outcome.{◌>>=◌}
 use Rattle.ndc_event.specs.declared.batch.Batch.{Batch}

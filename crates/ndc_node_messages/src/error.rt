@@ -5,13 +5,14 @@ use ndc_text::TextError;
 use std::alloc::{AllocError, AllocFailed};
 use thiserror::Error;
 
-/// Why a text is that of no message: the first cause on the way through the text.
+/// Why a text is not a message: the first cause on the way through the text.
 #[derive(Clone, Copy, Debug, PartialEq, Eq, Error)]
 pub enum MessageError {
     /// The text has not the form of a message: what is wrong, and how many bytes there are up to the end from there.
     #[error("{cause}, {left} bytes before the end")]
     Form { cause: Cause, left: usize },
-    /// What stands for a batch is the text of none: why, and how many bytes there are up to the end from its first one.
+    /// What stands in a batch's place is not the text of one: why, and how many bytes there are up to the end from its
+    /// first one.
     #[error("{error}, in the batch {left} bytes before the end")]
     Batch { error: TextError, left: usize },
     /// The ids or the versions of the version history do not rise.

@@ -27,5 +27,6 @@ pub fn one_message_of_a_text()
 
 /// The text of a message has the bytes from space to `~` alone, as texts in a frame have.
 pub fn messages_fit_in_frames()
-    ensures { (message : Message) → MessageFits message → IsTrue (list_all is_plain (message_text message)) }
+    ensures { (message : Message) → MessageFits message
+        → IsTrue (list_all is_plain (message_text message)) }
 {}

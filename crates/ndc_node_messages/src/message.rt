@@ -28,7 +28,8 @@ fn push_batch(text: &mut Vec<u8>, batch: &Batch) -> Result<(), OutOfMemory>
 
 /// Appends the text of a batch, or `null`.
 fn push_second(text: &mut Vec<u8>, second: Option<&Batch>) -> Result<(), OutOfMemory>
-    ensures { OnOk result (text.new.items ≡ text.old.items ++ second_text (option_copied second.entry)) }
+    ensures { OnOk result (text.new.items
+        ≡ text.old.items ++ second_text (option_copied second.entry)) }
 {
     match second {
         Some(batch) => push_batch(text, batch),
@@ -166,7 +167,8 @@ fn take_message(alloc: Global, bytes: &[u8]) -> Result<Message, MessageError>
 #[tactic(auto, using(crate::proofs::MessageLaws::message_only, crate::proofs::MessageLaws::message_again))]
 pub fn read_message(alloc: Global, bytes: &[u8]) -> Result<Message, MessageError>
     ensures gives { Gives Memory (λ message. message) result (message_at bytes.now) }
-    ensures found { IfOk result (λ message. MessageFits message × (bytes.now ≡ message_text message)) }
+    ensures found { IfOk result (λ message.
+        MessageFits message × (bytes.now ≡ message_text message)) }
     ensures only { (message : Sent) → MessageFits message → bytes.now ≡ message_text message
         → Gives Memory (λ message. message) result (Ok message) }
 {

@@ -56,7 +56,7 @@ is_rest (object key shape members) = false
 is_rest (next key shape members) = true
 is_rest end = true
 
--- numbers have at most 18 digits, `null` stands for objects alone, keys are plain, and members follow members
+-- numbers have at most 18 digits, `null` is written in place of objects alone, keys are plain, and members follow members
 abbrev pub is_sound : Shape → Bool
 is_sound (number least most) = nat_lt most (10 ^ 18)
 is_sound flag = true

@@ -14,8 +14,8 @@ pub enum Cause {
     /// backslash.
     #[error("a byte that no text has")]
     Byte,
-    /// The number is out of its range, the text is no name, no run's id or none of the words that may stand there, or the
-    /// numbers of a list are not in order.
+    /// The number is out of its range, the text is not a name, not a run's id or none of the words that may stand
+    /// there, or the numbers of a list are not in order.
     #[error("out of its range")]
     Range,
 }

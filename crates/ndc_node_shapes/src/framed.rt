@@ -26,7 +26,8 @@ pub trait Framed: Drop {
 
     /// Takes it from the bytes that are left.
     fn take(alloc: Global, left: &[u8]) -> Result<(Self, &[u8]), Fault>
-        ensures { Gives Memory (λ taken. (value taken.0, taken.1.now)) result (read_of shape left.now) };
+        ensures { Gives Memory (λ taken. (value taken.0, taken.1.now)) result
+            (read_of shape left.now) };
 }
 
 /// Appends the text of a value.
@@ -48,7 +49,8 @@ pub fn print<T: Framed>(alloc: Global, one: &T) -> Result<Vec<u8>, OutOfMemory>
 
 /// Appends the texts of items, each after a comma.
 fn push_further<T: Framed>(text: &mut Vec<u8>, items: &[T]) -> Result<(), OutOfMemory>
-    ensures { OnOk result (text.new.items ≡ text.old.items ++ further (text_of T.shape) (map T.value items.now)) }
+    ensures { OnOk result (text.new.items
+        ≡ text.old.items ++ further (text_of T.shape) (map T.value items.now)) }
 {
     for item in items {
         text.push(b',')?;
@@ -59,7 +61,8 @@ fn push_further<T: Framed>(text: &mut Vec<u8>, items: &[T]) -> Result<(), OutOfM
 
 /// Appends the texts of items with commas between them.
 fn push_items<T: Framed>(text: &mut Vec<u8>, items: &[T]) -> Result<(), OutOfMemory>
-    ensures { OnOk result (text.new.items ≡ text.old.items ++ with_commas (text_of T.shape) (map T.value items.now)) }
+    ensures { OnOk result (text.new.items
+        ≡ text.old.items ++ with_commas (text_of T.shape) (map T.value items.now)) }
 {
     match items {
         [] => Ok(()),
@@ -72,7 +75,8 @@ fn push_items<T: Framed>(text: &mut Vec<u8>, items: &[T]) -> Result<(), OutOfMem
 
 /// Appends the text of a list of items.
 pub fn push_list<T: Framed>(text: &mut Vec<u8>, items: &[T]) -> Result<(), OutOfMemory>
-    ensures { OnOk result (text.new.items ≡ text.old.items ++ text_of (list T.shape) (map T.value items.now)) }
+    ensures { OnOk result (text.new.items
+        ≡ text.old.items ++ text_of (list T.shape) (map T.value items.now)) }
 {
     text.push(b'[')?;
     push_items(text, items)?;
@@ -83,7 +87,8 @@ pub fn push_list<T: Framed>(text: &mut Vec<u8>, items: &[T]) -> Result<(), OutOf
 /// Takes further items after the first one, up to the closing bracket.
 fn take_further<T: Framed>(alloc: Global, first: T, left: &[u8]) -> Result<(Vec<T>, &[u8]), Fault>
     ensures { Gives Memory (λ taken. (map T.value taken.0.items, taken.1.now)) result
-        (with_items (T.value first ∷ []) (further_at (read_of T.shape) (length left.now) left.now)) }
+        (with_items (T.value first ∷ [])
+        (further_at (read_of T.shape) (length left.now) left.now)) }
 {
     let mut items = Vec::new(alloc);
     items.push(first)?;
@@ -130,7 +135,8 @@ pub fn take_list<T: Framed>(alloc: Global, left: &[u8]) -> Result<(Vec<T>, &[u8]
 /// Appends `null`, or the text of what is there.
 pub fn push_nullable<T: Framed>(text: &mut Vec<u8>, one: Option<&T>) -> Result<(), OutOfMemory>
     ensures { OnOk result (text.new.items
-        ≡ text.old.items ++ text_of (nullable T.shape) (option_map T.value (option_copied one.entry))) }
+        ≡ text.old.items ++ text_of (nullable T.shape) (option_map T.value
+        (option_copied one.entry))) }
 {
     match one {
         Some(one) => push_one(text, one),

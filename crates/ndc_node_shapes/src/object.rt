@@ -50,7 +50,8 @@ fn step(place: Place, inner: usize, byte: u8) -> Option<(Place, usize)>
 /// How many bytes there are up to the bracket that closes the object, and with it.
 #[tactic(auto, unfolding(crate::specs::Objects::rest_after), using(crate::proofs::OneByte::few))]
 fn count_to_end(bytes: &[u8]) -> Option<usize>
-    ensures rest { option_map (λ count. drop count bytes.now) result ≡ rest_after Outside 0 bytes.now }
+    ensures rest { option_map (λ count. drop count bytes.now) result
+        ≡ rest_after Outside 0 bytes.now }
     ensures within { IfSome result (λ count. count ≤ length bytes.now) }
 {
     let mut place = Place::Outside;

@@ -69,7 +69,8 @@ pub fn push_end(text: &mut Vec<u8>) -> Result<(), OutOfMemory>
 
 /// Takes a piece, the key and what stands after a key.
 fn take_keyed<'b>(left: &'b [u8], piece: &[u8], key: &str) -> Option<&'b [u8]>
-    ensures { option_map (λ rest. rest.now) result ≡ after (piece.now ++ key.now ++ codes "\":") left.now }
+    ensures { option_map (λ rest. rest.now) result
+        ≡ after (piece.now ++ key.now ++ codes "\":") left.now }
 {
     let left = after(left, piece)?;
     let left = after(left, key.as_bytes())?;
@@ -170,7 +171,8 @@ fn split_digits(left: &[u8]) -> (&[u8], &[u8])
 
 /// Takes a number from the least to the most.
 pub fn take_number(left: &[u8], least: u64, most: u64) -> Result<(u64, &[u8]), Fault>
-    ensures number { Gives Memory (λ taken. (taken.0, taken.1.now)) result (number_at least most left.now) }
+    ensures number { Gives Memory (λ taken. (taken.0, taken.1.now)) result
+        (number_at least most left.now) }
     ensures range { IfOk result (λ taken. (least ≤ taken.0) × (taken.0 ≤ most)) }
 {
     let (digits, rest) = split_digits(left);
@@ -238,7 +240,8 @@ pub fn push_quoted(text: &mut Vec<u8>, bytes: &[u8]) -> Result<(), OutOfMemory>
 
 /// Takes the bytes up to the closing quote.
 fn take_unquoted(alloc: Global, left: &[u8]) -> Result<(Vec<u8>, &[u8]), Fault>
-    ensures { Gives Memory (λ taken. (taken.0.items, taken.1.now)) result (unquoted false left.now) }
+    ensures { Gives Memory (λ taken. (taken.0.items, taken.1.now)) result
+        (unquoted false left.now) }
 {
     let mut bytes = Vec::new(alloc);
     let mut marked = false;

@@ -21,7 +21,7 @@ Sent_piece (Some w) now after bytes piece rest sent taken =
     let whole = rw sent.2 at taken in
     (sent.0 ++ piece, sent.1 ∙ sym (append_assoc sent.0 piece rest), rw (whole, append_assoc w sent.0 piece) refl)
 
--- of a further piece only a front is written
+-- of a further piece only a prefix is written
 pub Sent_part : (before now after : Option (List ℕ)) (bytes piece rest : List ℕ) → Sent before now bytes (piece ++ rest) → AppendsFront now after piece → AppendsFront before after bytes
 Sent_part before now after bytes piece rest sent part =
     let split : piece ++ rest ≡ part.1.0 ++ (part.0 ++ rest) = ap (λ (x : List ℕ). x ++ rest) part.1.1 ∙ append_assoc part.1.0 part.0 rest in

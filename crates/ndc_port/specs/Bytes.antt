@@ -11,15 +11,15 @@ Consumes (Some before) after bytes = (rest : List ℕ) × (before ≡ bytes ++ r
 abbrev pub ConsumesAtMost : ℕ → Option (List ℕ) → Option (List ℕ) → Type 0
 ConsumesAtMost n before after = (bytes : List ℕ) × (length bytes ≤ n) × Consumes before after bytes
 
--- these bytes were written behind what was written before
+-- these bytes were written after what was written before
 abbrev pub Appends : Option (List ℕ) → Option (List ℕ) → List ℕ → Type 0
 Appends None after bytes = Unit {0}
 Appends (Some before) after bytes = after ≡ Some (before ++ bytes)
 
--- of the bytes, a front was written behind what was written before, and the rest was not
+-- of the bytes, a prefix was written after what was written before, and the rest was not
 abbrev pub Sent : Option (List ℕ) → Option (List ℕ) → List ℕ → List ℕ → Type 0
 Sent before after bytes rest = (front : List ℕ) × (bytes ≡ front ++ rest) × Appends before after front
 
--- a front of the bytes was written, maybe none or all of them
+-- a prefix of the bytes was written, maybe none or all of them
 abbrev pub AppendsFront : Option (List ℕ) → Option (List ℕ) → List ℕ → Type 0
 AppendsFront before after bytes = (rest : List ℕ) × Sent before after bytes rest

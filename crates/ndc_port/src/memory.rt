@@ -39,7 +39,12 @@ impl MemSource {
     /// A source with these bytes left, no call and no fault. The calls whose numbers are in `failing`,
     /// counted from 1, fail.
     pub fn new(bytes: Vec<u8>, failing: Vec<u64>) -> MemSource
-        ensures { result ≡ record { left = bytes.items; calls = 0; failing = failing.items; faults = 0 } }
+        ensures { result ≡ record {
+          left = bytes.items;
+          calls = 0;
+          failing = failing.items;
+          faults = 0;
+        } }
     {
         MemSource {
             bytes,
@@ -120,7 +125,14 @@ impl MemSink {
     /// in `failing`, counted from 1, fail.
     pub fn new(alloc: Global, room: usize, failing: Vec<u64>) -> Result<MemSink, OutOfMemory>
         ensures { IfOk result (λ sink. sink
-            ≡ record { written = []; room = room; calls = 0; failing = failing.items; faults = 0 }) }
+            ≡ record {
+              written = [];
+              room = room;
+              calls = 0;
+              failing = failing.items;
+              faults =
+                  0;
+            }) }
     {
         Ok(MemSink {
             bytes: Vec::with_capacity(alloc, room)?,

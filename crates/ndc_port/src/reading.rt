@@ -19,14 +19,15 @@ pub trait Source {
     /// The faults so far. The count never falls.
     ghost faults: { Self → ℕ };
 
-    /// Reads some bytes into the front of `into`, and answers how many. For a slice with room it answers
+    /// Reads some bytes into the beginning of `into`, and answers how many. For a slice with room it answers
     /// 0 only at the end.
     ///
     /// # Errors
     /// `Failed` where the source counted a fault; what is left then stays.
     fn read(&mut self, into: &mut [u8]) -> Result<usize, Failed>
         ensures fits { IfOk result (λ n. n ≤ length into.new) }
-        ensures given { IfOk result (λ n. Consumes (left self.old) (left self.new) (take n into.new)) }
+        ensures given { IfOk result (λ n.
+            Consumes (left self.old) (left self.new) (take n into.new)) }
         ensures end { IfOk result
             (λ n. 0 < length into.new → IfSome (left self.old) (λ bytes. (n ≡ 0) ↔ (bytes ≡ []))) }
 
@@ -123,7 +124,8 @@ pub fn read_all<S: Source>(
     ensures at_most { result ≢ Err ReadError.TooLong
         → ConsumesAtMost limit (S.left source.old) (S.left source.new) }
 
-    ensures cause { result ≡ Err ReadError.Fault → Rose (S.faults source.old) (S.faults source.new) }
+    ensures cause { result ≡ Err ReadError.Fault
+        → Rose (S.faults source.old) (S.faults source.new) }
     ensures count { S.faults source.old ≤ S.faults source.new }
 {
     let mut bytes = Vec::new(alloc);

@@ -40,7 +40,8 @@ impl Source for StdSource {
 
     /// One read of the system, of at most the slice's length. Every error of the system is a fault.
     fn read(&mut self, into: &mut [u8]) -> Result<usize, Failed>
-        ensures counted { MatchResult result (λ _. self.new ≡ self.old) (λ _. self.new ≡ one_more self.old) }
+        ensures counted { MatchResult result (λ _. self.new ≡ self.old) (λ _.
+            self.new ≡ one_more self.old) }
         ensures count { self.old ≤ self.new }
         ensures fits { IfOk result (λ n. n ≤ length into.new) }
     {
@@ -107,7 +108,8 @@ impl Sink for StdSink {
     /// One write of the system. Every error of the system is a fault, and so is that it takes nothing of a
     /// piece that is not empty.
     fn write(&mut self, from: &[u8]) -> Result<usize, Failed>
-        ensures counted { MatchResult result (λ _. self.new ≡ self.old) (λ _. self.new ≡ one_more self.old) }
+        ensures counted { MatchResult result (λ _. self.new ≡ self.old) (λ _.
+            self.new ≡ one_more self.old) }
         ensures count { self.old ≤ self.new }
         ensures fits { IfOk result (λ n. n ≤ length from.now) }
         ensures some { IfOk result (λ n. 0 < length from.now → 0 < n) }

@@ -13,7 +13,7 @@ pub trait Sink {
     /// The faults so far. The count never falls.
     ghost faults: { Self → ℕ };
 
-    /// Takes some bytes from the front of `from`, and answers how many: at least one, if there is one.
+    /// Takes some bytes from the beginning of `from`, and answers how many: at least one, if there is one.
     ///
     /// # Errors
     /// `Failed` where the sink counted a fault; what was written then stays. To take none of a piece that is
@@ -32,10 +32,11 @@ pub trait Sink {
 /// Writes all the bytes. Each write is offered all that is left of them. Takes no memory.
 ///
 /// # Errors
-/// `Failed` where a write failed; a part from the front of the bytes was written then, maybe an empty one.
+/// `Failed` where a write failed; a prefix of the bytes was written then, maybe an empty one.
 pub fn write_all<K: Sink>(sink: &mut K, bytes: &[u8]) -> Result<(), Failed>
     ensures whole { OnOk result (Appends (K.written sink.old) (K.written sink.new) bytes.now) }
-    ensures front { OnErr result (AppendsFront (K.written sink.old) (K.written sink.new) bytes.now) }
+    ensures front { OnErr result
+        (AppendsFront (K.written sink.old) (K.written sink.new) bytes.now) }
     ensures cause { OnErr result (Rose (K.faults sink.old) (K.faults sink.new)) }
     ensures count { K.faults sink.old ≤ K.faults sink.new }
 {

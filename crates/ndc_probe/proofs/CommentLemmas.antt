@@ -4,7 +4,7 @@ use Rattle.std.specs.List.{list_all, onto_first}
 use Rattle.ndc_script_words.specs.Text.{text_lines}
 use Rattle.ndc_probe.specs.Comments.{AreComments, commented, commented_from, is_comment_line, is_ended}
 
--- a line that goes on, and comments behind it
+-- a line that goes on, and comments after it
 record GoesOn (lines : List (List ℕ)) : Type 0 where
   line : List ℕ
   others : List (List ℕ)
@@ -36,7 +36,7 @@ followed false [] = record { line = []; others = []; is = refl; all = refl }
 followed true (byte ∷ bytes) = first-byte byte (commented_from (byte == 10) bytes) (byte == 10) refl (followed (byte == 10) bytes)
 followed false (byte ∷ bytes) = next-byte byte (commented_from (byte == 10) bytes) (byte == 10) refl (followed (byte == 10) bytes)
 
--- a byte in front of a text that is ended
+-- a byte before a text that is ended
 behind-byte : (byte : ℕ) (rest : List ℕ) → is_ended rest ≡ true → (rest ≡ [] → (byte == 10) ≡ true) → is_ended (byte ∷ rest) ≡ true
 behind-byte byte [] ended last = last refl
 behind-byte byte (next ∷ rest) ended last = ended

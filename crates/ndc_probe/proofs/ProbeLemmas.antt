@@ -25,7 +25,7 @@ use Rattle.ndc_probe.specs.Comments.{commented}
 use Rattle.ndc_probe.specs.Notices.{noticed}
 use Rattle.ndc_probe.specs.Probed.{above, answers_to, below, line_text, noticed_behind, parts_of, probed, stands_above, text_of, told_of_lines}
 
--- a line, and what is told behind it
+-- a line, and what is told after it
 first-line : (running : Running) (line : Line) (lines : List Line) (asked : List KeptLine)
     → text_of (parts_of running (line ∷ lines) asked) ≡ line_text running line (above line.number asked) ++ text_of (parts_of (behind_line running line) lines (below line.number asked))
 first-line running line lines asked =
@@ -35,7 +35,7 @@ first-line running line lines asked =
     let rest = text_of (parts_of (behind_line running line) lines (below line.number asked)) in
     sym (append_assoc answers (told ++ notices) rest ∙ ap (λ (l : List ℕ). answers ++ l) (append_assoc told notices rest))
 
--- the lines that are left behind a place
+-- the lines that are left after a place
 module _ (running behind : Running) (lines : List Line) (i : ℕ) (line : Line) (asked : List KeptLine) (within : i < length lines) (is : line ≡ get_or lines i line) (moved : behind ≡ behind_line running line) where
   abbrev rest : List ℕ
   rest = text_of (parts_of behind (drop (i + 1) lines) (below line.number asked))
@@ -52,12 +52,12 @@ module _ (running behind : Running) (lines : List Line) (i : ℕ) (line : Line) 
       → Sent before after bytes rest
   sent_line before now after bytes sent taken = Sent_piece before now after bytes (line_text running line (above line.number asked)) rest (subst (Sent before now bytes) next-line sent) taken
 
-  -- of it only a front is written
+  -- of it only a prefix is written
   pub sent_part : (before now after : Option (List ℕ)) (bytes : List ℕ) → Sent before now bytes (text_of (parts_of running (drop i lines) asked)) → AppendsFront now after (line_text running line (above line.number asked))
       → AppendsFront before after bytes
   sent_part before now after bytes sent part = Sent_part before now after bytes (line_text running line (above line.number asked)) rest (subst (Sent before now bytes) next-line sent) part
 
--- behind the last line there is what is asked there
+-- after the last line there is what is asked there
 module _ (running : Running) (lines : List Line) (i : ℕ) (asked : List KeptLine) (most : length lines ≤ i) where
   last-line : text_of (parts_of running (drop i lines) asked) ≡ commented (answers_to running asked)
   last-line = at_drop_all (λ l. text_of (parts_of running l asked)) lines i most ∙ append-nil (commented (answers_to running asked))
@@ -85,12 +85,12 @@ pub record IsUnderWay (script : Script) (asked : List KeptLine) (standing : Worl
   pub stands : StandFor standing.world standing.reports whole
   pub sent : Sent before now (text_of (probed script asked)) (text_of (parts_of (at_world standing whole) lines left))
 
--- the questions that are left behind those above a line
+-- the questions that are left after those above a line
 pub below_is : (number place : ℕ) (asked taken : List KeptLine) → taken ≡ above number (drop place asked) → below number (drop place asked) ≡ drop (place + length taken) asked
 below_is number place asked taken is =
     ap (λ (n : ℕ). drop n (drop place asked)) (sym (ap length is ∙ length-prefix_len (stands_above number) (drop place asked))) ∙ drop-drop (length taken) place asked
 
--- the text of a line, by the clusters before it and behind it
+-- the text of a line, by the clusters before it and after it
 pub line_is : (header : Header) (before after : WorldValue) (line : Line) (asked : List KeptLine) (w : World) (told : List ℕ) → before.header ≡ header → before.world ≡ bare w
     → after.world ≡ bare (world_behind w (ran_at (at_world before w) line)) → told ≡ answers_of (ran_at (at_world before w) line)
     → (commented (flat_map (answer_to header before.world) asked) ++ told) ++ commented (noticed header line.act after.world) ≡ line_text (at_world before w) line asked
@@ -102,7 +102,7 @@ line_is header before after line asked w told headed stood stands answers =
     ∙ ap (λ (h : Header). (commented (flat_map (answer_to h (bare w)) asked) ++ answers_of ran) ++ commented (noticed h line.act (bare (world_behind w ran)))) (sym headed)
     ∙ append_assoc (commented (answers_to (at_world before w) asked)) (answers_of ran) (commented (noticed_behind (at_world before w) line))
 
--- the answers behind the last line, by the clusters there
+-- the answers after the last line, by the clusters there
 pub last_is : (header : Header) (standing : WorldValue) (asked : List KeptLine) (w : World) → standing.header ≡ header → standing.world ≡ bare w
     → commented (flat_map (answer_to header standing.world) asked) ≡ commented (answers_to (at_world standing w) asked)
 last_is header standing asked w headed stands =

@@ -27,7 +27,7 @@ told_of header (Forks at) w = forks_text header at.cluster at.domain w
 told_of header (Dumps at) w = dumps_text header at.cluster at.domain w
 told_of header (Differs one two domain) w = differs_text header one two domain w
 
--- the same, or what was expected where it is no question
+-- the same, or what was expected where it is not a question
 abbrev pub told_where : Header → List (List ℕ) → Result Question ScriptError → World → List ℕ
 told_where header words (Ok question) w = told_of header question w
 told_where header words (Err error) w = unasked_text header words
@@ -37,7 +37,7 @@ abbrev pub joined : List (List ℕ) → List ℕ
 joined [] = []
 joined (word ∷ words) = word ++ spaced words
 
--- the answer to a question: its words, and behind them what the world answers
+-- the answer to a question: its words, and after them what the world answers
 unfoldable pub answer_to : Header → World → KeptLine → List ℕ
 answer_to header w asked =
     joined asked.words ++ (codes ": " ++ told_where header asked.words (question_of header asked.number asked.words) w)

@@ -4,7 +4,7 @@ use Rattle.std.specs.List.{list_all}
 use Rattle.std.specs.Str.{bytes_eq}
 use Rattle.ndc_script_words.specs.Text.{text_lines}
 
--- a text as comments: each of its lines behind `# `, and the last one ended; whether a line begins with the first byte
+-- a text as comments: each of its lines after `# `, and the last one ended; whether a line begins with the first byte
 abbrev pub commented_from : Bool → List ℕ → List ℕ
 commented_from true [] = []
 commented_from false [] = codes "\n"

@@ -5,7 +5,7 @@ use Rattle.ndc_event.specs.Key.{run_text}
 use Rattle.ndc_event.specs.declared.name.Name.{Name}
 use Rattle.ndc_model_sets.specs.declared.view.RunView.{RunView}
 
--- the bytes of a dump, with `| ` in front of each line; whether a line begins with the first
+-- the bytes of a dump, with `| ` before each line; whether a line begins with the first
 abbrev pub quoted_from : Bool → List ℕ → List ℕ
 quoted_from begins [] = []
 quoted_from true (byte ∷ bytes) = codes "| " ++ byte ∷ quoted_from (byte == 10) bytes
@@ -28,7 +28,7 @@ fork_line workflow run =
     if length run.branches == 1 then []
     else workflow ++ codes " run " ++ run_text run.run ++ codes " has " ++ decimal (length run.branches) ++ codes " branches\n"
 
--- lines, behind one that says so, or one that says that there are none
+-- lines, after one that says so, or one that says that there are none
 abbrev pub lines_or_none : List ℕ → List ℕ → List ℕ → List ℕ
 lines_or_none none some [] = none
 lines_or_none none some (byte ∷ lines) = some ++ byte ∷ lines

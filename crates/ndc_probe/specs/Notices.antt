@@ -23,7 +23,7 @@ late_anywhere header reader domain w = flat_map (late_from header reader domain 
 abbrev pub late_at : Header → ClusterNo → ClusterNo → World → List ℕ
 late_at header reader source w = late_lines (name_of header.clusters reader) (name_of header.clusters source) (link_at reader source w).late
 
--- what is told behind a line: of a member that is named, in the domain; of a reader, in all domains of the source
+-- what is told after a line: of a member that is named, in the domain; of a reader, in all domains of the source
 unfoldable pub noticed : Header → Act → World → List ℕ
 noticed header (act.Join at domain member) w = late_anywhere header member domain w
 noticed header (act.Failover at domain target) w = late_anywhere header target domain w

@@ -49,11 +49,11 @@ below number asked = drop (prefix_len (stands_above number) asked) asked
 abbrev pub answers_to : Running → List KeptLine → List ℕ
 answers_to running asked = flat_map (answer_to running.header (bare running.world)) asked
 
--- what is told unasked behind a line
+-- what is told unasked after a line
 abbrev pub noticed_behind : Running → Line → List ℕ
 noticed_behind running line = noticed running.header line.act (bare (world_behind running.world (ran_at running line)))
 
--- what is told of lines that are left, and of the questions that are left: before each line what is asked above it, and behind the last the rest
+-- what is told of lines that are left, and of the questions that are left: before each line what is asked above it, and after the last the rest
 abbrev pub parts_of : Running → List Line → List KeptLine → List Part
 parts_of running [] asked = Beside (answers_to running asked) ∷ []
 parts_of running (line ∷ lines) asked =

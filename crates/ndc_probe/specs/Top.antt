@@ -50,7 +50,7 @@ fault_line fault.Write = codes "ndc: write fault\n"
 fault_line fault.Limit = codes "ndc: input limit\n"
 fault_line fault.Memory = codes "ndc: out of memory\n"
 
--- the line on a faulty script was written, or a front of it and a fault came
+-- the line on a faulty script was written, or a prefix of it and a fault came
 abbrev pub TellsError : Option (List ℕ) → Option (List ℕ) → ℕ → ℕ → ScriptError → Type 0
 TellsError before after faults_before faults_after (Refused line cause) = Tells before after faults_before faults_after (script_line line cause)
 TellsError before after faults_before faults_after Memory = ⊥
@@ -69,7 +69,7 @@ status_line status =
 abbrev pub TextIsProbed : List ℕ → Option (List ℕ) → Option (List ℕ) → Type 0
 TextIsProbed text before after = IsOkAnd (script_of text) (λ script. Appends before after (text_of (probed script (questions_in text))))
 
--- the text is a script, and a front of that was
+-- the text is a script, and a prefix of that was
 abbrev pub TextIsBegun : List ℕ → Option (List ℕ) → Option (List ℕ) → Type 0
 TextIsBegun text before after = IsOkAnd (script_of text) (λ script. AppendsFront before after (text_of (probed script (questions_in text))))
 
@@ -95,11 +95,11 @@ ReadFault left before after fault.Memory = ⊤
 abbrev pub Probes : Option (List ℕ) → Option (List ℕ) → Option (List ℕ) → Option (List ℕ) → Type 0
 Probes left rest before after = IfSome left (λ bytes. (length bytes ≤ most_bytes) × (rest ≡ Some []) × TextIsProbed bytes before after)
 
--- a script was read, and a front of what is told was written
+-- a script was read, and a prefix of what is told was written
 abbrev pub StopsWithin : Option (List ℕ) → Option (List ℕ) → Option (List ℕ) → Type 0
 StopsWithin left before after = IfSome left (λ bytes. (length bytes ≤ most_bytes) × TextIsBegun bytes before after)
 
--- nothing was written, or a script was read and a front of what is told was
+-- nothing was written, or a script was read and a prefix of what is told was
 abbrev pub FrontOfProbe : Option (List ℕ) → Option (List ℕ) → Option (List ℕ) → Type 0
 FrontOfProbe left before after = (after ≡ before) ⊎ StopsWithin left before after
 

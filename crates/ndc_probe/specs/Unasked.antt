@@ -1,4 +1,4 @@
--- What is told where the words of a comment are no question.
+-- What is told where the words of a comment are not question.
 use Rattle.std.specs.Prelude.{ℕ, ◌-◌, List, [], ◌∷◌, ◌++◌, codes, decimal, Option, Some, None}
 use Rattle.std.specs.List.{flat_map, range_with_len}
 use Rattle.ndc_domain.specs.Clusters.{cluster_no, count_of, name_of}
@@ -7,7 +7,7 @@ use Rattle.ndc_probe_questions.specs.Questions.{verb_of}
 use Rattle.ndc_probe_questions.specs.declared.reading.Verb.{Verb}
 use Rattle.ndc_probe_questions.specs.declared.reading.Verb.TheVariants as verb
 
--- what stands behind the word that begins a question
+-- what stands after the word that begins a question
 unfoldable pub usage_of : Option Verb → List ℕ
 usage_of None = codes "flight, queue, holds, late, workflows, forks, differs or dumps"
 usage_of (Some verb.Flight) = codes "flight READER SOURCE SHARD"
@@ -24,11 +24,11 @@ abbrev pub verb_among : List (List ℕ) → Option Verb
 verb_among [] = None
 verb_among (word ∷ words) = verb_of word
 
--- the name of the cluster of a number, behind a space
+-- the name of the cluster of a number, after a space
 unfoldable pub name_word : Header → ℕ → List ℕ
 name_word header number = codes " " ++ name_of header.clusters (cluster_no number)
 
--- the names of the clusters, each behind a space
+-- the names of the clusters, each after a space
 unfoldable pub names_text : Header → List ℕ
 names_text header = flat_map (name_word header) (range_with_len 0 (count_of header.clusters))
 

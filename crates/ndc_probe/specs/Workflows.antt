@@ -51,7 +51,7 @@ dump_in header cluster domain w workflow = dump_where domain workflow (view_at (
 unfoldable pub dumps_head : Header → ClusterNo → List ℕ
 dumps_head header cluster = concat (codes "its dumps\n| cluster " ∷ name_of header.clusters cluster ∷ codes "\n" ∷ [])
 
--- the dumps of a domain at a cluster, behind a line that names it
+-- the dumps of a domain at a cluster, after a line that names it
 unfoldable pub dumps_text : Header → ClusterNo → Name → World → List ℕ
 dumps_text header cluster domain w =
     dumps_head header cluster ++ flat_map (dump_in header cluster domain w) (workflows_at header cluster domain w)

@@ -188,7 +188,7 @@ fn push_told(
     }
 }
 
-/// Appends words, each behind a space.
+/// Appends words, each after a space.
 fn push_words(text: &mut Vec<u8>, words: &[&[u8]]) -> Result<(), OutOfMemory>
     ensures { OnOk result (text.new.items ≡ text.old.items ++ spaced (map (λ word. word.now) words.now)) }
 {

@@ -4,7 +4,7 @@ ghost use Rattle.ndc_probe.specs.Comments.{AreComments, commented};
 
 use ndc_event::OutOfMemory;
 
-/// Appends a text as comments: each of its lines behind `# `.
+/// Appends a text as comments: each of its lines after `# `.
 pub(crate) fn push_comments(text: &mut Vec<u8>, bytes: &[u8]) -> Result<(), OutOfMemory>
     ensures { OnOk result (text.new.items ≡ text.old.items ++ commented bytes.now) }
 {

@@ -12,7 +12,7 @@ use ndc_script_types::ScriptCause;
 pub enum Fault {
     /// The program takes no words.
     Words,
-    /// The input is no script: the first faulty line, from 1, and its cause.
+    /// The input is not a script: the first faulty line, from 1, and its cause.
     Script { line: u64, cause: ScriptCause },
     /// Reading the input failed.
     Read,
@@ -62,7 +62,7 @@ impl Fault {
         }
     }
 
-    /// Writes the line that tells of the fault, without memory. Where writing fails, a front of the line is
+    /// Writes the line that tells of the fault, without memory. Where writing fails, a prefix of the line is
     /// written, and the sink's count of faults has risen.
     pub(crate) fn tell<E: Sink>(self, err: &mut E) -> Result<(), Failed>
         ensures whole { OnOk result (Appends (E.written err.old) (E.written err.new) (fault_line self)) }

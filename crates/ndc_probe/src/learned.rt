@@ -7,7 +7,7 @@ use ndc_model_sets::RunView;
 use ndc_text::line::push_number;
 use std::alloc::Global;
 
-/// Appends bytes, with `| ` in front of each line of them.
+/// Appends bytes, with `| ` before each line of them.
 pub(crate) fn push_quoted(text: &mut Vec<u8>, bytes: &[u8]) -> Result<(), OutOfMemory>
     ensures { OnOk result (text.new.items ≡ text.old.items ++ quoted bytes.now) }
 {
@@ -64,7 +64,7 @@ pub(crate) fn push_fork(
     text.extend_from_slice(b" branches\n")
 }
 
-/// Appends lines behind one that says so, or one that says that there are none.
+/// Appends lines after one that says so, or one that says that there are none.
 pub(crate) fn push_lines_or_none(
     text: &mut Vec<u8>,
     none: &[u8],

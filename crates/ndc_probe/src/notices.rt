@@ -71,7 +71,7 @@ fn push_late_at(
     push_late_lines(text, reader, source, late)
 }
 
-/// Appends what is told behind a line.
+/// Appends what is told after a line.
 #[tactic(auto, unfolding(crate::specs::Notices::noticed))]
 pub(crate) fn push_noticed(
     text: &mut Vec<u8>,

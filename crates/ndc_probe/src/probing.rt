@@ -75,7 +75,7 @@ fn push_answers(
     push_comments(text, answers.as_slice())
 }
 
-/// Appends what is told unasked behind a line, as comments.
+/// Appends what is told unasked after a line, as comments.
 fn push_notices(
     text: &mut Vec<u8>,
     alloc: Global,
@@ -126,13 +126,13 @@ fn line_text<R: Threads + Sync, G: Gate>(
     Ok(text)
 }
 
-/// Runs a script on so many workers at most, behind the gate, as [`ndc_world::run_script`] does without indexers. What is
-/// asked above a line is answered in the world in which the line runs, before it; what is asked behind the last line, in the
-/// world that the script leaves. Behind a line that joins, fails over, pulls or shows levels stands where a reader that it
-/// names is late. All this stands in comments beside the answers of the lines.
+/// Runs a script on so many workers at most, through the gate, as [`ndc_world::run_script`] does without indexers. What
+/// is asked above a line is answered in the world in which the line runs, before it; what is asked after the last line,
+/// in the world that the script leaves. After a line that joins, fails over, pulls or shows levels stands where a
+/// reader that it names is late. All this stands in comments beside the answers of the lines.
 ///
 /// What belongs to a line is written in one piece as soon as it has run. [`RunError::Write`] where a write failed, and only
-/// there, [`RunError::Memory`] where memory ran out: then a front was written.
+/// there, [`RunError::Memory`] where memory ran out: then a prefix was written.
 pub fn probe_script<R: Threads + Sync, G: Gate, K: Sink>(
     rt: &R,
     alloc: Global,

@@ -95,8 +95,8 @@ fn end<E: Sink>(fault: Fault, err: &mut E) -> u8
 /// 0 where the input was read to its end and all was written; 2 only where there is a word; 3 only where the input is no
 /// script; 4 only where reading failed; 5 only where writing failed; 6 only where the input has more than 16,777,216 bytes;
 /// 8 where memory ran out, which may be at any time. After a fault a line on `err` tells of it; but for words these are the
-/// lines of `ndc run`. Whatever the status, `out` has what it had, followed by a front of what is told; by nothing where the
-/// input is no script.
+/// lines of `ndc run`. Whatever the status, `out` has what it had, followed by a prefix of what is told; by nothing
+/// where the input is not a script.
 pub fn probe_top<R: Threads + Sync, S: Source, K: Sink, E: Sink, G: Gate>(
     rt: &R,
     alloc: Global,
@@ -123,7 +123,8 @@ pub fn probe_top<R: Threads + Sync, S: Source, K: Sink, E: Sink, G: Gate>(
     ensures limit { result ≡ 6 → IfSome (S.left source.old) (λ bytes. most_bytes < length bytes) }
     ensures told { IfSome (status_line result) (Tells (E.written err.old) (E.written err.new) (E.faults err.old) (E.faults err.new)) }
 
-    // What is written: nothing before the output begins or where the input is no script, and never more than a front of it.
+    // What is written: nothing before the output begins or where the input is not a script, and never more than a
+    // prefix of it.
     ensures early { IsAmong result (2 ∷ 3 ∷ 4 ∷ 6 ∷ []) → K.written out.new ≡ K.written out.old }
     ensures front { result ≢ 0 → FrontOfProbe (S.left source.old) (K.written out.old) (K.written out.new) }
 {

@@ -1,4 +1,4 @@
-//! What is told where the words of a comment are no question.
+//! What is told where the words of a comment are not question.
 ghost use Rattle.std.specs.Prelude.{◌≡◌, ◌<◌, ◌≤◌, ◌++◌, OnOk, map, Option};
 ghost use Rattle.ndc_domain.specs.Clusters.{count_of};
 ghost use Rattle.ndc_probe.specs.Unasked.{name_word, names_text, range_text, shards_text, unasked_text, usage_of, verb_among};
@@ -9,7 +9,7 @@ use ndc_probe_questions::{Verb, verb_of};
 use ndc_script_types::Header;
 use ndc_text::line::push_number;
 
-/// What stands behind the word that begins a question.
+/// What stands after the word that begins a question.
 #[tactic(auto, unfolding(crate::specs::Unasked::usage_of))]
 fn usage_of(verb: Option<Verb>) -> &'static str
     ensures { result.now ≡ usage_of verb }
@@ -37,7 +37,7 @@ fn verb_among(words: &[&[u8]]) -> Option<Verb>
     }
 }
 
-/// Appends the name of the cluster of a number, behind a space.
+/// Appends the name of the cluster of a number, after a space.
 #[tactic(auto, unfolding(crate::specs::Unasked::name_word))]
 fn push_name(text: &mut Vec<u8>, header: &Header, number: u32) -> Result<(), OutOfMemory>
     requires { number < count_of header.now.clusters }
@@ -47,7 +47,7 @@ fn push_name(text: &mut Vec<u8>, header: &Header, number: u32) -> Result<(), Out
     text.extend_from_slice(header.clusters.name(ClusterNo { number }).as_bytes())
 }
 
-/// Appends the names of the clusters, each behind a space.
+/// Appends the names of the clusters, each after a space.
 #[tactic(auto, unfolding(crate::specs::Unasked::names_text))]
 fn push_names(text: &mut Vec<u8>, header: &Header) -> Result<(), OutOfMemory>
     ensures { OnOk result (text.new.items ≡ text.old.items ++ names_text header.now) }

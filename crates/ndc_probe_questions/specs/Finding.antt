@@ -3,7 +3,7 @@ use Rattle.std.specs.Prelude.{ℕ, ◌+◌, ◌==◌, ◌&&◌, List, [], ◌∷
 use Rattle.std.specs.List.{slice_split}
 use Rattle.ndc_script_words.specs.Text.{KeptLine, kept_from, text_lines}
 
--- what a line asks: nothing, where it does not begin with `#?`; else the words behind that, read as those of a line of a script
+-- what a line asks: nothing, where it does not begin with `#?`; else the words after that, read as those of a line of a script
 abbrev pub asked_on : ℕ → List ℕ → List KeptLine
 asked_on number (first ∷ second ∷ words) = if (first == 35) && (second == 63) then kept_from number (text_lines words) else []
 asked_on number _ = []

@@ -81,7 +81,7 @@ or_else None other = other
 unfoldable pub verb_of : List ℕ → Option Verb
 verb_of word = or_else (sent_verb word) (learned_verb word)
 
--- the question that begins so, by the words behind
+-- the question that begins so, by the words that follow
 unfoldable pub asked_by : Header → ℕ → Verb → List (List ℕ) → Result Question ScriptError
 asked_by header line verb.Flight words = do
   lane ← lane_at header line words

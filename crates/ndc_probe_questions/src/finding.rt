@@ -8,12 +8,13 @@ use std::alloc::Global;
 
 /// The lines of a text.
 fn lines_of<'a>(alloc: Global, bytes: &'a [u8]) -> Result<Vec<&'a [u8]>, OutOfMemory>
-    ensures { IfOk result (λ lines. map (λ line. line.now) lines.items ≡ slice_split (λ byte. byte == 10) bytes.now) }
+    ensures { IfOk result (λ lines.
+        map (λ line. line.now) lines.items ≡ slice_split (λ byte. byte == 10) bytes.now) }
 {
     bytes.split(|byte| *byte == b'\n').collect(alloc)
 }
 
-/// What a line of this number asks: nothing, where it does not begin with `#?` or has no word behind that.
+/// What a line of this number asks: nothing, where it does not begin with `#?` or has no word after that.
 fn asked_on<'a>(
     alloc: Global,
     number: u64,
@@ -31,7 +32,7 @@ fn asked_on<'a>(
     }
 }
 
-/// The questions in a script's text: the words behind `#?` of each line that begins so, with the line's number, from 1.
+/// The questions in a script's text: the words after `#?` of each line that begins so, with the line's number, from 1.
 pub fn questions_in<'a>(alloc: Global, bytes: &'a [u8]) -> Result<Vec<KeptLine<'a>>, OutOfMemory>
     ensures { IfOk result (λ asked. asked.items ≡ questions_in bytes.now) }
 {

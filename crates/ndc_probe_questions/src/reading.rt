@@ -86,7 +86,8 @@ fn domain_at(
     line: u64,
     words: &[&[u8]],
 ) -> Result<DomainAt, ScriptError>
-    ensures answer { Gives Memory (λ at. at) result (domain_at header.now line (map (λ word. word.now) words.now)) }
+    ensures answer { Gives Memory (λ at.
+        at) result (domain_at header.now line (map (λ word. word.now) words.now)) }
     ensures well_formed { IfOk result (λ at. IsCluster header.now at.cluster) }
 {
     match words {
@@ -107,7 +108,8 @@ fn differs_at(
     line: u64,
     words: &[&[u8]],
 ) -> Result<Question, ScriptError>
-    ensures answer { Gives Memory (λ question. question) result (differs_at header.now line (map (λ word. word.now) words.now)) }
+    ensures answer { Gives Memory (λ question.
+        question) result (differs_at header.now line (map (λ word. word.now) words.now)) }
     ensures well_formed { IfOk result (IsQuestion header.now) }
 {
     match words {
@@ -171,7 +173,7 @@ pub fn verb_of(word: &[u8]) -> Option<Verb>
     }
 }
 
-/// The question that begins so, by the words behind.
+/// The question that begins so, by the words that follow.
 #[tactic(auto, unfolding(crate::specs::Questions::asked_by))]
 fn asked_by(
     alloc: Global,
@@ -181,7 +183,8 @@ fn asked_by(
     words: &[&[u8]],
 ) -> Result<Question, ScriptError>
     requires fit { IsWellFormedHeader header.now }
-    ensures answer { Gives Memory (λ question. question) result (asked_by header.now line verb (map (λ word. word.now) words.now)) }
+    ensures answer { Gives Memory (λ question.
+        question) result (asked_by header.now line verb (map (λ word. word.now) words.now)) }
     ensures well_formed { IfOk result (IsQuestion header.now) }
 {
     let mut names = Interner::keeping_none(alloc);
@@ -198,8 +201,8 @@ fn asked_by(
 }
 
 /// The question that the words of a line are, for a script with this header. Refused where they are none: the first word
-/// begins no question, there are too few or too many behind it, a cluster is not one of the header, or a number is out of
-/// its range.
+/// begins no question, there are too few or too many after it, a cluster is not one of the header, or a number is out
+/// of its range.
 #[tactic(auto, unfolding(crate::specs::Questions::question_of))]
 pub fn question_of(
     alloc: Global,
@@ -207,7 +210,8 @@ pub fn question_of(
     asked: &KeptLine,
 ) -> Result<Question, ScriptError>
     requires fit { IsWellFormedHeader header.now }
-    ensures answer { Gives Memory (λ question. question) result (question_of header.now asked.now.number asked.now.words) }
+    ensures answer { Gives Memory (λ question.
+        question) result (question_of header.now asked.now.number asked.now.words) }
     ensures well_formed { IfOk result (IsQuestion header.now) }
 {
     let line = asked.number();

@@ -126,7 +126,7 @@ first-apart a x rs e = by (same_activity a x.activity) refl
     by true p = absurd (true≢false (sym (ap (λ t. cond t true (has a rs)) p) ∙ e))
     by false p = (p, sym (ap (λ t. cond t true (has a rs)) p) ∙ e)
 
--- a report joins behind a merge as before it, where one of its activity was there and none is taken over
+-- a report joins after a merge as before it, where one of its activity was there and none is taken over
 with-before : (list rest : List Report) (r : Report) → has r.activity list ≡ true → has r.activity rest ≡ false → with_report (merged list rest) r ≡ merged (with_report list r) rest
 with-before list [] r h none = refl
 with-before list (x ∷ rest) r h none =
@@ -163,7 +163,7 @@ pub merged_joined : (list one two : List Report) → merged list (one ++ two) �
 merged_joined list [] two = refl
 merged_joined list (r ∷ one) two = merged_joined (with_report list r) one two
 
--- the greatest of reports behind others
+-- the greatest of reports after others
 pub greatest_joined : (one two : List Report) → greatest_of (one ++ two) ≡ merged (greatest_of one) (greatest_of two)
 greatest_joined one two = merged_joined [] one two ∙ sym (merged_greatest (greatest_of one) two)
 

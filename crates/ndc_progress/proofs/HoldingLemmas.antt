@@ -22,7 +22,7 @@ seen-longer own log more count seen = record {
   covered = subst (AllByRecursion (λ r. covers own r ≡ true)) (sym (take-append-le count log more seen.within)) seen.covered;
 }
 
--- what is covered stays so behind a merge
+-- what is covered stays so after a merge
 covered-longer : (own more list : List Report) → AllByRecursion (λ r. covers own r ≡ true) list → AllByRecursion (λ r. covers (merged own more) r ≡ true) list
 covered-longer own more [] all = tt
 covered-longer own more (r ∷ list) all = (merged-covers own more r all.0, covered-longer own more list all.1)
@@ -41,7 +41,7 @@ seen-whole own log = record {
   covered = subst (AllByRecursion (λ r. covers (merged own log) r ≡ true)) (sym (take_all (length log) log (omega arith))) (all-covered own log);
 }
 
--- what is behind the seen reports of a log leaves the same held as all of the log
+-- what is after the seen reports of a log leaves the same held as all of the log
 merged-behind : (own log : List Report) (count : ℕ) → AreSeen own log count → merged own (greatest_of (drop count log)) ≡ merged own (greatest_of log)
 merged-behind own log count seen =
     merged_greatest own (drop count log)
@@ -55,7 +55,7 @@ pub count_behind : (own log : List Report) (count : ℕ) → AreSeen (greatest_o
 count_behind own log count seen =
     count_same (greatest_of own) (greatest_of (drop count log)) (greatest_of log) (greatest_once own) (greatest_once (drop count log)) (greatest_once log) (merged-behind (greatest_of own) log count seen)
 
--- what is held behind the reports that take the place of what was held is what is held behind all
+-- what is held after the reports that take the place of what was held is what is held after all
 pub greatest_news : (own others : List Report) → AreOnce others → greatest_of (own ++ news (greatest_of own) others) ≡ merged (greatest_of own) others
 greatest_news own others once = merged_joined [] own (news (greatest_of own) others) ∙ merged_news (greatest_of own) others (greatest_once own) once
 

@@ -92,7 +92,7 @@ activities_once (r ∷ rs) h =
     of_reports [] h = tt
     of_reports (first ∷ list) h = (h.0, of_reports list h.1)
 
--- counting goes on behind the first
+-- counting goes on after the first
 count-cons : (test : ActivityRef → Bool) (a : ActivityRef) (list : List ActivityRef) → count_by test (a ∷ list) ≡ (if test a then 1 else 0) + count_by test list
 count-cons test a list = sum_by-cons (λ activity. if test activity then 1 else 0) a list
 

@@ -1,4 +1,4 @@
--- The reports that take the place of what is held: merging them alone is merging all, and how many they are is told by what is held behind the merge.
+-- The reports that take the place of what is held: merging them alone is merging all, and how many they are is told by what is held after the merge.
 use Rattle.std.proofs.Common.{◌≡◌, ◌+◌, Bool, true, false, cond, List, [], ◌∷◌, length, Some, None, if◌then◌else◌, refl, sym, ap, subst, ◌∙◌, arith}
 use Rattle.std.specs.List.{AllByRecursion}
 use Rattle.std.proofs.lemmas.List.{length-map}
@@ -86,7 +86,7 @@ news-with base (f ∷ list) r once same = by (same_activity r.activity f.activit
         of true more = omega (arith, more)
         of false more = more
 
--- the same behind a merge
+-- the same after a merge
 news-behind : (base list others : List Report) → AreOnce list → AreOnce others → AreAlike base list others
     → length (news base (merged list others)) ≡ length (news base list) + length (news base others)
 news-behind base list [] once each same = omega arith

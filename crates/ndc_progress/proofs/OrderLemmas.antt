@@ -1,4 +1,4 @@
--- The order of reports, the greater of several, and what is held behind merges.
+-- The order of reports, the greater of several, and what is held after merges.
 use Rattle.std.proofs.Common.{◌≡◌, ℕ, Bool, true, false, cond, not, List, [], ◌∷◌, Option, Some, None, IfSome, if◌then◌else◌, refl, sym, ap, subst, ◌∙◌, true≢false, nat_lt, ◌==◌, ◌||◌, ◌&&◌, arith}
 use Rattle.std.specs.List.{AllByRecursion}
 use Rattle.std.proofs.lemmas.Bool.Decides.{nat_tests}
@@ -22,7 +22,7 @@ before-before v b w c x d h g = grind (arith, nat_tests)
 pub not-before : (v b w c x d : ℕ) → before v b w c ≡ false → before w c x d ≡ false → before v b x d ≡ false
 not-before v b w c x d h g = grind (arith, nat_tests)
 
--- what comes before another does not come behind it
+-- what comes before another does not come after it
 before-flip : (v b w c : ℕ) → before v b w c ≡ true → before w c v b ≡ false
 before-flip v b w c h = grind (arith, nat_tests)
 
@@ -122,7 +122,7 @@ with_once (f ∷ list) r h = by (same_activity r.activity f.activity) refl (with
         let also : own f.activity r ≡ None = ap (λ t. cond t (Some r) None) (other_flip r.activity f.activity p) in
         (held_with f.activity list r h.1 ∙ (λ i. joined (h.0 i) (also i)), more)
 
--- the same behind a merge
+-- the same after a merge
 pub merged_once : (list others : List Report) → AreOnce list → AreOnce (merged list others)
 merged_once list [] h = h
 merged_once list (r ∷ others) h = merged_once (with_report list r) others (with_once list r h)
@@ -135,7 +135,7 @@ held-first a r rs = by (same_activity a r.activity)
     by true = refl
     by false = refl
 
--- what is held behind a merge is the greater of both
+-- what is held after a merge is the greater of both
 pub held_merged : (a : ActivityRef) (list others : List Report) → AreOnce list → held a (merged list others) ≡ joined (held a list) (held a others)
 held_merged a list [] h = sym (joined-none (held a list))
 held_merged a list (r ∷ others) h =
@@ -203,7 +203,7 @@ still-covers (f ∷ list) r g h =
     by false p l e true q false u more = rw (q, u) refl
     by false p l e false q k u more = rw q (more (sym (ap (λ t. cond t (not (report_lt f r)) (covers list r)) q) ∙ h))
 
--- the same behind a merge
+-- the same after a merge
 pub merged-covers : (list others : List Report) (r : Report) → covers list r ≡ true → covers (merged list others) r ≡ true
 merged-covers list [] r h = h
 merged-covers list (g ∷ others) r h = merged-covers (with_report list g) others r (still-covers list r g h)

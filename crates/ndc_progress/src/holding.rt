@@ -65,7 +65,7 @@ impl Holding {
         self.seen[from]
     }
 
-    /// The greatest report of each activity among those behind the first so many.
+    /// The greatest report of each activity among those after the first so many.
     pub(crate) fn behind(&self, count: usize) -> Result<Progress, OutOfMemory>
         requires { count ≤ length self.now.log }
         ensures { IfOk result (λ greatest. greatest ≡ greatest_of (drop count self.now.log)) }
@@ -81,9 +81,13 @@ impl Holding {
         version: u64,
         details: Name,
     ) -> Result<u64, OutOfMemory>
-        requires { IfSome (held activity (greatest_of self.old.log)) (λ report. (report.version ≤ version) × (report.beat < 10 ^ 12)) }
-        ensures beat { IfOk result (λ beat. beat ≡ next_beat version (held activity (greatest_of self.old.log))) }
-        ensures told { OnOk result (self.new ≡ having_told (next_report activity version details (greatest_of self.old.log)) self.old) }
+        requires { IfSome (held activity (greatest_of self.old.log)) (λ report.
+            (report.version ≤ version) × (report.beat < 10 ^ 12)) }
+        ensures beat { IfOk result (λ beat.
+            beat ≡ next_beat version (held activity (greatest_of self.old.log))) }
+        ensures told { OnOk result
+            (self.new ≡ having_told (next_report activity version details
+            (greatest_of self.old.log)) self.old) }
         ensures unchanged { OnErr result (self.new ≡ self.old) }
     {
         self.log.reserve(1)?;
@@ -108,7 +112,8 @@ impl Holding {
     ) -> Result<u64, OutOfMemory>
         requires from { from < length self.old.seen }
         requires once { AreOnce fresh.now }
-        ensures count { IfOk result (λ count. count ≡ merge_count (greatest_of self.old.log) fresh.now) }
+        ensures count { IfOk result (λ count.
+            count ≡ merge_count (greatest_of self.old.log) fresh.now) }
         ensures taken { OnOk result (self.new ≡ having_taken from fresh.now gone_over self.old) }
         ensures unchanged { OnErr result (self.new ≡ self.old) }
     {

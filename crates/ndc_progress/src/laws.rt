@@ -8,7 +8,8 @@ ghost use Rattle.ndc_progress.specs.Reports.{greatest_of, held, merged};
 /// Of the greatest reports of all that were told or taken over, the same is held of each activity as of all of them.
 #[tactic(auto, using(crate::proofs::OrderLemmas::held_greatest))]
 pub fn the_greatest_reports_are_held()
-    ensures { (activity : ActivityRef) (reports : List Report) → held activity (greatest_of reports) ≡ held activity reports }
+    ensures { (activity : ActivityRef) (reports : List Report) → held activity (greatest_of reports)
+        ≡ held activity reports }
 {}
 
 /// Merging twice is merging once.
@@ -21,5 +22,6 @@ pub fn merging_twice_is_merging_once()
 #[tactic(auto, using(crate::proofs::OrderLemmas::merged_either_way))]
 pub fn the_order_of_merges_does_not_matter()
     ensures { (activity : ActivityRef) (own one two : List Report) → AreOnce own → AllAgree one two
-        → held activity (merged (merged own one) two) ≡ held activity (merged (merged own two) one) }
+        → held activity (merged (merged own one) two)
+        ≡ held activity (merged (merged own two) one) }
 {}

@@ -31,7 +31,7 @@ impl Model for Progress {
     ghost invariant = { λ progress. AreKeyed progress.reports.entries };
 }
 
-/// The beat of the next report with a version, behind the held one.
+/// The beat of the next report with a version, after the held one.
 fn beat_behind(held: Option<&Report>, version: u64) -> u64
     requires { IfSome (option_copied held) (λ report. report.beat < 10 ^ 12) }
     ensures { result ≡ next_beat version (option_copied held.entry) }
@@ -55,7 +55,7 @@ fn is_greater(report: &Report, held: Option<&Report>) -> bool
     }
 }
 
-/// What is held of an activity, and the place behind it. There is no search where it stands at the place that is given.
+/// What is held of an activity, and the place after it. There is no search where it stands at the place that is given.
 fn find_near<'a>(
     own: &'a IndexMap<ActivityRef, Report>,
     activity: &ActivityRef,
@@ -84,7 +84,8 @@ fn news_among(
     alloc: Global,
 ) -> Result<Vec<(ActivityRef, Report)>, OutOfMemory>
     requires { AreKeyed own.now.entries }
-    ensures { IfOk result (λ taken. taken.items ≡ keyed (news (values_of own.now.entries) (values_of others.now.entries))) }
+    ensures { IfOk result (λ taken.
+        taken.items ≡ keyed (news (values_of own.now.entries) (values_of others.now.entries))) }
 {
     let mut taken = Vec::new(alloc);
     let mut near = 0;
@@ -153,9 +154,11 @@ impl Progress {
         version: u64,
         details: Name,
     ) -> Result<u64, OutOfMemory>
-        requires { IfSome (held activity self.old) (λ report. (report.version ≤ version) × (report.beat < 10 ^ 12)) }
+        requires { IfSome (held activity self.old) (λ report.
+            (report.version ≤ version) × (report.beat < 10 ^ 12)) }
         ensures beat { IfOk result (λ beat. beat ≡ next_beat version (held activity self.old)) }
-        ensures told { OnOk result (self.new ≡ with_report self.old (next_report activity version details self.old)) }
+        ensures told { OnOk result
+            (self.new ≡ with_report self.old (next_report activity version details self.old)) }
         ensures unchanged { OnErr result (self.new ≡ self.old) }
     {
         let beat = beat_behind(self.reports.get(&activity), version);

@@ -64,9 +64,14 @@ impl Reports {
         details: Name,
     ) -> Result<u64, OutOfMemory>
         requires cluster { cluster < length self.old }
-        requires held { IfSome (held activity (slice_index_or self.old cluster [])) (λ report. (report.version ≤ version) × (report.beat < 10 ^ 12)) }
-        ensures beat { IfOk result (λ beat. beat ≡ next_beat version (held activity (slice_index_or self.old cluster []))) }
-        ensures told { OnOk result (self.new ≡ slice_set self.old cluster (with_report (slice_index_or self.old cluster []) (next_report activity version details (slice_index_or self.old cluster [])))) }
+        requires held { IfSome (held activity (slice_index_or self.old cluster [])) (λ report.
+            (report.version ≤ version) × (report.beat < 10 ^ 12)) }
+        ensures beat { IfOk result (λ beat.
+            beat ≡ next_beat version (held activity (slice_index_or self.old cluster []))) }
+        ensures told { OnOk result
+            (self.new ≡ slice_set self.old cluster
+            (with_report (slice_index_or self.old cluster [])
+            (next_report activity version details (slice_index_or self.old cluster [])))) }
         ensures unchanged { OnErr result (self.new ≡ self.old) }
     {
         let own = &mut self.holdings[cluster];
@@ -80,8 +85,11 @@ impl Reports {
     pub fn take_over(&mut self, to: usize, from: usize) -> Result<u64, OutOfMemory>
         requires to { to < length self.old }
         requires from { from < length self.old }
-        ensures count { IfOk result (λ count. count ≡ merge_count (slice_index_or self.old to []) (slice_index_or self.old from [])) }
-        ensures taken { OnOk result (self.new ≡ slice_set self.old to (merged (slice_index_or self.old to []) (slice_index_or self.old from []))) }
+        ensures count { IfOk result (λ count.
+            count ≡ merge_count (slice_index_or self.old to []) (slice_index_or self.old from [])) }
+        ensures taken { OnOk result
+            (self.new ≡ slice_set self.old to
+            (merged (slice_index_or self.old to []) (slice_index_or self.old from []))) }
         ensures unchanged { OnErr result (self.new ≡ self.old) }
     {
         let seen = self.holdings[to].seen(from);

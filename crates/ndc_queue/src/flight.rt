@@ -91,7 +91,8 @@ impl Flight {
     /// Takes the message at a place out; the others keep their order. Refused exactly where the place is not below the
     /// length, and then the list stays as it was. Takes no memory.
     pub fn lose(&mut self, place: usize) -> Result<(), NoSuchPlace>
-        ensures lost { MatchResult result (λ _. after_loss place self.old ≡ Some self.new) (λ _. after_loss place self.old ≡ None) }
+        ensures lost { MatchResult result (λ _. after_loss place self.old ≡ Some self.new) (λ _.
+            after_loss place self.old ≡ None) }
         ensures unchanged { OnErr result (self.new ≡ self.old) }
     {
         if self.items.len() <= place {
@@ -106,7 +107,8 @@ impl Flight {
     /// was.
     pub fn repeat(&mut self, place: usize) -> Result<(), FlightError>
         ensures repeated { OnOk result (after_repeat place self.old ≡ Some self.new) }
-        ensures refused { IfErr result (λ e. e ≢ error.Memory → (e ≡ error.NoSuchPlace) × (after_repeat place self.old ≡ None)) }
+        ensures refused { IfErr result (λ e.
+            e ≢ error.Memory → (e ≡ error.NoSuchPlace) × (after_repeat place self.old ≡ None)) }
         ensures no_place { after_repeat place self.old ≡ None → result ≡ Err error.NoSuchPlace }
         ensures unchanged { OnErr result (self.new ≡ self.old) }
     {
@@ -121,7 +123,8 @@ impl Flight {
     /// Takes the message at one place out and puts it back so that it stands at another. Refused exactly where one of
     /// both places is not below the length, and then the list stays as it was. Takes no memory.
     pub fn move_to(&mut self, from: usize, to: usize) -> Result<(), NoSuchPlace>
-        ensures moved { MatchResult result (λ _. after_move from to self.old ≡ Some self.new) (λ _. after_move from to self.old ≡ None) }
+        ensures moved { MatchResult result (λ _. after_move from to self.old ≡ Some self.new) (λ _.
+            after_move from to self.old ≡ None) }
         ensures unchanged { OnErr result (self.new ≡ self.old) }
     {
         if self.items.len() <= from || self.items.len() <= to {

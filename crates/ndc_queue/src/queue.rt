@@ -19,7 +19,7 @@ pub const MAX_ENTRIES: u64 = 1_000_000_000_000;
 /// at once stays until the queue is let go.
 #[derive(Debug, Drop)]
 pub struct Queue {
-    /// The kept entries, behind dropped ones that have not been taken out yet.
+    /// The kept entries, after dropped ones that have not been taken out yet.
     entries: Vec<Message>,
     /// How many of `entries` are dropped ones: at most half of them. They are emptied.
     idle: usize,
@@ -34,7 +34,10 @@ impl Model for Queue {
 
     ghost Value = { QueueValue };
 
-    ghost view = { λ queue. record { first = queue.first; kept = drop queue.idle queue.entries.items } };
+    ghost view = { λ queue. record {
+      first = queue.first;
+      kept = drop queue.idle queue.entries.items;
+    } };
 
     ghost invariant = { λ queue. (2 * queue.idle ≤ length queue.entries.items)
         × (queue.first + length (drop queue.idle queue.entries.items) ≤ 10 ^ 12)
@@ -157,7 +160,8 @@ impl Queue {
     pub fn after(&self, level: u64, count: u64) -> Result<Vec<Message>, OutOfMemory>
         requires least { self.now.first ≤ level }
         requires most { level ≤ queue_len self.now }
-        ensures { IfOk result (λ list. list.items ≡ take count (kept_from self.now.first level self.now.kept)) }
+        ensures { IfOk result (λ list.
+            list.items ≡ take count (kept_from self.now.first level self.now.kept)) }
     {
         let entries = &self.entries.as_slice()[self.idle..];
         let entries = &entries[(level - self.first) as usize..];

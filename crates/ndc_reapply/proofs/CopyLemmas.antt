@@ -17,7 +17,7 @@ use Rattle.ndc_state.specs.Pendings.{is_started}
 use Rattle.ndc_state.specs.Value.{StateValue}
 use Rattle.ndc_state.specs.Written.{replay_kinds, is_failover_close_due}
 
--- a state behind copies of these signals
+-- a state after copies of these signals
 abbrev pub with_copies : StateValue → ℕ → List Stray → StateValue
 with_copies s v [] = s
 with_copies s v (stray ∷ list) = with_copies (with_signal s v stray.origin) v list

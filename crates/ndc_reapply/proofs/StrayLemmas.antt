@@ -29,7 +29,7 @@ insert_entry-by_place cmp law s (f ∷ list) = by (origin_lt s.origin f.origin) 
     by false true e g rest = rw (law s.origin f.origin, e, g) (ap (λ l. (place_of f.origin, f) ∷ l) rest)
     by false false e g rest = rw (law s.origin f.origin, e, g) (ap (λ o. (place_of o, s) ∷ by_place list) (sym (origin_lt-neither s.origin f.origin e g)))
 
--- a signal that is not settled is put to those behind it
+-- a signal that is not settled is put to those after it
 pub strays_of-put : (signals : List Stray) (settled : List Origin) (i j : ℕ) (s : Stray) → i + 1 ≡ j → i < length signals → s ≡ get_or signals i s
     → is_among s.origin settled ≡ false → with_stray s (strays_of (drop j signals) settled) ≡ strays_of (drop i signals) settled
 strays_of-put signals settled i j s e lt at h = rw (drop-cons signals i s lt, ← at, h, ← e, add-one i) refl

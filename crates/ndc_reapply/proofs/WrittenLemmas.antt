@@ -38,7 +38,7 @@ next-replay_kinds s t v (kind ∷ kinds) h =
     let p = replay-cons s t (written s v kind) (events_from (s.next + 1) v kinds) h in
     omega (arith, next-replay_kinds (after s (written s v kind)) t v kinds p.1)
 
--- below an open state a kind that is no start is forbidden by its own rules alone
+-- below an open state a kind that is not a start is forbidden by its own rules alone
 pub rule_of-open : (s : StateValue) (v : ℕ) (kind : EventKind) → IsOpen s → is_start kind ≡ false
     → rule_of s (written s v kind) ≡ (if (row s s.next v kind).alone && is_some s.decision then Some Decision else (row s s.next v kind).own)
 rule_of-open s v kind opened h =
@@ -48,7 +48,7 @@ rule_of-open s v kind opened h =
     not_first : (n : ℕ) → 1 < n → (n == 1) ≡ false
     not_first n lt = grind (arith, nat_tests)
 
--- a state behind a copy with this origin
+-- a state after a copy with this origin
 abbrev pub with_signal : StateValue → ℕ → Origin → StateValue
 with_signal s v origin = record s { next = s.next + 1; version = v; origins = s.origins ++ origin ∷ [] }
 
@@ -60,7 +60,7 @@ replay_kinds-copy s v name input origin kinds opened h =
     replay_kinds-cons s v (WorkflowExecutionSignaled name input (Some origin)) kinds
     (rule_of-open s v (WorkflowExecutionSignaled name input (Some origin)) opened refl ∙ rw h refl)
 
--- a state behind the scheduling of a decision
+-- a state after the scheduling of a decision
 abbrev pub with_decision : StateValue → ℕ → StateValue
 with_decision s v = record s { next = s.next + 1; version = v; decision = Some (scheduled_by s.next) }
 

@@ -8,7 +8,7 @@ use Rattle.ndc_reapply.specs.Strays.{origin_lt, origins_of}
 use Rattle.ndc_state.specs.Origins.{same_origin, is_among}
 use Rattle.ndc_state.specs.Value.{StateValue}
 
--- each origin comes before all that stand behind it
+-- each origin comes before all that stand after it
 abbrev pub rises : List Origin → Bool
 rises [] = true
 rises (origin ∷ origins) = list_all (origin_lt origin) origins && rises origins

@@ -90,7 +90,8 @@ fn insert(set: &mut IndexSet<Origin>, origin: Origin) -> Result<(), OutOfMemory>
 
 /// The origins as a set that is asked without going over them.
 fn set_of(alloc: Global, origins: &[Origin]) -> Result<IndexSet<Origin>, OutOfMemory>
-    ensures { IfOk result (λ set. (origin : EventOrigin) → is_among origin set.keys ≡ is_among origin origins.now) }
+    ensures { IfOk result (λ set.
+        (origin : EventOrigin) → is_among origin set.keys ≡ is_among origin origins.now) }
 {
     let mut set = IndexSet::new(alloc);
     for origin in origins {

@@ -31,7 +31,7 @@ pub collected-append : (run : RunId) (origins : List Origin) (xs ys : List Event
 collected-append run origins [] ys = refl
 collected-append run origins (e ∷ xs) ys = collected-append run (collected_by run e.id e.version e.kind origins) xs ys
 
--- two counts, one behind the other
+-- two counts, one after the other
 pub counted-twice : (n a b : ℕ) → counted (counted n a) b ≡ counted n (a + b)
 counted-twice n a b = omega arith
 
@@ -44,7 +44,7 @@ allowed_count-le s (e ∷ es) = by (applied s e) (λ t. allowed_count-le t es)
     by (Ok t) h = omega (arith, h t)
     by (Err x) h = omega arith
 
--- behind events that replay, the others are counted from the state after them
+-- after events that replay, the others are counted from the state after them
 pub allowed_count-Ok : (s t : StateValue) (xs ys : List Event) → replay s xs ≡ Ok t → allowed_count s (xs ++ ys) ≡ length xs + allowed_count t ys
 allowed_count-Ok s t [] ys h = let same : s ≡ t = cc in rw same (omega arith)
 allowed_count-Ok s t (e ∷ xs) ys h = by (applied s e) (λ n. allowed_count-Ok n t xs ys) h
@@ -122,7 +122,7 @@ Counts-refused before now after total most s xs ys w c =
 pub replay-refused : (s : StateValue) (xs ys : List Event) (e : StateError) → replay s xs ≡ Err e → replay s (xs ++ ys) ≡ Err e
 replay-refused s xs ys e h = replay-append s xs ys ∙ ap (λ r. r >>= (λ t. replay t ys)) h
 
--- the events left, behind a batch that is applied
+-- the events left, after a batch that is applied
 pub replay-applied : (s t : StateValue) (xs ys : List Event) → replay s xs ≡ Ok t → replay t ys ≡ replay s (xs ++ ys)
 replay-applied s t xs ys h = sym (replay-append s xs ys ∙ ap (λ r. r >>= (λ u. replay u ys)) h)
 
@@ -133,7 +133,7 @@ last_kept-back states [] back found h = h
 last_kept-back states (b ∷ front) back found h =
     ap (λ o. or_earlier o (behind_kept (front ++ back) (kept_at b.key states))) (last_kept-back states front back found h)
 
--- the batch at a place is kept, and none behind it
+-- the batch at a place is kept, and none after it
 pub last_kept-at : (states : List (BatchKey × StateValue)) (path : List Batch) (i : ℕ) (x : Batch) (kept : StateValue) → i < length path → x ≡ get_or path i x
     → kept_at x.key states ≡ Some kept → last_kept states (drop (i + 1) path) ≡ None → last_kept states path ≡ Some (kept, drop (i + 1) path)
 last_kept-at states path i x kept lt at here none =
@@ -192,12 +192,12 @@ HaveSmallIds-drop path n h k d lt =
 pub CountsWithin-le : (before low high now : ℕ) → low ≤ high → CountsWithin before low now → CountsWithin before high now
 CountsWithin-le before low high now le w = (w.0, omega (arith, w.1), w.2)
 
--- where nothing is kept, all events are behind
+-- where nothing is kept, all events come after it
 pub events_behind-none : (states : List (BatchKey × StateValue)) (path : List Batch) → last_kept states path ≡ None → events_behind states path ≡ history_of path
 events_behind-none states path h = ap (λ o. history_of (batches_behind path o)) h
 
 module _ (k : Kept) (path : List Batch) (count : ℕ) (kept : StateValue) (fits : FitsPath k path) (f : IsFoundAt k.states path count kept) where
-  -- the events behind the last that is kept are those of the batches from its place on
+  -- the events after the last that is kept are those of the batches from its place on
   pub events_behind-found : events_behind k.states path ≡ history_of (drop count path)
   events_behind-found = ap (λ o. history_of (batches_behind path o)) f.found
 
@@ -227,7 +227,7 @@ module _ (k : Kept) (path : List Batch) (count : ℕ) (kept : StateValue) (fits 
       replay-behind filled (e ∙ ap (λ (l : List Batch). record kept { origins = collected kept.run kept.origins (history_of l) }) a)
       ∙ ap (λ (l : List Batch). replay filled (history_of l)) (sym b)
 
-  -- and no more steps are taken than there are events behind the last that is kept
+  -- and no more steps are taken than there are events after the last that is kept
   pub steps-parts : (before now : ℕ) (behind : List Batch) (filled : StateValue) → behind ≡ drop count path
       → CountsWithin before (allowed_count filled (history_of behind)) now → CountsWithin before (length (events_behind k.states path)) now
   steps-parts before now behind filled b w =

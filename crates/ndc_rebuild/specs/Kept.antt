@@ -35,7 +35,7 @@ with_kept tip events s states = if reaches events s.next then insert_entry key_e
 abbrev pub without_kept : BatchKey → List (BatchKey × StateValue) → List (BatchKey × StateValue)
 without_kept tip states = remove_entry (key_eq tip) states
 
--- the batches, behind a state where there is one
+-- the batches, after a state where there is one
 abbrev pub behind_kept : List Batch → Option StateValue → Option (StateValue × List Batch)
 behind_kept batches None = None
 behind_kept batches (Some s) = Some (s, batches)
@@ -45,17 +45,17 @@ abbrev pub or_earlier : Option (StateValue × List Batch) → Option (StateValue
 or_earlier None earlier = earlier
 or_earlier (Some found) earlier = Some found
 
--- the last batch of the path that is kept: its state, and the batches behind it
+-- the last batch of the path that is kept: its state, and the batches after it
 abbrev pub last_kept : List (BatchKey × StateValue) → List Batch → Option (StateValue × List Batch)
 last_kept states [] = None
 last_kept states (batch ∷ batches) = or_earlier (last_kept states batches) (behind_kept batches (kept_at batch.key states))
 
--- the batches behind the last that is kept, all where none is
+-- the batches after the last that is kept, all where none is
 abbrev pub batches_behind : List Batch → Option (StateValue × List Batch) → List Batch
 batches_behind path None = path
 batches_behind path (Some found) = found.1
 
--- the events behind the last batch of the path that is kept
+-- the events after the last batch of the path that is kept
 abbrev pub events_behind : List (BatchKey × StateValue) → List Batch → List Event
 events_behind states path = history_of (batches_behind path (last_kept states path))
 

@@ -61,7 +61,8 @@ impl Checkpoints {
     /// path, of so many events, took the path's number of events to or past a multiple of 512. It replaces
     /// what was kept for the tip. For want of memory what is kept stays.
     pub fn keep(&mut self, tip: BatchKey, events: u64, state: &State) -> Result<(), OutOfMemory>
-        ensures states { OnOk result (self.new.states ≡ with_kept tip events state.now self.old.states) }
+        ensures states { OnOk result
+            (self.new.states ≡ with_kept tip events state.now self.old.states) }
         ensures run { self.new.run ≡ self.old.run }
         ensures err { OnErr result (self.new ≡ self.old) }
     {
@@ -75,7 +76,8 @@ impl Checkpoints {
         events: u64,
         state: &Tracked,
     ) -> Result<(), OutOfMemory>
-        ensures states { OnOk result (self.new.states ≡ with_kept tip events state.now.current self.old.states) }
+        ensures states { OnOk result
+            (self.new.states ≡ with_kept tip events state.now.current self.old.states) }
         ensures run { self.new.run ≡ self.old.run }
         ensures err { OnErr result (self.new ≡ self.old) }
     {
@@ -95,15 +97,18 @@ impl Checkpoints {
         self.states.shift_remove(&tip);
     }
 
-    /// The state of a path of this run, as [`rebuild`](crate::rebuild) gives it, with a step for each event behind the last
-    /// batch of the path that is kept. Refused with [`StateError::Invalid`] for the first event that is
-    /// forbidden, with its first rule.
+    /// The state of a path of this run, as [`rebuild`](crate::rebuild) gives it, with a step for each event after the
+    /// last batch of the path that is kept. Refused with [`StateError::Invalid`] for the first event that is forbidden,
+    /// with its first rule.
     pub fn restore<L>(&self, path: &[Batch], steps: &mut Steps<L>) -> Result<State, StateError>
         requires ids { HaveSmallIds path.now }
         requires kept { FitsPath self.now path.now }
-        ensures answer { Gives Memory (λ state. state) result (replay_of self.now.run (history_of path.now)) }
-        ensures ok_steps { OnOk result (steps.new ≡ counted steps.old (length (events_behind self.now.states path.now))) }
-        ensures most_steps { CountsWithin steps.old (length (events_behind self.now.states path.now)) steps.new }
+        ensures answer { Gives Memory (λ state.
+            state) result (replay_of self.now.run (history_of path.now)) }
+        ensures ok_steps { OnOk result
+            (steps.new ≡ counted steps.old (length (events_behind self.now.states path.now))) }
+        ensures most_steps { CountsWithin steps.old
+            (length (events_behind self.now.states path.now)) steps.new }
     {
         let lent = lent(*self.states.allocator(), path)?;
         self.restore_along(lent.as_slice(), steps)
@@ -117,9 +122,13 @@ impl Checkpoints {
     ) -> Result<State, StateError>
         requires ids { HaveSmallIds (map (λ b. b.now) path.now) }
         requires kept { FitsPath self.now (map (λ b. b.now) path.now) }
-        ensures answer { Gives Memory (λ state. state) result (replay_of self.now.run (history_of (map (λ b. b.now) path.now))) }
-        ensures ok_steps { OnOk result (steps.new ≡ counted steps.old (length (events_behind self.now.states (map (λ b. b.now) path.now)))) }
-        ensures most_steps { CountsWithin steps.old (length (events_behind self.now.states (map (λ b. b.now) path.now))) steps.new }
+        ensures answer { Gives Memory (λ state.
+            state) result (replay_of self.now.run (history_of (map (λ b. b.now) path.now))) }
+        ensures ok_steps { OnOk result
+            (steps.new ≡ counted steps.old
+            (length (events_behind self.now.states (map (λ b. b.now) path.now)))) }
+        ensures most_steps { CountsWithin steps.old
+            (length (events_behind self.now.states (map (λ b. b.now) path.now))) steps.new }
     {
         let (count, kept) = match self.last_kept(path) {
             Some(found) => found,
@@ -142,7 +151,8 @@ impl Checkpoints {
 
     /// How many batches of the path there are up to the last one that is kept, with what is kept for it.
     fn last_kept(&self, path: &[&Batch]) -> Option<(usize, &State)>
-        ensures { MatchOption result (last_kept self.now.states (map (λ b. b.now) path.now) ≡ None) (λ found. IsFoundAt self.now.states (map (λ b. b.now) path.now) found.0 found.1.now) }
+        ensures { MatchOption result (last_kept self.now.states (map (λ b. b.now) path.now) ≡ None)
+            (λ found. IsFoundAt self.now.states (map (λ b. b.now) path.now) found.0 found.1.now) }
     {
         let mut count = path.len();
         while count > 0 {
@@ -164,9 +174,13 @@ fn reaches(events: u64, next: u64) -> bool
     count / INTERVAL != before / INTERVAL
 }
 
-/// A copy of the state, with the origins of the signals in the batches behind those that it lists.
+/// A copy of the state, with the origins of the signals in the batches after those that it lists.
 fn refilled(state: &State, batches: &[&Batch]) -> Result<State, OutOfMemory>
-    ensures { IfOk result (λ copy. copy ≡ record state.now { origins = collected state.now.run state.now.origins (history_of (map (λ b. b.now) batches.now)) }) }
+    ensures { IfOk result (λ copy.
+        copy ≡ record state.now {
+          origins = collected state.now.run state.now.origins (history_of
+              (map (λ b. b.now) batches.now));
+        }) }
 {
     let mut copy = state.try_copy()?;
     for batch in batches {

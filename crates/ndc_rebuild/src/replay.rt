@@ -20,8 +20,10 @@ pub fn rebuild<L>(
 ) -> Result<State, StateError>
     requires { HaveSmallIds batches.now }
     ensures answer { Gives Memory (λ state. state) result (replay_of run (history_of batches.now)) }
-    ensures ok_steps { OnOk result (steps.new ≡ counted steps.old (length (history_of batches.now))) }
-    ensures most_steps { CountsWithin steps.old (allowed_count (new_state run) (history_of batches.now)) steps.new }
+    ensures ok_steps { OnOk result
+        (steps.new ≡ counted steps.old (length (history_of batches.now))) }
+    ensures most_steps { CountsWithin steps.old
+        (allowed_count (new_state run) (history_of batches.now)) steps.new }
 {
     let lent = lent(alloc, batches)?;
     rebuild_along(alloc, run, lent.as_slice(), steps)
@@ -35,9 +37,12 @@ pub(crate) fn rebuild_along<L>(
     steps: &mut Steps<L>,
 ) -> Result<State, StateError>
     requires { HaveSmallIds (map (λ b. b.now) batches.now) }
-    ensures answer { Gives Memory (λ state. state) result (replay_of run (history_of (map (λ b. b.now) batches.now))) }
-    ensures ok_steps { OnOk result (steps.new ≡ counted steps.old (length (history_of (map (λ b. b.now) batches.now)))) }
-    ensures most_steps { CountsWithin steps.old (allowed_count (new_state run) (history_of (map (λ b. b.now) batches.now))) steps.new }
+    ensures answer { Gives Memory (λ state.
+        state) result (replay_of run (history_of (map (λ b. b.now) batches.now))) }
+    ensures ok_steps { OnOk result
+        (steps.new ≡ counted steps.old (length (history_of (map (λ b. b.now) batches.now)))) }
+    ensures most_steps { CountsWithin steps.old
+        (allowed_count (new_state run) (history_of (map (λ b. b.now) batches.now))) steps.new }
 {
     let mut state = State::new(alloc, run);
     match replay_batches(&mut state, batches, steps) {
@@ -53,9 +58,12 @@ pub(crate) fn replay_batches<L>(
     steps: &mut Steps<L>,
 ) -> Result<(), StateError>
     requires { HaveSmallIds (map (λ b. b.now) batches.now) }
-    ensures answer { Gives Memory (λ _. state.new) result (replay state.old (history_of (map (λ b. b.now) batches.now))) }
-    ensures ok_steps { OnOk result (steps.new ≡ counted steps.old (length (history_of (map (λ b. b.now) batches.now)))) }
-    ensures most_steps { CountsWithin steps.old (allowed_count state.old (history_of (map (λ b. b.now) batches.now))) steps.new }
+    ensures answer { Gives Memory (λ _.
+        state.new) result (replay state.old (history_of (map (λ b. b.now) batches.now))) }
+    ensures ok_steps { OnOk result
+        (steps.new ≡ counted steps.old (length (history_of (map (λ b. b.now) batches.now)))) }
+    ensures most_steps { CountsWithin steps.old
+        (allowed_count state.old (history_of (map (λ b. b.now) batches.now))) steps.new }
 {
     for batch in batches {
         match state.apply_all(batch.events.as_slice(), steps) {

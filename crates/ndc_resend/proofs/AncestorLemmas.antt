@@ -114,7 +114,7 @@ module _ (batches : List Batch) (set : IsSet batches) where
         (subst (Among x) (sym (chain-step batches c set has ∙ ap (λ (l : List Batch). l ++ c ∷ []) (chain-named (earlier c) batches ∙ ap (λ (o : Option BatchKey). chain_to (earlier_of o c.carrier) batches) (carried-top c fault x among))))
         (among-front x (chain_to c.carrier batches) (c ∷ []) among))
 
-  -- the batches that lead to one are its path, behind those that lead to the carrier of the first
+  -- the batches that lead to one are its path, after those that lead to the carrier of the first
   some-path : (b : Batch) (path : List Batch) → IsPath batches b path → path ≡ [] → ⊥
   some-path b path (first _ has e) none = absurd (cc)
   some-path b path (below _ before key front has e at rest) none = by front none

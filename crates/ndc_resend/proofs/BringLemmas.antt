@@ -203,7 +203,7 @@ module _ (all : List Batch) (author : Batch → List Batch) (own : Batch → Opt
             };
           }
 
-  -- the gap begins behind what is learned of the path
+  -- the gap begins after what is learned of the path
   kept : (t : Batch → Bool) (front rest : List Batch) → AllByRecursion (λ c. t c ≡ true) front → AllByRecursion (λ c. t c ≡ false) rest → filter t (front ++ rest) ≡ front
   kept t [] [] all_known all_unknown = refl
   kept t [] (c ∷ rest) all_known all_unknown = ap (λ u. cond u (c ∷ filter t rest) (filter t rest)) all_unknown.0 ∙ kept t [] rest tt all_unknown.1

@@ -55,7 +55,7 @@ none-behind : (b : Batch) (batches : List Batch) (wanted : Option BatchKey) → 
 none-behind b batches None back after = none-wanted (b ∷ batches)
 none-behind b batches (Some key) back after = none-found (b ∷ batches) key (back key refl, after-trans key b.key batches (back key refl) after)
 
--- the walk from a batch goes on behind the walk from its earlier one
+-- the walk from a batch goes on after the walk from its earlier one
 walk-earlier : (batches : List Batch) (b : Batch) → Rise batches → PointsBack b → Has batches b → GoesOn (b ∷ []) (ancestors_down batches (from (Some b.key))) (ancestors_down batches (from (earlier b)))
 walk-earlier [] b rise back = λ h. absurd (cc)
 walk-earlier (c ∷ cs) b rise back =
@@ -99,7 +99,7 @@ named-has batches (Some key) = by (batch_at key batches) refl
     by None e = tt
     by (Some b) e = found-has batches key b e
 
--- what leads to the next batch, and behind it those gone over, newest first
+-- what leads to the next batch, and after it those gone over, newest first
 pub record Climbs (batches : List Batch) (next : Option Batch) (done whole : List Batch) : Type 0 where
   pub rest : chain_of next batches ++ reverse done ≡ whole
   pub has : IfSome next (Has batches)

@@ -17,7 +17,7 @@ use Rattle.ndc_model_sets.proofs.GapLaws.{gap_names_the_last_learned}
 abbrev between : Item → Item → Gap
 between after before = record { after = after; before = before }
 
--- a gap begins behind the last event of what is learned of the path
+-- a gap begins after the last event of what is learned of the path
 pub begins_behind : (batches part : List Batch) (b : Batch) (front rest : List Batch) (first : Item) → IsSound batches → IsSet part → IsClosed part → IsPart part batches → Has batches b
     → path_to b.key batches ≡ front ++ rest → IsPart front part → ((c : Batch) → Has rest c → batch_at c.key part ≡ None)
     → gap_of (histories b.run part) (versions_of (events_to b.key batches)) first ≡ record { after = item_or_zero (last_item_of (history_of front)); before = first }

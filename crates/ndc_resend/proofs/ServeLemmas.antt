@@ -41,7 +41,7 @@ ends-least n (e ∷ es) h =
     let more = ends-least e.id es p.1 in
     omega (arith, next, more)
 
--- events that end behind others
+-- events that end after others
 ends-append : (n : ℕ) (front rest : List Event) → ends n (front ++ rest) ≡ ends (ends n front) rest
 ends-append n [] rest = refl
 ends-append n (e ∷ es) rest = ends-append e.id es rest
@@ -85,7 +85,7 @@ none-before gap n (c ∷ front) has h most =
     let rest : ends (ends n c.events) (history_of front) ≤ gap.after.id = omega (arith, whole, most) in
     rw (le-ltb gap.after.id (first_id c.events) below_it) (none-before gap (ends n c.events) front has.1 p.there rest)
 
--- the batch behind others begins behind the id that they follow
+-- the batch after others begins after the id that they follow
 begins-behind : (n : ℕ) (middle : List Batch) (b : Batch) → AllByRecursion HasEvents (middle ++ b ∷ []) → follow_from n (history_of (middle ++ b ∷ [])) ≡ true
     → n < first_id b.events
 begins-behind n [] b has h =
@@ -98,7 +98,7 @@ begins-behind n (c ∷ middle) b has h =
     let least = ends-least n c.events p.here in
     omega (arith, more, least)
 
--- all is served that comes between, and not the batch behind the gap
+-- all is served that comes between, and not the batch after the gap
 all-between : (gap : Gap) (n : ℕ) (middle : List Batch) (b : Batch) → AllByRecursion HasEvents (middle ++ b ∷ []) → follow_from n (history_of (middle ++ b ∷ [])) ≡ true
     → gap.after.id ≤ n → gap.before.id ≡ first_id b.events → served gap (middle ++ b ∷ []) ≡ middle
 all-between gap n [] b has h most end =
@@ -121,7 +121,7 @@ all-between gap n (c ∷ middle) b has h most end =
     rw (lt-ltb gap.after.id (first_id c.events) after_it, lt-ltb (last_id c.events) gap.before.id before_it)
     (ap (λ rest. c ∷ rest) (all-between gap (ends n c.events) middle b has.1 p.there still end))
 
--- batches that follow an id begin behind it, and so behind each that is not greater
+-- batches that follow an id begin after it, and so after each that is not greater
 all-later : (id n : ℕ) (bs : List Batch) → AllByRecursion HasEvents bs → follow_from n (history_of bs) ≡ true → id ≤ n → list_all (λ c. nat_lt id (first_id c.events)) bs ≡ true
 all-later id n [] has h most = refl
 all-later id n (b ∷ bs) has h most =
@@ -132,7 +132,7 @@ all-later id n (b ∷ bs) has h most =
     let still : id ≤ ends n b.events = omega (arith, most, least) in
     rw (lt-ltb id (first_id b.events) behind) (all-later id (ends n b.events) bs has.1 p.there still)
 
--- what lies in a gap begins behind its first end, and so does all that follows
+-- what lies in a gap begins after its first end, and so does all that follows
 end-same : (gap : Gap) (n : ℕ) (path : List Batch) → AllByRecursion HasEvents path → follow_from n (history_of path) ≡ true → served gap (end_behind gap.after.id path) ≡ served gap path
 end-same gap n [] has h = refl
 end-same gap n (c ∷ cs) has h =
@@ -160,7 +160,7 @@ after-id : (events : List Event) → (item_or_zero (last_item_of events)).id ≡
 after-id [] = refl
 after-id (e ∷ es) = sym (ends-last 0 e es)
 
--- what holds of two lists holds of both behind each other
+-- what holds of two lists holds of both after each other
 all-append : (P : Batch → Type 0) (xs ys : List Batch) → AllByRecursion P xs → AllByRecursion P ys → AllByRecursion P (xs ++ ys)
 all-append P [] ys p q = q
 all-append P (x ∷ xs) ys p q = (p.0, all-append P xs ys p.1 q)
@@ -201,7 +201,7 @@ served_is_between batches b front middle sound has path =
     (follow-rest 0 (history_of front) (history_of (middle ++ b ∷ [])) follow) (omega (arith, start)) refl in
     ap (served gap) path ∙ filter-append (is_between gap) front (middle ++ b ∷ []) ∙ (λ i. none i ++ all i)
 
--- of a path it is enough to look at its end that begins behind the gap's first end
+-- of a path it is enough to look at its end that begins after the gap's first end
 pub end_is_enough : (batches : List Batch) (b : Batch) (gap : Gap) → IsSound batches → Has batches b → served gap (end_behind gap.after.id (path_to b.key batches)) ≡ served gap (path_to b.key batches)
 end_is_enough batches b gap sound has =
     let is : IsPath batches b (path_to b.key batches) = path_is batches b sound.set sound.closed has in

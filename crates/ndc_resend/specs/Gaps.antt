@@ -7,7 +7,7 @@ use Rattle.ndc_history.specs.declared.item.Item.{Item}
 use Rattle.ndc_resend.specs.declared.serving.Gap.{Gap}
 use Rattle.ndc_model_sets.specs.Paths.{best_item, first_id, last_id}
 
--- the gap before an event: behind the best item that the local histories have in common with the remote one
+-- the gap before an event: after the best item that the local histories have in common with the remote one
 abbrev pub gap_of : List (List Item) → List Item → Item → Gap
 gap_of local remote first = record { after = item_or_zero (best_item (best_from 0 local remote)); before = first }
 
@@ -19,7 +19,7 @@ first_item b = record { id = first_id b.events; version = b.key.version }
 abbrev pub is_between : Gap → Batch → Bool
 is_between gap b = nat_lt gap.after.id (first_id b.events) && nat_lt (last_id b.events) gap.before.id
 
--- the end of a path that begins behind an id: its last batches, as many as all begin behind it
+-- the end of a path that begins after an id: its last batches, as many as all begin after it
 abbrev pub end_behind : ℕ → List Batch → List Batch
 end_behind id [] = []
 end_behind id (b ∷ path) = if list_all (λ c. nat_lt id (first_id c.events)) (b ∷ path) then b ∷ path else end_behind id path

@@ -34,7 +34,7 @@ gap_with local waiting missing b = record {
   missing = missing;
 }
 
--- a batch that is put off of a workflow: the gap before it is that behind the learned branches of its run; it misses its nearest ancestor that has not arrived
+-- a batch that is put off of a workflow: the gap before it is that after the learned branches of its run; it misses its nearest ancestor that has not arrived
 abbrev pub gap_in : WorkflowValue → Batch → GapOf
 gap_in w b = gap_with (histories b.run (learned w.arrived)) w.waiting (unwrap_or (missing_of b w.arrived) b.key) b
 

@@ -20,11 +20,11 @@ abbrev pub first_carrier : List Batch → Option BatchKey
 first_carrier [] = None
 first_carrier (b ∷ batches) = b.carrier
 
--- batches of a path, behind those that lead to the carrier of the first
+-- batches of a path, after those that lead to the carrier of the first
 abbrev pub with_carriers : List Batch → List Batch → List Batch
 with_carriers all path = chain_to (first_carrier path) all ++ path
 
--- the batches of a gap on the path to the one of this key, as far as that begins behind the gap's first end, with their carriers
+-- the batches of a gap on the path to the one of this key, as far as that begins after the gap's first end, with their carriers
 abbrev pub answered : List Batch → Gap → BatchKey → List Batch
 answered all gap key = with_carriers all (served gap (end_behind gap.after.id (path_to key all)))
 

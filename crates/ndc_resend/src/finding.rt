@@ -6,8 +6,8 @@ use ndc_event::Batch;
 use ndc_history::{Item, VersionHistory, best_common};
 use ndc_model_sets::first_id;
 
-/// The gap before an event: behind the item with the greatest id that one of the local histories has in common
-/// with the remote one; behind id 0 and version 0 where none has an item in common. Takes no memory.
+/// The gap before an event: after the item with the greatest id that one of the local histories has in common
+/// with the remote one; after id 0 and version 0 where none has an item in common. Takes no memory.
 pub fn gap(local: &[VersionHistory], remote: &VersionHistory, first: Item) -> Gap
     ensures { result ≡ gap_of local.now remote.now first }
 {

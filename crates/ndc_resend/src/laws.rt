@@ -21,21 +21,29 @@ ghost use Rattle.ndc_resend.specs.PutOff.{gap_in, off_in};
 ghost use Rattle.ndc_resend.specs.Serving.{answered, with_carriers};
 ghost use Rattle.ndc_state.specs.Replay.{history_of};
 
-/// Of a batch of a sound set whose path begins with learned batches and goes on with others, the gap begins behind the
-/// last event of the last learned batch of the path; behind id 0 and version 0, where none is learned.
+/// Of a batch of a sound set whose path begins with learned batches and goes on with others, the gap begins after the
+/// last event of the last learned batch of the path; after id 0 and version 0, where none is learned.
 pub fn a_gap_begins_behind_the_last_learned_ancestor()
-    ensures { (batches part : List Batch) (b : Batch) (front rest : List Batch) (first : Item) → IsSound batches → IsSet part → IsClosed part → IsPart part batches → Has batches b
-        → path_to b.key batches ≡ front ++ rest → IsPart front part → ((c : Batch) → Has rest c → batch_at c.key part ≡ None)
-        → gap_of (histories b.run part) (versions_of (events_to b.key batches)) first ≡ record { after = item_or_zero (last_item_of (history_of front)); before = first } }
+    ensures { (batches part : List Batch) (b : Batch) (front rest : List Batch) (first : Item)
+        → IsSound batches → IsSet part → IsClosed part → IsPart part batches → Has batches b
+        → path_to b.key batches ≡ front ++ rest → IsPart front part
+        → ((c : Batch) → Has rest c → batch_at c.key part ≡ None)
+        → gap_of (histories b.run part) (versions_of (events_to b.key batches)) first
+        ≡ record { after = item_or_zero (last_item_of (history_of front)); before = first } }
 {}
 
 /// On the path to a batch of a sound set, what is served of the gap between its first batches and the batch itself is
 /// exactly what lies between these.
 #[tactic(auto, using(crate::proofs::ServeLemmas::served_is_between))]
 pub fn what_lies_between_is_served()
-    ensures { (batches : List Batch) (b : Batch) (front middle : List Batch) → IsSound batches → Has batches b
+    ensures { (batches : List Batch) (b : Batch) (front middle : List Batch) → IsSound batches
+        → Has batches b
         → path_to b.key batches ≡ front ++ (middle ++ b ∷ [])
-        → served (record { after = item_or_zero (last_item_of (history_of front)); before = record { id = first_id b.events; version = b.key.version } }) (path_to b.key batches) ≡ middle }
+        → served (record {
+          after = item_or_zero (last_item_of (history_of front));
+          before = record { id = first_id b.events; version = b.key.version };
+        }) (path_to b.key
+        batches) ≡ middle }
 {}
 
 /// What a cell answers for a gap is what is served of the whole path to the batch that was asked for, after those by which
@@ -47,30 +55,41 @@ pub fn what_is_answered_is_served_of_the_whole_path()
         → answered all gap key ≡ with_carriers all (served gap (path_to key all)) }
 {}
 
-/// The gap before a batch that a cell has put off begins behind the last event that is learned of its path; behind id 0
+/// The gap before a batch that a cell has put off begins after the last event that is learned of its path; after id 0
 /// and version 0, where none is.
 pub fn a_gap_begins_behind_what_is_learned()
-    ensures { (all : List Batch) (author : Batch → List Batch) (own : Batch → Maybe Message) (answer : GapOf → List Message) (w : WorkflowValue) (b : Batch)
+    ensures { (all : List Batch) (author : Batch → List Batch) (own : Batch → Maybe Message)
+        (answer : GapOf → List Message) (w : WorkflowValue) (b : Batch)
         → IsBehindIn all author own answer w → Has (off_in w) b
-        → (gap_in w b).gap ≡ record { after = item_or_zero (last_item_of (history_of (filter (λ c. has_key (Some c.key) (learned w.arrived)) (path_to b.key all)))); before = first_item b } }
+        → (gap_in w b).gap ≡ record {
+          after = item_or_zero
+              (last_item_of (history_of
+              (filter (λ c. has_key (Some c.key) (learned w.arrived)) (path_to b.key all))));
+          before =
+              first_item b;
+        } }
 {}
 
-/// What another cell answers for it is what lies between on the path, behind those by which carriers lead to the first
+/// What another cell answers for it is what lies between on the path, after those by which carriers lead to the first
 /// batch of that.
 pub fn what_is_not_learned_of_the_path_is_served()
-    ensures { (all mine : List Batch) (w : WorkflowValue) (b : Batch) (front middle : List Batch) → IsPutOffIn all w b front middle → HasLearned all mine b
+    ensures { (all mine : List Batch) (w : WorkflowValue) (b : Batch) (front middle : List Batch)
+        → IsPutOffIn all w b front middle → HasLearned all mine b
         → answered mine (gap_in w b).gap b.key ≡ with_carriers mine middle }
 {}
 
 /// Each ancestor of a batch with a parent that is not learned where the batch is put off is among what is answered.
 pub fn each_ancestor_that_is_not_learned_is_served()
-    ensures { (all mine : List Batch) (w : WorkflowValue) (b x : Batch) (front middle : List Batch) → IsPutOffIn all w b front middle → HasLearned all mine b → IsSome b.parent
-        → WaitsFor all x b → x ≢ b → batch_at x.key (learned w.arrived) ≡ None → IsAmong (answered mine (gap_in w b).gap b.key) x }
+    ensures { (all mine : List Batch) (w : WorkflowValue) (b x : Batch) (front middle : List Batch)
+        → IsPutOffIn all w b front middle → HasLearned all mine b → IsSome b.parent
+        → WaitsFor all x b → x ≢ b → batch_at x.key (learned w.arrived) ≡ None
+        → IsAmong (answered mine (gap_in w b).gap b.key) x }
 {}
 
 /// Nothing but ancestors of the batch is answered.
 pub fn only_ancestors_are_served()
-    ensures { (all mine : List Batch) (w : WorkflowValue) (b x : Batch) (front middle : List Batch) → IsPutOffIn all w b front middle → HasLearned all mine b
+    ensures { (all mine : List Batch) (w : WorkflowValue) (b x : Batch) (front middle : List Batch)
+        → IsPutOffIn all w b front middle → HasLearned all mine b
         → IsAmong (answered mine (gap_in w b).gap b.key) x → WaitsFor all x b }
 {}
 
@@ -78,12 +97,17 @@ pub fn only_ancestors_are_served()
 /// has brought,
 /// the message of each ancestor of what is put off that has not arrived is brought.
 pub fn each_missing_ancestor_is_brought()
-    ensures { (all : List Batch) (author : Batch → List Batch) (own : Batch → Maybe Message) (answer : GapOf → List Message) (w : WorkflowValue) (b x : Batch) (sent : Message)
-        → IsBehindIn all author own answer w → Has (off_in w) b → WaitsFor all x b → batch_at x.key w.arrived ≡ None → own x ≡ Some sent → IsAmong (brought_to answer w) sent }
+    ensures { (all : List Batch) (author : Batch → List Batch) (own : Batch → Maybe Message)
+        (answer : GapOf → List Message) (w : WorkflowValue) (b x : Batch) (sent : Message)
+        → IsBehindIn all author own answer w → Has (off_in w) b → WaitsFor all x b
+        → batch_at x.key w.arrived ≡ None → own x ≡ Some sent
+        → IsAmong (brought_to answer w) sent }
 {}
 
 /// And nothing is brought but messages of ancestors of what is put off.
 pub fn only_ancestors_are_brought()
-    ensures { (all : List Batch) (author : Batch → List Batch) (own : Batch → Maybe Message) (answer : GapOf → List Message) (w : WorkflowValue) (sent : Message)
-        → IsBehindIn all author own answer w → IsAmong (brought_to answer w) sent → (b x : Batch) × Has (off_in w) b × WaitsFor all x b × (own x ≡ Some sent) }
+    ensures { (all : List Batch) (author : Batch → List Batch) (own : Batch → Maybe Message)
+        (answer : GapOf → List Message) (w : WorkflowValue) (sent : Message)
+        → IsBehindIn all author own answer w → IsAmong (brought_to answer w) sent → (b x : Batch)
+        × Has (off_in w) b × WaitsFor all x b × (own x ≡ Some sent) }
 {}

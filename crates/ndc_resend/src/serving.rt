@@ -11,11 +11,11 @@ use std::alloc::Global;
 pub struct Gap {
     /// The last event before the gap; id 0 and version 0 where the gap begins with the run.
     pub after: Item,
-    /// The first event behind the gap.
+    /// The first event after the gap.
     pub before: Item,
 }
 
-/// Whether all events of the batch come behind the one end of the gap and before the other. Takes no memory.
+/// Whether all events of the batch come after the one end of the gap and before the other. Takes no memory.
 fn is_between(gap: &Gap, batch: &Batch) -> bool
     ensures { result ≡ is_between gap.now batch.now }
 {
@@ -39,7 +39,8 @@ pub fn serve_lent<'p>(
     path: &[&'p Batch],
     gap: &Gap,
 ) -> Result<Vec<&'p Batch>, OutOfMemory>
-    ensures { IfOk result (λ list. map (λ b. b.now) list.items ≡ served gap.now (map (λ b. b.now) path.now)) }
+    ensures { IfOk result (λ list.
+        map (λ b. b.now) list.items ≡ served gap.now (map (λ b. b.now) path.now)) }
 {
     let mut list = Vec::new(alloc);
     for batch in path {

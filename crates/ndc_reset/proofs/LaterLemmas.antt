@@ -51,7 +51,7 @@ last-signal : (s : StateValue) (id v : ℕ) (name input : List ℕ) (from : Opti
 unfolding row
 last-signal s id v name input from = refl
 
--- what a state is behind the later signals: open, with its decision, and the origins of the old state
+-- what a state is after the later signals: open, with its decision, and the origins of the old state
 pub record IsLater (before old now : StateValue) : Type 0 where
   pub run_is : now.run ≡ before.run
   pub is_open : IsOpen now

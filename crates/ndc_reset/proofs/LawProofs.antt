@@ -25,7 +25,7 @@ use Rattle.ndc_reset.proofs.LaterLemmas.{later-replay}
 use Rattle.ndc_reset.proofs.MovedLemmas.{moved, moved-replay}
 use Rattle.ndc_reset.proofs.PointLemmas.{parts_at, is_point-later, replay-parts, signal_events}
 
--- a completed decision was started, and is no start
+-- a completed decision was started, and is not a start
 needs-met : (b : Bool) (rule : Rule) → needs b rule ≡ None → b ≡ true
 needs-met true rule h = refl
 needs-met false rule h = absurd (cc)

@@ -54,7 +54,7 @@ is_point-later point before (event ∷ history) h le =
     let id : event.id ≡ before + 1 = eqb-true event.id (before + 1) p.0 in
     rw (not_equal_above event.id point (omega arith)) (is_point-later point event.id history p.1 (omega arith))
 
--- a history in two parts: what stands before the point, and its completed decision with what stands behind
+-- a history in two parts: what stands before the point, and its completed decision with what stands after it
 pub record Parts (point : ℕ) (history : List Event) : Type 0 where
   pub front : List Event
   pub decision : Event

@@ -12,5 +12,8 @@ ghost use Rattle.ndc_state.specs.Written.{replay_kinds};
 /// pending, and its origins are those of the old run, in their order.
 #[tactic(auto, using(crate::proofs::LawProofs::reset_goes_on))]
 pub fn a_reset_goes_on()
-    ensures { (run new : RunId) (version point : ℕ) (history : List Event) (s : StateValue) → replay_of run history ≡ Ok s → IsTrue (is_point point history) → IsOkAnd (replay_kinds (new_state new) version (reset_kinds run point history)) (GoesOn s new) }
+    ensures { (run new : RunId) (version point : ℕ) (history : List Event) (s : StateValue)
+        → replay_of run history ≡ Ok s → IsTrue (is_point point history)
+        → IsOkAnd (replay_kinds (new_state new) version (reset_kinds run point history))
+        (GoesOn s new) }
 {}

@@ -97,7 +97,8 @@ fn count_kinds(history: &[&Event], point: u64) -> u64
 
 /// The kind of the event as another run repeats it.
 fn repeated(alloc: Global, run: RunId, event: &Event) -> Result<EventKind, OutOfMemory>
-    ensures { IfOk result (λ kind. kind ≡ repeated run event.now.id event.now.version event.now.kind) }
+    ensures { IfOk result (λ kind.
+        kind ≡ repeated run event.now.id event.now.version event.now.kind) }
 {
     match &event.kind {
         EventKind::WorkflowExecutionSignaled {
@@ -121,7 +122,9 @@ fn push_before(
     run: RunId,
     point: u64,
 ) -> Result<(), OutOfMemory>
-    ensures ok { OnOk result (kinds.new.items ≡ kinds.old.items ++ repeated_kinds run (events_before point (map (λ e. e.now) history.now))) }
+    ensures ok { OnOk result
+        (kinds.new.items ≡ kinds.old.items
+        ++ repeated_kinds run (events_before point (map (λ e. e.now) history.now))) }
 {
     for event in history {
         if event.id < point {
@@ -139,7 +142,9 @@ fn push_onward(
     run: RunId,
     point: u64,
 ) -> Result<(), OutOfMemory>
-    ensures ok { OnOk result (kinds.new.items ≡ kinds.old.items ++ repeated_kinds run (signals_onward point (map (λ e. e.now) history.now))) }
+    ensures ok { OnOk result
+        (kinds.new.items ≡ kinds.old.items
+        ++ repeated_kinds run (signals_onward point (map (λ e. e.now) history.now))) }
 {
     for event in history {
         if !(event.id < point) && is_signal(&event.kind) {
@@ -170,7 +175,8 @@ fn reset_kinds(
     point: u64,
     count: usize,
 ) -> Result<Vec<EventKind>, OutOfMemory>
-    ensures { IfOk result (λ kinds. kinds.items ≡ reset_kinds run point (map (λ e. e.now) history.now)) }
+    ensures { IfOk result (λ kinds.
+        kinds.items ≡ reset_kinds run point (map (λ e. e.now) history.now)) }
 {
     let mut kinds = Vec::with_capacity(alloc, count)?;
     push_before(alloc, &mut kinds, history, run, point)?;

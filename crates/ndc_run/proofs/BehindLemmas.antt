@@ -1,4 +1,4 @@
--- How many events there are behind the last that is kept on a path.
+-- How many events there are after the last that is kept on a path.
 use Rattle.std.proofs.Common.{◌≡◌, ℕ, ◌+◌, ◌-◌, ◌*◌, ◌/◌, ◌≤◌, Bool, true, false, not, ◌==◌, List, [], ◌∷◌, ◌++◌, length, Option, Some, None, if◌then◌else◌, refl, sym, ◌∙◌, subst, ap, arith}
 use Rattle.std.proofs.lemmas.List.{append-nil, length-append}
 use Rattle.std.proofs.lemmas.Bool.{eqb-true}
@@ -17,7 +17,7 @@ use Rattle.ndc_model_sets.proofs.PathLemmas.{one-path}
 use Rattle.ndc_tree.proofs.PathLemmas.{path_is}
 use Rattle.ndc_run.specs.Run.{IsRun, IsKept}
 
--- what was found, with a batch more behind it
+-- what was found, with a batch more after it
 abbrev pushed : Batch → Option (StateValue × List Batch) → Option (StateValue × List Batch)
 pushed b None = None
 pushed b (Some found) = Some (found.0, found.1 ++ b ∷ [])
@@ -51,7 +51,7 @@ last-some states (x ∷ up) b s some = ap (λ o. or_earlier o (behind_kept (up +
 behind-some : (states : List (BatchKey × StateValue)) (up : List Batch) (b : Batch) (s : StateValue) → kept_at b.key states ≡ Some s → events_behind states (up ++ b ∷ []) ≡ []
 behind-some states up b s some = ap (λ o. history_of (batches_behind (up ++ b ∷ []) o)) (last-some states up b s some)
 
--- what is behind the last that is kept does not reach down to the last multiple of 512
+-- what is after the last that is kept does not reach down to the last multiple of 512
 abbrev pub IsNear : ℕ → ℕ → Type 0
 IsNear behind all = behind + 512 * (all / 512) ≤ all
 
@@ -117,6 +117,6 @@ module _ (run : RunId) (batches : List Batch) (k : Kept) (r : IsRun run batches)
           subst (λ (x : ℕ). IsNear x (length (history_of (up ++ b ∷ [])))) (sym (ap (λ (l : List Event). length l) (behind-none k.states up b g) ∙ length-append (events_behind k.states up) b.events))
           (near-more (length (events_behind k.states up)) (length (history_of up)) (length b.events) (length (history_of (up ++ b ∷ []))) all q n)
 
-  -- at most 511 events are behind the last that is kept
+  -- at most 511 events are after the last that is kept
   pub few-behind : (b : Batch) → Has batches b → length (events_behind k.states (path_to b.key batches)) ≤ 511
   few-behind b has = near-most (length (events_behind k.states (path_to b.key batches))) (length (history_of (path_to b.key batches))) (near b (path_to b.key batches) (path_is run batches r.tree b has))

@@ -307,7 +307,7 @@ taken_by_tree run batches b taken = by (inserted run batches b) taken
     by (Ok place) ok = refl
     by (Err e) ok = absurd (cc)
 
--- what is answered of a batch that was taken in tells whether the old current path is a front of the new one
+-- what is answered of a batch that was taken in tells whether the old current path is a prefix of the new one
 pub switched-of : (run : RunId) (batches : List Batch) (new : Batch) (after : TreeValue) (switched : Bool) → IsTree run batches → Joins run batches new
     → joined run batches new ≡ Ok (New switched) → after ≡ record { run = run; batches = arrived new batches }
     → (switched ≡ false) ↔ BeginsWith (current_path after.run after.batches) (current_path run batches)

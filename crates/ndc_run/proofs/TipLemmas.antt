@@ -187,7 +187,7 @@ module _ (run : RunId) (batches : List Batch) (new : Batch) (tree : IsTree run b
           λ _. refl,
         )
 
-  -- another branch is gone on with exactly where the old current path is no front of the new one
+  -- another branch is gone on with exactly where the old current path is not a prefix of the new one
   pub switched-exactly : (passes_by new (current_tip run batches) ≡ false) ↔ BeginsWith (current_path run (arrived new batches)) (current_path run batches)
   switched-exactly = subst (λ (o : Option Batch). (passes_by new (current_tip run batches) ≡ false) ↔ BeginsWith (path_of o (arrived new batches)) (current_path run batches)) (sym tip-grown)
       (by (current_tip run batches) refl)

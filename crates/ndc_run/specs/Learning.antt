@@ -46,7 +46,7 @@ or_error f (Err e) = Err (f e)
 abbrev pub state_with : RunId → List Batch → Batch → Result StateValue RunError
 state_with run batches b = or_error of_state_error (replay_of run (events_to b.key (arrived b batches)))
 
--- whether a batch comes behind this tip, where there is one, without going on from it
+-- whether a batch comes after this tip, where there is one, without going on from it
 abbrev pub passes_by : Batch → Option Batch → Bool
 passes_by b None = false
 passes_by b (Some tip) = key_lt tip.key b.key && not (is_wanted b.parent tip)
@@ -64,7 +64,7 @@ abbrev pub is_known : Inserted → Bool
 is_known Known = true
 is_known _ = false
 
--- whether the key comes behind this one, where there is one
+-- whether the key comes after this one, where there is one
 abbrev pub leads_over : BatchKey → Option BatchKey → Bool
 leads_over key None = false
 leads_over key (Some other) = key_lt other key

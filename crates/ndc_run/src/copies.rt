@@ -71,7 +71,8 @@ impl Copies {
         events: u64,
         state: &Tracked,
     ) -> Result<(), OutOfMemory>
-        ensures states { OnOk result (self.new.states ≡ with_kept tip events state.now.current self.old.states) }
+        ensures states { OnOk result
+            (self.new.states ≡ with_kept tip events state.now.current self.old.states) }
         ensures run { self.new.run ≡ self.old.run }
         ensures err { OnErr result (self.new ≡ self.old) }
     {
@@ -105,8 +106,10 @@ impl Copies {
     ) -> Result<State, StateError>
         requires ids { HaveSmallIds (map (λ b. b.now) path.now) }
         requires kept { FitsPath self.now (map (λ b. b.now) path.now) }
-        ensures answer { Gives Memory (λ state. state) result (replay_of self.now.run (history_of (map (λ b. b.now) path.now))) }
-        ensures most_steps { CountsWithin steps.old (length (events_behind self.now.states (map (λ b. b.now) path.now))) steps.new }
+        ensures answer { Gives Memory (λ state.
+            state) result (replay_of self.now.run (history_of (map (λ b. b.now) path.now))) }
+        ensures most_steps { CountsWithin steps.old
+            (length (events_behind self.now.states (map (λ b. b.now) path.now))) steps.new }
     {
         match &self.held {
             Some(held) => held.restore_along(path, steps),

@@ -24,8 +24,11 @@ fn take_in(
 ) -> Result<(), OutOfMemory>
     requires joins { Joins tree.old.run tree.old.batches batch.now }
     requires fresh { kept_at batch.now.key kept.old.states ≡ None }
-    ensures tree { OnOk result (tree.new ≡ record tree.old { batches = arrived batch.now tree.old.batches }) }
-    ensures kept { OnOk result (kept.new.states ≡ with_kept batch.now.key (length batch.now.events) state.now.current kept.old.states) }
+    ensures tree { OnOk result
+        (tree.new ≡ record tree.old { batches = arrived batch.now tree.old.batches }) }
+    ensures kept { OnOk result
+        (kept.new.states ≡ with_kept batch.now.key
+        (length batch.now.events) state.now.current kept.old.states) }
     ensures run { kept.new.run ≡ kept.old.run }
     ensures tree_err { OnErr result (tree.new ≡ tree.old) }
     ensures kept_err { OnErr result (kept.new.states ≡ kept.old.states) }
@@ -53,9 +56,13 @@ pub(crate) fn grow<L>(
     requires ids { All (λ event. event.id ≤ 10 ^ 12) batch.now.events }
     requires joins { Joins tree.old.run tree.old.batches batch.now }
     requires fresh { kept_at batch.now.key kept.old.states ≡ None }
-    ensures answer { Gives Memory (λ _. state.new) result (or_error of_state_error (replay state.old batch.now.events)) }
-    ensures tree { OnOk result (tree.new ≡ record tree.old { batches = arrived batch.now tree.old.batches }) }
-    ensures kept { OnOk result (kept.new.states ≡ with_kept batch.now.key (length batch.now.events) state.new kept.old.states) }
+    ensures answer { Gives Memory (λ _.
+        state.new) result (or_error of_state_error (replay state.old batch.now.events)) }
+    ensures tree { OnOk result
+        (tree.new ≡ record tree.old { batches = arrived batch.now tree.old.batches }) }
+    ensures kept { OnOk result
+        (kept.new.states ≡ with_kept batch.now.key
+        (length batch.now.events) state.new kept.old.states) }
     ensures run { kept.new.run ≡ kept.old.run }
     ensures state_err { OnErr result (state.new ≡ state.old) }
     ensures tree_err { OnErr result (tree.new ≡ tree.old) }

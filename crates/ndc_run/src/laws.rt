@@ -11,19 +11,23 @@ ghost use Rattle.ndc_state.specs.Laws.{IsOpenFit};
 
 /// In a run the batches of one version form a chain, and every path replays.
 pub fn paths_of_a_run_replay()
-    ensures chains { (run : RunKey) (batches : List Batch) → IsRun run batches → VersionsAreChains batches }
-    ensures replays { (run : RunKey) (batches : List Batch) → IsRun run batches → PathsReplay batches }
+    ensures chains { (run : RunKey) (batches : List Batch) → IsRun run batches
+        → VersionsAreChains batches }
+    ensures replays { (run : RunKey) (batches : List Batch) → IsRun run batches
+        → PathsReplay batches }
 {}
 
-/// The next id of a run's state comes just behind the last id of the current branch's last batch.
+/// The next id of a run's state comes just after the last id of the current branch's last batch.
 pub fn the_next_event_comes_behind_the_tip()
-    ensures { (run : RunKey) (batches : List Batch) (tip : Batch) → IsRun run batches → current_tip run batches ≡ Some tip
+    ensures { (run : RunKey) (batches : List Batch) (tip : Batch) → IsRun run batches
+        → current_tip run batches ≡ Some tip
         → (current_state run batches).next ≡ last_id tip.events + 1 }
 {}
 
 /// A run is open exactly where it has seen an event and has not closed.
 pub fn a_run_is_open_until_closed()
-    ensures { (run : RunKey) (batches : List Batch) → IsRun run batches → IsOpenFit (current_state run batches) }
+    ensures { (run : RunKey) (batches : List Batch) → IsRun run batches
+        → IsOpenFit (current_state run batches) }
 {}
 
 /// The origins of a run's state are those of the signals on its current branch, in order.

@@ -121,16 +121,26 @@ impl Run {
         requires faultless { fault_of batch.now ≡ None }
         requires ids { All (λ event. event.id ≤ 10 ^ 12) batch.now.events }
         ensures known { Has self.old.batches batch.now ↔ (result ≡ Ok Known) }
-        ensures answer { result ≢ Ok Known → Gives Memory (λ done. done) result (learned self.old.run self.old.batches batch.now) }
-        ensures grown { result ≢ Ok Known → OnOk result (self.new ≡ record self.old { batches = arrived batch.now self.old.batches }) }
+        ensures answer { result ≢ Ok Known
+            → Gives Memory (λ done. done) result (learned self.old.run self.old.batches batch.now) }
+        ensures grown { result ≢ Ok Known
+            → OnOk result (self.new ≡ record self.old {
+              batches = arrived batch.now self.old.batches;
+            }) }
         ensures same { result ≡ Ok Known → self.new ≡ self.old }
         ensures err { OnErr result (self.new ≡ self.old) }
         ensures known_steps { result ≡ Ok Known → steps.new ≡ steps.old }
-        ensures missing_steps { (key : Key) → result ≡ Err (MissingParent key) → steps.new ≡ steps.old }
-        ensures ill_formed_steps { (key : Key) → result ≡ Err (NotWellFormed key) → steps.new ≡ steps.old }
-        ensures extend_steps { result ≢ Ok Known → OnOk result (batch.now.parent ≡ current_key self.old.run self.old.batches → steps.new ≡ counted steps.old (length batch.now.events)) }
+        ensures missing_steps { (key : Key) → result ≡ Err (MissingParent key)
+            → steps.new ≡ steps.old }
+        ensures ill_formed_steps { (key : Key) → result ≡ Err (NotWellFormed key)
+            → steps.new ≡ steps.old }
+        ensures extend_steps { result ≢ Ok Known
+            → OnOk result (batch.now.parent ≡ current_key self.old.run self.old.batches
+            → steps.new ≡ counted steps.old (length batch.now.events)) }
         ensures most_steps { CountsWithin steps.old (length batch.now.events + 511) steps.new }
-        ensures switched { (switched : Bool) → result ≡ Ok (New switched) → (switched ≡ false) ↔ BeginsWith (current_path self.new.run self.new.batches) (current_path self.old.run self.old.batches) }
+        ensures switched { (switched : Bool) → result ≡ Ok (New switched)
+            → (switched ≡ false) ↔ BeginsWith (current_path self.new.run self.new.batches)
+            (current_path self.old.run self.old.batches) }
     {
         if is_known(self.tree.judge(batch)?) {
             return Ok(Learned::Known);
@@ -151,13 +161,19 @@ impl Run {
         requires fits { IsOk (inserted self.old.run self.old.batches batch.now) }
         requires faultless { fault_of batch.now ≡ None }
         requires ids { All (λ event. event.id ≤ 10 ^ 12) batch.now.events }
-        ensures answer { Gives Memory (λ done. done) result (learned self.old.run self.old.batches batch.now) }
+        ensures answer { Gives Memory (λ done.
+            done) result (learned self.old.run self.old.batches batch.now) }
         ensures new { result ≢ Ok Known }
-        ensures grown { OnOk result (self.new ≡ record self.old { batches = arrived batch.now self.old.batches }) }
+        ensures grown { OnOk result
+            (self.new ≡ record self.old { batches = arrived batch.now self.old.batches }) }
         ensures err { OnErr result (self.new ≡ self.old) }
-        ensures extend_steps { OnOk result (batch.now.parent ≡ current_key self.old.run self.old.batches → steps.new ≡ counted steps.old (length batch.now.events)) }
+        ensures extend_steps { OnOk result
+            (batch.now.parent ≡ current_key self.old.run self.old.batches
+            → steps.new ≡ counted steps.old (length batch.now.events)) }
         ensures most_steps { CountsWithin steps.old (length batch.now.events + 511) steps.new }
-        ensures switched { (switched : Bool) → result ≡ Ok (New switched) → (switched ≡ false) ↔ BeginsWith (current_path self.new.run self.new.batches) (current_path self.old.run self.old.batches) }
+        ensures switched { (switched : Bool) → result ≡ Ok (New switched)
+            → (switched ≡ false) ↔ BeginsWith (current_path self.new.run self.new.batches)
+            (current_path self.old.run self.old.batches) }
     {
         // What holds of its tree is known here: the batch joins it.
         let _tree = &self.tree;
@@ -191,11 +207,15 @@ impl Run {
     ) -> Result<Learned, RunError>
         requires joins { Joins self.old.run self.old.batches batch.now }
         requires ids { All (λ event. event.id ≤ 10 ^ 12) batch.now.events }
-        ensures answer { Gives Memory (λ done. done) result (joined self.old.run self.old.batches batch.now) }
+        ensures answer { Gives Memory (λ done.
+            done) result (joined self.old.run self.old.batches batch.now) }
         ensures new { result ≢ Ok Known }
-        ensures grown { OnOk result (self.new ≡ record self.old { batches = arrived batch.now self.old.batches }) }
+        ensures grown { OnOk result
+            (self.new ≡ record self.old { batches = arrived batch.now self.old.batches }) }
         ensures err { OnErr result (self.new ≡ self.old) }
-        ensures extend_steps { OnOk result (batch.now.parent ≡ current_key self.old.run self.old.batches → steps.new ≡ counted steps.old (length batch.now.events)) }
+        ensures extend_steps { OnOk result
+            (batch.now.parent ≡ current_key self.old.run self.old.batches
+            → steps.new ≡ counted steps.old (length batch.now.events)) }
         ensures most_steps { CountsWithin steps.old (length batch.now.events + 511) steps.new }
     {
         let Some(parent) = batch.parent else {
@@ -213,9 +233,11 @@ impl Run {
         requires joins { Joins self.old.run self.old.batches batch.now }
         requires ids { All (λ event. event.id ≤ 10 ^ 12) batch.now.events }
         requires tip { batch.now.parent ≡ current_key self.old.run self.old.batches }
-        ensures answer { Gives Memory (λ done. done) result (joined self.old.run self.old.batches batch.now) }
+        ensures answer { Gives Memory (λ done.
+            done) result (joined self.old.run self.old.batches batch.now) }
         ensures new { result ≢ Ok Known }
-        ensures grown { OnOk result (self.new ≡ record self.old { batches = arrived batch.now self.old.batches }) }
+        ensures grown { OnOk result
+            (self.new ≡ record self.old { batches = arrived batch.now self.old.batches }) }
         ensures err { OnErr result (self.new ≡ self.old) }
         ensures ok_steps { OnOk result (steps.new ≡ counted steps.old (length batch.now.events)) }
         ensures most_steps { CountsWithin steps.old (length batch.now.events) steps.new }
@@ -243,11 +265,15 @@ impl Run {
         requires joins { Joins self.old.run self.old.batches batch.now }
         requires ids { All (λ event. event.id ≤ 10 ^ 12) batch.now.events }
         requires parent { batch.now.parent ≡ Some branch.value.tip }
-        requires state { branch.value.state ≡ state_to self.old.run branch.value.tip self.old.batches }
-        requires apart { is_key branch.value.tip (current_key self.old.run self.old.batches) ≡ false }
-        ensures answer { Gives Memory (λ done. done) result (joined self.old.run self.old.batches batch.now) }
+        requires state { branch.value.state
+            ≡ state_to self.old.run branch.value.tip self.old.batches }
+        requires apart { is_key branch.value.tip (current_key self.old.run self.old.batches)
+            ≡ false }
+        ensures answer { Gives Memory (λ done.
+            done) result (joined self.old.run self.old.batches batch.now) }
         ensures new { result ≢ Ok Known }
-        ensures grown { OnOk result (self.new ≡ record self.old { batches = arrived batch.now self.old.batches }) }
+        ensures grown { OnOk result
+            (self.new ≡ record self.old { batches = arrived batch.now self.old.batches }) }
         ensures err { OnErr result (self.new ≡ self.old) }
         ensures most_steps { CountsWithin steps.old (length batch.now.events) steps.new }
     {
@@ -283,7 +309,8 @@ impl Run {
     ) -> Result<Box<Branch>, OutOfMemory>
         requires { is_some (batch_at key self.old.batches) ≡ true }
         ensures tip { IfOk result (λ branch. branch.value.tip ≡ key) }
-        ensures state { IfOk result (λ branch. branch.value.state ≡ state_to self.old.run key self.old.batches) }
+        ensures state { IfOk result (λ branch.
+            branch.value.state ≡ state_to self.old.run key self.old.batches) }
         ensures same { self.new ≡ self.old }
         ensures steps { CountsWithin steps.old 511 steps.new }
     {
@@ -359,7 +386,7 @@ fn is_known(inserted: Inserted) -> bool
     }
 }
 
-/// Whether the key comes behind this one, where there is one.
+/// Whether the key comes after this one, where there is one.
 fn leads_over(key: BatchKey, other: Option<BatchKey>) -> bool
     ensures { result ≡ leads_over key other }
 {
@@ -370,7 +397,7 @@ fn leads_over(key: BatchKey, other: Option<BatchKey>) -> bool
 }
 
 /// Puts the state of the path that is gone on with in the place of the current one, where its last key, which is this
-/// one, comes behind the tip of this. The one that is not current is held beside.
+/// one, comes after the tip of this. The one that is not current is held beside.
 fn lead(current: &mut State, held: &mut Branch, key: BatchKey, tip: Option<BatchKey>)
     ensures current { current.new ≡ leading_of key tip held.old.state current.old }
     ensures beside { held.new ≡ beside_of key tip held.old.state current.old }

@@ -103,7 +103,7 @@ telling_fits to least below = record { first = three to below; second = three 0 
 starting_fits : (cluster : ℕ) (domain : List ℕ) → IsName domain → cluster < 3 → IsWellFormedAct generated_header (starting cluster domain)
 starting_fits cluster domain name below = (record { known = three cluster below; domain_name = name; workflow_name = refl }, refl)
 
--- the drawn lines, and `settle` behind them
+-- the drawn lines, and `settle` after them
 drawn_fit : (left place number state : ℕ) → place + left < 10 ^ 18 → ByRecursion (λ line. IsWellFormedAct generated_header line.act) (drawn_lines left place state ++ line_at number act.Settle ∷ [])
 drawn_fit zero place number state small = (tt, tt)
 drawn_fit (suc left) place number state small =

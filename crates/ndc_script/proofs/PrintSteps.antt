@@ -5,7 +5,7 @@ use Rattle.ndc_domain.specs.Members.{AreMembers, has_member, numbers, numbers_wh
 use Rattle.ndc_script_types.specs.declared.script.Header.{Header}
 use Rattle.ndc_script_types.specs.Print.{behind_spaces, line_text, member_name}
 
--- more words behind spaces
+-- more words after spaces
 pub behind_spaces-append : (one two : List (List ℕ)) → behind_spaces (one ++ two) ≡ behind_spaces one ++ behind_spaces two
 behind_spaces-append [] two = refl
 behind_spaces-append (word ∷ one) two =
@@ -49,7 +49,7 @@ member_step header members text n below =
     ∙ ap (λ (m : ℕ). text ++ behind_spaces (map (member_name header) (filter (has_member members) (m ∷ drop (n + 1) numbers)))) (number_at n below)
     ∙ sym (at_drop_more (λ (ns : List ℕ). text ++ behind_spaces (map (member_name header) (filter (has_member members) ns))) numbers n n within)
 
--- behind the last number all members are printed
+-- after the last number all members are printed
 pub members_printed : (header : Header) (members text before : List ℕ) → AreMembers members → text ++ behind_spaces (map (member_name header) (filter (has_member members) (drop 8 numbers))) ≡ before ++ behind_spaces (map (member_name header) (filter (has_member members) numbers)) → text ≡ before ++ behind_spaces (map (member_name header) members)
 unfolding numbers_where numbers
 members_printed header members text before are h =

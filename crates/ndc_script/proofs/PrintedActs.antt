@@ -52,7 +52,7 @@ jobs-again end name number [] rest fit = refl
 jobs-again end name number (job ∷ jobs) rest fit =
     rw (job_goes name job, job-again name number job fit.0, jobs-again end name (number + 1) jobs rest fit.1) refl
 
--- what is printed of a line, with the lines behind it, is read again
+-- what is printed of a line, with the lines after it, is read again
 pub act-again : (header : Header) (end line : ℕ) (asked : Act) (rest : List KeptLine) → IsWellFormedHeader header → IsWellFormedAct header asked → words_act header end line (act_words header asked) (kept_numbered (line + 1) (lines_behind header asked) ++ rest) ≡ Ok (act_numbered line asked)
 unfolding words_act verb_act verb_of verb_to_b verb_c verb_d verb_to_h verb_to_m verb_to_q verb_r verb_s verb_from_t burst_line register_line register_with cluster_line pair_line domain_line retain_line target_line handover_line levels_line place_line pull_line places_with places_line settle_line workflow_line compare_line reset_line beat_with beat_line progress_line
 act-again header end line (act.Command cluster domain workflow command) rest sound fit =

@@ -44,7 +44,7 @@ length-jobs_from : (number : ℕ) (jobs : List BurstJob) → length (jobs_from n
 length-jobs_from number [] = refl
 length-jobs_from number (job ∷ jobs) = ap suc (length-jobs_from (number + 1) jobs)
 
--- as many lines belong to a line as are printed behind its first
+-- as many lines belong to a line as are printed after its first
 within-is : (header : Header) (number : ℕ) (asked : Act) → lines_within (act_numbered number asked) ≡ length (lines_behind header asked)
 within-is header number (act.Burst cluster jobs) =
     omega (arith, length-jobs_from (number + 1) jobs, length-append (map (job_words (name_of header.clusters cluster)) jobs) ((codes "end" ∷ []) ∷ []), length-map jobs (job_words (name_of header.clusters cluster)))

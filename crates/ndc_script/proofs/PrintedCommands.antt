@@ -59,7 +59,7 @@ verb_for (command.ChildDone _ _) = verb.Paired paired_verb.ChildDone
 verb_for (command.ChildFail _ _) = verb.Paired paired_verb.ChildFail
 verb_for (command.Respond _) = verb.Respond
 
--- the words of a command line behind the workflow
+-- the words of a command line after the workflow
 abbrev pub operands : Command → List (List ℕ)
 operands (command.Start workflow_type) = workflow_type ∷ []
 operands (command.Signal name input) = name ∷ input ∷ []
@@ -115,7 +115,7 @@ verb_of-first_word (command.ChildDone _ _) = refl
 verb_of-first_word (command.ChildFail _ _) = refl
 verb_of-first_word (command.Respond _) = refl
 
--- an action is read again, and what is behind it where it leaves the run open
+-- an action is read again, and what is after it where it leaves the run open
 action-again : (line : ℕ) (one : Action) (rest : List (List ℕ)) → IsWellFormedAction one → (closes one ≡ true → rest ≡ []) → actions_behind line 0 (action_words one ++ rest) ≡ (actions_behind line 0 rest >>= (λ more. Ok (one ∷ more)))
 unfolding actions_behind group_of action_verb closing_verb named_group paired_group closing_group canceled_group
 action-again line (action.Activity id activity_type) rest fit last = rw (named-name line id fit.0, named-name line activity_type fit.1) refl
@@ -132,7 +132,7 @@ action-again line action.Canceled (word ∷ rest) fit last = absurd (cc (last re
 action-again line (action.Continue workflow_type) [] fit last = rw (named-name line workflow_type fit) refl
 action-again line (action.Continue workflow_type) (word ∷ rest) fit last = absurd (cc (last refl))
 
--- no action stands behind one that closes the run
+-- no action stands after one that closes the run
 last_closes : (one : Action) (actions : List Action) → closes_last (one ∷ actions) ≡ true → closes one ≡ true → flat_map action_words actions ≡ []
 last_closes one [] last h = refl
 last_closes one (next ∷ actions) last h = absurd (cc ((and_parts (not (closes one)) (closes_last (next ∷ actions)) last).0, ap not h))

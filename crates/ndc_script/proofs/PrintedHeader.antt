@@ -111,7 +111,7 @@ clusters-lines end increment header number lines value sound names none =
 increment-line : (line n : ℕ) → 0 < n → n ≤ 10 ^ 12 → increment_at line n ≡ Ok n
 increment-line line n least most = rw (differs n 0 (λ e. omega (arith, e, least)), not_below (10 ^ 12) n most) refl
 
--- a printed header is read again, and the lines behind it are the body
+-- a printed header is read again, and the lines after it are the body
 pub header_of-lines : (end : ℕ) (header : Header) (lines : List (List (List ℕ))) → IsWellFormedHeader header → list_all (λ member. is_name member.0) header.clusters.members ≡ true → NoClusterLines lines → header_of end (kept_numbered 1 (header_lines header ++ lines)) ≡ Ok (record { header = header; body = kept_numbered (5 + length header.clusters.members) lines })
 unfolding header_of
 header_of-lines end header lines sound names none =

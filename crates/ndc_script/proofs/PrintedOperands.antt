@@ -1,4 +1,4 @@
--- Printed words behind the first of a line are read again.
+-- Printed words after the first of a line are read again.
 use Rattle.std.proofs.Common.{◌≡◌, ℕ, ◌-◌, ◌<◌, ◌≤◌, List, Ok, decimal, refl, ap, arith}
 use Rattle.ndc_domain.specs.Clusters.{AreClusters, name_of}
 use Rattle.ndc_domain.specs.declared.clusters.ClusterNo.{ClusterNo}

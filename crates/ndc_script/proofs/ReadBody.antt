@@ -29,7 +29,7 @@ use Rattle.ndc_script.proofs.ReadMembers.{register-is}
 use Rattle.ndc_script.proofs.ReadOperands.{known-word, named-word, ok-same, steps}
 use Rattle.ndc_script.proofs.ReadVerbs.{command_word, verb-is, verb_word}
 
--- lines say the same as themselves, and lists of them one behind the other
+-- lines say the same as themselves, and lists of them one after the other
 pub say-itself : (all : List (List ℕ)) (lines : List (List (List ℕ))) → SayTheSame all lines lines
 say-itself all [] = tt
 say-itself all (line ∷ lines) = (inl refl, say-itself all lines)
@@ -52,7 +52,7 @@ drop-front : (front rest : List KeptLine) → drop (length front) (front ++ rest
 drop-front [] rest = refl
 drop-front (line ∷ front) rest = drop-front front rest
 
--- the lines behind a line that belong to it
+-- the lines after a line that belong to it
 record AreWithin (lines : List KeptLine) (many : ℕ) (words : List (List (List ℕ))) : Type 0 where
   pub front : List KeptLine
   pub rest : List KeptLine
@@ -138,7 +138,7 @@ module _ (header : Header) (most : count_of header.clusters ≤ 8) (few : header
   abbrev all : List (List ℕ)
   all = cluster_names header
 
-  -- a line that is read, with the lines behind it that belong to it
+  -- a line that is read, with the lines after it that belong to it
   record IsLine (reading : Reading) (words : List (List ℕ)) (lines : List KeptLine) (asked : Act) : Type 0 where
     pub readable : reading ≡ Readable
     pub says : SaysTheSame all words (act_words header asked)
@@ -200,7 +200,7 @@ module _ (header : Header) (most : count_of header.clusters ≤ 8) (few : header
       by None is h = absurd (cc)
       by (Some v) is h = subst (λ (w : List ℕ). IsLine Readable (w ∷ words) lines asked) (sym (verb-is word v is)) (verb-line end line v words lines asked h)
 
-  -- the lines of a body, behind those that belong to the line before
+  -- the lines of a body, after those that belong to the line before
   record IsBody (lines : List KeptLine) (read : List Line) : Type 0 where
     pub readable : AreReadable lines
     pub say : SayTheSame all (words_in lines) (body_lines header read)

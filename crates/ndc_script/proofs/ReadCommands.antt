@@ -127,7 +127,7 @@ none-dropped zero words rest e f = e ∙ sym f
 none-dropped (suc n) [] rest e f = sym f
 none-dropped (suc n) (word ∷ words) rest e f = absurd (cc)
 
--- actions are read behind the operands of the one before
+-- actions are read after the operands of the one before
 actions-words : (line operands : ℕ) (words : List (List ℕ)) (actions : List Action) → actions_behind line operands words ≡ Ok actions → drop operands words ≡ flat_map action_words actions
 unfolding actions_behind
 actions-words line operands [] actions e =
@@ -144,7 +144,7 @@ actions-words line zero (word ∷ words) actions e =
     ∙ sym (ap (λ (l : List (List ℕ)). l ++ flat_map action_words b.value) g.printed)
     ∙ ap (flat_map action_words) same
 
--- the words behind the workflow are those of the command, and its first word is the verb's
+-- the words after the workflow are those of the command, and its first word is the verb's
 pub record IsCommand (v : CommandVerb) (words : List (List ℕ)) (asked : Command) : Type 0 where
   pub first : first_word asked ≡ command_word v
   pub behind : operands asked ≡ words

@@ -118,7 +118,7 @@ member-is line member e small = by line.reading refl e
 abbrev AreSmall : List (List ℕ × ℕ) → Type 0
 AreSmall members = AllByRecursion (λ member. member.1 < 2 ^ 64) members
 
--- the cluster lines at the front
+-- the cluster lines at the beginning
 members-lines : (lines : List KeptLine) → AreSmall (members_of lines)
     → AreReadable (take (length (members_of lines)) lines) × (words_in (take (length (members_of lines)) lines) ≡ map cluster_line_of (members_of lines))
 members-lines [] small = (tt, refl)
@@ -151,7 +151,7 @@ body-is (line ∷ lines) body e = by (is_cluster_line line.words) e
     by true h = absurd (cc)
     by false h = ok-same (line ∷ lines) body h
 
--- what is read of the cluster lines and behind them
+-- what is read of the cluster lines and after them
 record AreClustersRead (increment shards limit : ℕ) (lines : List KeptLine) (read : HeaderRead) : Type 0 where
   pub front : List KeptLine
   pub parts : lines ≡ front ++ read.body

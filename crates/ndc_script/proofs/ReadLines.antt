@@ -30,7 +30,7 @@ use Rattle.ndc_script.proofs.ReadCommands.{command-line}
 use Rattle.ndc_script.proofs.ReadOperands.{AreAt, AreNames, both-words, known-word, named-word, numbered-word, ok-same, steps, two-words, workflow-words}
 use Rattle.ndc_script.proofs.ReadVerbs.{cluster_word, command_word, domain_word, pair_word, place_word, places_word, target_word, workflow_word}
 
--- the words of a line that is no burst
+-- the words of a line that is not a burst
 pub record IsPlain (header : Header) (words : List (List ℕ)) (asked : Act) : Type 0 where
   pub printed : act_words header asked ≡ words
   pub alone : lines_behind header asked ≡ []

@@ -192,7 +192,7 @@ module _ (header : Header) (most : count_of header.clusters ≤ 8) where
           some [] none = absurd (true≢false (sym (ap (λ (b : Bool). b || has_word names first) ((bytes_eq-Decides first first).1 refl)) ∙ printed first ∙ ap (λ (words : List (List ℕ)). has_word words first) none))
           some (word ∷ words) are = λ other. printed other ∙ ap (λ (list : List (List ℕ)). has_word list other) are ∙ ap (λ (list : List (List ℕ)). has_word (or_all (cluster_names header) list) other) (sym are)
 
-  -- a line `register` that is read, which has no lines behind it
+  -- a line `register` that is read, which has no lines after it
   pub record IsRegister (words : List (List ℕ)) (asked : Act) : Type 0 where
     pub registers : RegistersTheSame (cluster_names header) (codes "register" ∷ words) (act_words header asked)
     pub alone : lines_behind header asked ≡ []

@@ -141,7 +141,7 @@ IsOfWord {V} word_of word found = (v : V) → found ≡ Some v → word ≡ word
 none-of : {V : Type 0} (word_of : V → List ℕ) (word : List ℕ) → IsOfWord word_of word None
 none-of word_of word v e = absurd (cc)
 
--- a word that is tested, and those behind it
+-- a word that is tested, and those after it
 module _ {V : Type 0} (word_of : V → List ℕ) (word : List ℕ) where
   tested : (name : List ℕ) (one : V) (rest : Option V) → name ≡ word_of one → IsOfWord word_of word rest → IsOfWord word_of word (if bytes_eq word name then Some one else rest)
   tested name one rest is behind = by (bytes_eq word name) refl

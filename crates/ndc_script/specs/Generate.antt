@@ -22,7 +22,7 @@ generated_header =
       limit = 1000;
     }
 
--- the state behind a state, by arithmetic modulo 2^64
+-- the state after a state, by arithmetic modulo 2^64
 unfoldable pub next_state : ℕ → ℕ
 next_state state = (state * 6364136223846793005 + 1442695040888963407) % 2 ^ 64
 
@@ -98,7 +98,7 @@ first_lines =
     line_at 8 (registering (codes "alpha") 0) ∷ line_at 9 (registering (codes "beta") 1) ∷ line_at 10 (telling 1) ∷ line_at 11 (telling 2)
     ∷ line_at 12 (starting 0 (codes "alpha")) ∷ line_at 13 (starting 1 (codes "beta")) ∷ []
 
--- so many lines from a place on, behind a state
+-- so many lines from a place on, after a state
 abbrev pub drawn_lines : ℕ → ℕ → ℕ → List Line
 drawn_lines zero place state = []
 drawn_lines (suc left) place state =

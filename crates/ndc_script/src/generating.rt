@@ -45,7 +45,7 @@ fn numbered_name(alloc: Global, front: &[u8], number: u64) -> Result<Name, OutOf
     name_of(alloc, text.as_slice())
 }
 
-/// The state behind a state, by arithmetic modulo 2^64.
+/// The state after a state, by arithmetic modulo 2^64.
 #[tactic(auto, unfolding(crate::specs::Generate::next_state))]
 fn next_state(state: u64) -> u64
     ensures { result ≡ next_state state }

@@ -12,7 +12,7 @@ use ndc_event::{Name, OutOfMemory};
 use ndc_script_types::{Act, BurstJob, Header, Script, clusters_below};
 use std::alloc::Global;
 
-/// Appends a number behind a space.
+/// Appends a number after a space.
 fn push_number(text: &mut Vec<u8>, number: u64) -> Result<(), OutOfMemory>
     ensures { OnOk result (text.new.items ≡ text.old.items ++ 32 ∷ decimal number) }
 {
@@ -21,7 +21,7 @@ fn push_number(text: &mut Vec<u8>, number: u64) -> Result<(), OutOfMemory>
     text.extend_from_slice(buffer.format(number).as_bytes())
 }
 
-/// Appends a word behind a space.
+/// Appends a word after a space.
 fn push_word(text: &mut Vec<u8>, word: &[u8]) -> Result<(), OutOfMemory>
     ensures { OnOk result (text.new.items ≡ text.old.items ++ 32 ∷ word.now) }
 {
@@ -29,9 +29,10 @@ fn push_word(text: &mut Vec<u8>, word: &[u8]) -> Result<(), OutOfMemory>
     text.extend_from_slice(word)
 }
 
-/// Appends words, each behind a space.
+/// Appends words, each after a space.
 fn push_words(text: &mut Vec<u8>, words: &[&[u8]]) -> Result<(), OutOfMemory>
-    ensures { OnOk result (text.new.items ≡ text.old.items ++ behind_spaces (map (λ word. word.now) words.now)) }
+    ensures { OnOk result (text.new.items
+        ≡ text.old.items ++ behind_spaces (map (λ word. word.now) words.now)) }
 {
     for word in words {
         push_word(text, word)?;
@@ -39,9 +40,10 @@ fn push_words(text: &mut Vec<u8>, words: &[&[u8]]) -> Result<(), OutOfMemory>
     Ok(())
 }
 
-/// Appends numbers, each behind a space.
+/// Appends numbers, each after a space.
 fn push_numbers(text: &mut Vec<u8>, numbers: &[u64]) -> Result<(), OutOfMemory>
-    ensures { OnOk result (text.new.items ≡ text.old.items ++ behind_spaces (map decimal numbers.now)) }
+    ensures { OnOk result (text.new.items
+        ≡ text.old.items ++ behind_spaces (map decimal numbers.now)) }
 {
     for number in numbers {
         push_number(text, *number)?;
@@ -56,7 +58,9 @@ fn push_line(
     words: &[&[u8]],
     numbers: &[u64],
 ) -> Result<(), OutOfMemory>
-    ensures { OnOk result (text.new.items ≡ text.old.items ++ line_text (word.now ∷ map (λ word. word.now) words.now ++ map decimal numbers.now)) }
+    ensures { OnOk result (text.new.items
+        ≡ text.old.items ++ line_text
+        (word.now ∷ map (λ word. word.now) words.now ++ map decimal numbers.now)) }
 {
     text.extend_from_slice(word)?;
     push_words(text, words)?;
@@ -65,9 +69,10 @@ fn push_line(
     Ok(())
 }
 
-/// Appends the words of an action, each behind a space.
+/// Appends the words of an action, each after a space.
 fn push_action(text: &mut Vec<u8>, action: &Action) -> Result<(), OutOfMemory>
-    ensures { OnOk result (text.new.items ≡ text.old.items ++ behind_spaces (action_words action.now)) }
+    ensures { OnOk result (text.new.items
+        ≡ text.old.items ++ behind_spaces (action_words action.now)) }
 {
     match action {
         Action::Activity { id, activity_type } => push_words(
@@ -106,7 +111,10 @@ fn push_respond(
     workflow: &Name,
     actions: &[Action],
 ) -> Result<(), OutOfMemory>
-    ensures { OnOk result (text.new.items ≡ text.old.items ++ line_text (codes "respond" ∷ cluster.now ∷ domain.now ∷ workflow.now ∷ flat_map action_words actions.now)) }
+    ensures { OnOk result (text.new.items
+        ≡ text.old.items ++ line_text
+        (codes "respond" ∷ cluster.now ∷ domain.now ∷ workflow.now
+        ∷ flat_map action_words actions.now)) }
 {
     text.extend_from_slice(b"respond")?;
     push_words(text, &[cluster, domain.as_bytes(), workflow.as_bytes()])?;
@@ -114,9 +122,10 @@ fn push_respond(
     text.extend_from_slice(b"\n")
 }
 
-/// Appends the words of actions, each behind a space.
+/// Appends the words of actions, each after a space.
 fn push_actions(text: &mut Vec<u8>, actions: &[Action]) -> Result<(), OutOfMemory>
-    ensures { OnOk result (text.new.items ≡ text.old.items ++ behind_spaces (flat_map action_words actions.now)) }
+    ensures { OnOk result (text.new.items
+        ≡ text.old.items ++ behind_spaces (flat_map action_words actions.now)) }
 {
     for action in actions {
         push_action(text, action)?;
@@ -132,7 +141,9 @@ fn push_command(
     workflow: &Name,
     command: &Command,
 ) -> Result<(), OutOfMemory>
-    ensures { OnOk result (text.new.items ≡ text.old.items ++ line_text (command_words cluster.now domain.now workflow.now command.now)) }
+    ensures { OnOk result (text.new.items
+        ≡ text.old.items ++ line_text
+        (command_words cluster.now domain.now workflow.now command.now)) }
 {
     let d = domain.as_bytes();
     let w = workflow.as_bytes();
@@ -228,14 +239,16 @@ fn name_of<'a>(header: &'a Header, cluster: ClusterNo) -> &'a [u8]
     }
 }
 
-/// Appends the name of a cluster behind a space, where it is a member.
+/// Appends the name of a cluster after a space, where it is a member.
 fn push_member(
     text: &mut Vec<u8>,
     header: &Header,
     members: Members,
     number: u32,
 ) -> Result<(), OutOfMemory>
-    ensures { OnOk result (text.new.items ≡ text.old.items ++ behind_spaces (if has_member members number then member_name header.now number ∷ [] else [])) }
+    ensures { OnOk result (text.new.items
+        ≡ text.old.items ++ behind_spaces
+        (if has_member members number then member_name header.now number ∷ [] else [])) }
 {
     let cluster = ClusterNo { number };
     if members.has(cluster) {
@@ -244,10 +257,11 @@ fn push_member(
     Ok(())
 }
 
-/// Appends the names of members, each behind a space.
+/// Appends the names of members, each after a space.
 fn push_members(text: &mut Vec<u8>, header: &Header, members: Members) -> Result<(), OutOfMemory>
     requires { AreMembers members }
-    ensures { OnOk result (text.new.items ≡ text.old.items ++ behind_spaces (map (member_name header.now) members)) }
+    ensures { OnOk result (text.new.items
+        ≡ text.old.items ++ behind_spaces (map (member_name header.now) members)) }
 {
     for number in 0..8 {
         push_member(text, header, members, number)?;
@@ -257,13 +271,14 @@ fn push_members(text: &mut Vec<u8>, header: &Header, members: Members) -> Result
 
 /// Whether the members are all clusters of the header.
 fn are_all(alloc: Global, header: &Header, members: Members) -> Result<bool, OutOfMemory>
-    ensures { IfOk result (λ all. all ≡ bytes_eq members (members_of (clusters_below (count_of header.now.clusters)))) }
+    ensures { IfOk result (λ all.
+        all ≡ bytes_eq members (members_of (clusters_below (count_of header.now.clusters)))) }
 {
     let clusters = clusters_below(alloc, header.clusters.count())?;
     Ok(members == Members::of(clusters.as_slice()))
 }
 
-/// Appends the words CLUSTER of a line `register`, each behind a space.
+/// Appends the words CLUSTER of a line `register`, each after a space.
 fn push_member_words(
     alloc: Global,
     text: &mut Vec<u8>,
@@ -271,7 +286,8 @@ fn push_member_words(
     members: Members,
 ) -> Result<(), OutOfMemory>
     requires { AreMembers members }
-    ensures { OnOk result (text.new.items ≡ text.old.items ++ behind_spaces (member_words header.now members)) }
+    ensures { OnOk result (text.new.items
+        ≡ text.old.items ++ behind_spaces (member_words header.now members)) }
 {
     if are_all(alloc, header, members)? {
         Ok(())
@@ -292,7 +308,10 @@ fn push_register(
     members: Members,
 ) -> Result<(), OutOfMemory>
     requires { AreMembers members }
-    ensures { OnOk result (text.new.items ≡ text.old.items ++ line_text (codes "register" ∷ name_of header.now.clusters at ∷ domain.now ∷ name_of header.now.clusters target ∷ decimal days ∷ member_words header.now members)) }
+    ensures { OnOk result (text.new.items
+        ≡ text.old.items ++ line_text
+        (codes "register" ∷ name_of header.now.clusters at ∷ domain.now
+        ∷ name_of header.now.clusters target ∷ decimal days ∷ member_words header.now members)) }
 {
     text.extend_from_slice(b"register")?;
     push_words(
@@ -309,9 +328,10 @@ fn push_register(
     Ok(())
 }
 
-/// Appends the lines of a burst behind its first.
+/// Appends the lines of a burst after its first.
 fn push_jobs(text: &mut Vec<u8>, cluster: &[u8], jobs: &[BurstJob]) -> Result<(), OutOfMemory>
-    ensures { OnOk result (text.new.items ≡ text.old.items ++ lines_text (map (job_words cluster.now) jobs.now)) }
+    ensures { OnOk result (text.new.items
+        ≡ text.old.items ++ lines_text (map (job_words cluster.now) jobs.now)) }
 {
     for job in jobs {
         push_command(text, cluster, &job.domain, &job.workflow, &job.command)?;
@@ -321,7 +341,10 @@ fn push_jobs(text: &mut Vec<u8>, cluster: &[u8], jobs: &[BurstJob]) -> Result<()
 
 /// Appends a burst.
 fn push_burst(text: &mut Vec<u8>, cluster: &[u8], jobs: &[BurstJob]) -> Result<(), OutOfMemory>
-    ensures { OnOk result (text.new.items ≡ text.old.items ++ lines_text ((codes "burst" ∷ cluster.now ∷ []) ∷ map (job_words cluster.now) jobs.now ++ (codes "end" ∷ []) ∷ [])) }
+    ensures { OnOk result (text.new.items
+        ≡ text.old.items ++ lines_text
+        ((codes "burst" ∷ cluster.now ∷ []) ∷ map (job_words cluster.now) jobs.now
+        ++ (codes "end" ∷ []) ∷ [])) }
 {
     push_line(text, b"burst", &[cluster], &[])?;
     push_jobs(text, cluster, jobs)?;
@@ -336,7 +359,8 @@ fn push_act(
     act: &Act,
 ) -> Result<(), OutOfMemory>
     requires { IsWellFormedAct header.now act.now }
-    ensures { OnOk result (text.new.items ≡ text.old.items ++ lines_text (act_lines header.now act.now)) }
+    ensures { OnOk result (text.new.items
+        ≡ text.old.items ++ lines_text (act_lines header.now act.now)) }
 {
     match act {
         Act::Command {
@@ -661,7 +685,8 @@ fn push_act(
 
 /// Appends a header.
 fn push_header(text: &mut Vec<u8>, header: &Header) -> Result<(), OutOfMemory>
-    ensures { OnOk result (text.new.items ≡ text.old.items ++ lines_text (header_lines header.now)) }
+    ensures { OnOk result (text.new.items
+        ≡ text.old.items ++ lines_text (header_lines header.now)) }
 {
     push_line(text, b"ndc", &[], &[1])?;
     push_line(text, b"increment", &[], &[header.clusters.increment()])?;
@@ -672,7 +697,8 @@ fn push_header(text: &mut Vec<u8>, header: &Header) -> Result<(), OutOfMemory>
 
 /// Appends the cluster lines.
 fn push_clusters(text: &mut Vec<u8>, clusters: &Clusters) -> Result<(), OutOfMemory>
-    ensures { OnOk result (text.new.items ≡ text.old.items ++ lines_text (map cluster_line_of clusters.now.members)) }
+    ensures { OnOk result (text.new.items
+        ≡ text.old.items ++ lines_text (map cluster_line_of clusters.now.members)) }
 {
     for number in 0..clusters.count() {
         let cluster = ClusterNo { number };

@@ -20,7 +20,7 @@ use Rattle.ndc_script_words.proofs.Fits.{after}
 use Rattle.ndc_script_words.proofs.Names.{named_fits}
 use Rattle.ndc_script_read.proofs.Short.{weaker}
 
--- a group as it should be: where it closes the run, nothing stands behind it
+-- a group as it should be: where it closes the run, nothing stands after it
 record FitsBefore (words : List (List ℕ)) (group : Group) : Type 0 where
   pub names : IsWellFormedAction group.action
   pub last : closes group.action ≡ true → length words ≤ group.operands
@@ -77,7 +77,7 @@ group_of_fits : (line : ℕ) (word : List ℕ) (words : List (List ℕ)) → IfO
 unfolding group_of
 group_of_fits line word words = group_fits line (action_verb word) words
 
--- no action stands behind words that all belong to the action before
+-- no action stands after words that all belong to the action before
 none_behind : (line operands : ℕ) (words : List (List ℕ)) → length words ≤ operands → actions_behind line operands words ≡ Ok []
 unfolding actions_behind
 none_behind line operands [] few = refl

@@ -35,7 +35,7 @@ went : {A B E : Type 0} (r : Result A E) (f : A → Result B E) (x : B) → (r >
 went (Ok a) f x e = (a, refl, e)
 went (Err error) f x e = absurd (cc)
 
--- ---- past the limit, the line behind the last plays no part
+-- ---- past the limit, the line after the last plays no part
 
 late-by : (header : Header) (one two first : ℕ) (kept : List KeptLine) (b : Bool) → b ≡ false
     → body_of header one (if b then kept else record { number = first; reading = PastLimit; words = [] } ∷ []) ≡ body_of header two (if b then kept else record { number = first; reading = PastLimit; words = [] } ∷ [])
@@ -48,7 +48,7 @@ unfolding body_behind
 late header one two first [] past = refl
 late header one two first (line ∷ lines) past = late-by header one two first (cons_option (kept_line first line) (kept_from (first + 1) lines)) (nat_le first 100000) (lt-leb first 100000 past)
 
--- what is read is the same where the number of the line behind the last is right as far as it plays a part
+-- what is read is the same where the number of the line after the last is right as far as it plays a part
 pub end-right : (header : Header) (first end : ℕ) (bytes : List ℕ) → (first ≤ 100000 → end ≡ line_behind first bytes)
     → body_of header end (kept_from first (text_lines bytes)) ≡ lines_read header first bytes
 end-right header first end bytes right = by (nat_le first 100000) refl
@@ -165,7 +165,7 @@ unfolding words_act
 words-more header end other line [] lines more asked e = e
 words-more header end other line (word ∷ words) lines more asked e = by-more header end other line (verb_of word) words lines more asked e
 
--- a line asks for the same where more lines stand behind it
+-- a line asks for the same where more lines stand after it
 act-more : (header : Header) (end other line : ℕ) (reading : Reading) (words : List (List ℕ)) (lines more : List KeptLine) (asked : Act) → act_read header end line reading words lines ≡ Ok asked → act_read header other line reading words (lines ++ more) ≡ Ok asked
 act-more header end other line Readable words lines more asked e = words-more header end other line words lines more asked e
 act-more header end other line Unreadable words lines more asked e = e
@@ -179,7 +179,7 @@ behind-next : {A E : Type 0} (item : A) (front : List A) (rest : Result (List A)
 behind-next item front (Ok items) = refl
 behind-next item front (Err error) = refl
 
--- lines that are read, and more behind them
+-- lines that are read, and more after them
 body-more : (header : Header) (end other n : ℕ) (lines more : List KeptLine) (read : List Line) → Front n lines → body_behind header end n lines ≡ Ok read
     → body_behind header other n (lines ++ more) ≡ behind read (body_behind header other 0 more)
 unfolding body_behind Front FrontOf
@@ -275,7 +275,7 @@ placed-more : (end other line : ℕ) (lines more : List KeptLine) (r : Result Cl
 placed-more end other line lines more (Ok one) clusters e = e
 placed-more end other line lines more (Err error) clusters e = absurd (cc)
 
--- a header that is read, and more lines behind it
+-- a header that is read, and more lines after it
 AtFront : List KeptLine → HeaderRead → HeaderRead
 AtFront more read = record { header = read.header; body = read.body ++ more }
 
@@ -331,7 +331,7 @@ script-more header end other body more script lines e whole =
     joined (Ok read) = refl
     joined (Err error) = refl
 
--- a front of a script that is read, and the lines of the rest
+-- a prefix of a script that is read, and the lines of the rest
 pub script-apart : (one two : List ℕ) (script : Script) → is_whole one ≡ true → begins_cluster (kept_from (line_after one) (text_lines two)) ≡ false → script_of one ≡ Ok script
     → script_of (one ++ two) ≡ with_rest script (lines_read script.header (line_after one) two)
 unfolding script_of TookHeader AtFront

@@ -139,7 +139,7 @@ act_within header end line Readable words lines asked ok = refl
 act_within header end line Unreadable words lines asked ok = refl
 act_within header end line PastLimit words lines asked ok = absurd (cc)
 
--- the lines of a body, behind those that belong to the line before: none is past the limit, and there are enough
+-- the lines of a body, after those that belong to the line before: none is past the limit, and there are enough
 pub record Counted (within : ℕ) (lines : List KeptLine) (read : List Line) : Type 0 where
   pub none_past : Within lines
   pub enough : within + read_count read ≤ length lines

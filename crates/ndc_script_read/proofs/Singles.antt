@@ -1,4 +1,4 @@
--- Lines that are no bursts take no lines behind them.
+-- Lines that are not bursts take no lines after them.
 use Rattle.std.proofs.Common.{◌≡◌, ℕ, ◌==◌, Bool, true, false, List, [], ◌∷◌, length, IfOk, if◌then◌else◌, refl}
 use Rattle.ndc_script_types.specs.Print.{lines_within}
 use Rattle.ndc_domain.specs.declared.clusters.ClusterNo.{ClusterNo}

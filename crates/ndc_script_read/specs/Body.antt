@@ -24,7 +24,7 @@ use Rattle.ndc_script_read.specs.Register.{register_line}
 use Rattle.ndc_script_words.specs.Verbs.{verb_of}
 use Rattle.ndc_script_read.specs.Lines.{cluster_line, pair_line, domain_line, retain_line, target_line, handover_line, levels_line, place_line, pull_line, places_line, settle_line, workflow_line, compare_line, reset_line, beat_line, progress_line}
 
--- the job of a command line, behind the workflow
+-- the job of a command line, after the workflow
 unfoldable pub job_at : ℕ → CommandVerb → List ℕ → List ℕ → List (List ℕ) → Result BurstJob ScriptError
 job_at line verb domain workflow operands = do
   command ← command_of line verb operands
@@ -32,7 +32,7 @@ job_at line verb domain workflow operands = do
   workflow ← named line workflow
   Ok (record { number = line; domain = domain; workflow = workflow; command = command })
 
--- the job of a command line at the cluster of this name, behind its first word
+-- the job of a command line at the cluster of this name, after its first word
 unfoldable pub job_line : List ℕ → ℕ → CommandVerb → List (List ℕ) → Result BurstJob ScriptError
 job_line name line verb (cluster ∷ domain ∷ workflow ∷ operands) =
     if bytes_eq cluster name then job_at line verb domain workflow operands else refused line BadLine
@@ -65,7 +65,7 @@ is_end Readable words = are_end words
 is_end Unreadable words = false
 is_end PastLimit words = false
 
--- the jobs of a burst at the cluster of this name, up to its line `end`; a text ends at the line behind the last
+-- the jobs of a burst at the cluster of this name, up to its line `end`; a text ends at the line after the last
 unfoldable pub jobs_of : ℕ → List ℕ → List KeptLine → Result (List BurstJob) ScriptError
 jobs_of end name [] = refused end BadLine
 jobs_of end name (line ∷ lines) =
@@ -75,7 +75,7 @@ jobs_of end name (line ∷ lines) =
       more ← jobs_of end name lines
       Ok (job ∷ more)
 
--- `burst C`, by its words behind the first and the lines behind it
+-- `burst C`, by its words after the first and the lines after it
 unfoldable pub burst_line : Header → ℕ → ℕ → List (List ℕ) → List KeptLine → Result Act ScriptError
 burst_line header end line (name ∷ []) lines = do
   cluster ← known header line name
@@ -83,7 +83,7 @@ burst_line header end line (name ∷ []) lines = do
   Ok (act.Burst cluster jobs)
 burst_line header end line _ lines = refused line BadLine
 
--- the line that begins with a verb, by its words behind the first and the lines behind it
+-- the line that begins with a verb, by its words after the first and the lines after it
 unfoldable pub verb_act : Header → ℕ → ℕ → Verb → List (List ℕ) → List KeptLine → Result Act ScriptError
 verb_act header end line (verb.Command command) words lines = command_line header line command words
 verb_act header end line verb.Burst words lines = burst_line header end line words lines
@@ -110,7 +110,7 @@ abbrev pub act_by : Header → ℕ → ℕ → Option Verb → List (List ℕ) �
 act_by header end line None words lines = refused line BadLine
 act_by header end line (Some verb) words lines = verb_act header end line verb words lines
 
--- the line that these words are, by the first; the lines behind it are those of a burst
+-- the line that these words are, by the first; the lines after it are those of a burst
 unfoldable pub words_act : Header → ℕ → ℕ → List (List ℕ) → List KeptLine → Result Act ScriptError
 words_act header end line [] lines = refused line BadLine
 words_act header end line (word ∷ words) lines = act_by header end line (verb_of word) words lines
@@ -121,7 +121,7 @@ act_read header end line PastLimit words lines = refused line LineLimit
 act_read header end line Unreadable words lines = refused line BadLine
 act_read header end line Readable words lines = words_act header end line words lines
 
--- the lines of the body, behind those that belong to the line before
+-- the lines of the body, after those that belong to the line before
 unfoldable pub body_behind : Header → ℕ → ℕ → List KeptLine → Result (List Line) ScriptError
 body_behind header end within [] = Ok []
 body_behind header end (suc within) (line ∷ lines) = body_behind header end within lines

@@ -99,7 +99,7 @@ unfoldable pub canceled_group : ℕ → List (List ℕ) → Result Group ScriptE
 canceled_group line [] = Ok (record { action = action.Canceled; operands = 0 })
 canceled_group line _ = refused line BadLine
 
--- the group that begins with an action, by the words behind it
+-- the group that begins with an action, by the words after it
 abbrev pub group_by : ℕ → Option ActionVerb → List (List ℕ) → Result Group ScriptError
 group_by line None words = refused line BadLine
 group_by line (Some (group_verb.Named verb)) words = named_group line verb words
@@ -107,11 +107,11 @@ group_by line (Some (group_verb.Paired verb)) words = paired_group line verb wor
 group_by line (Some (group_verb.Closing verb)) words = closing_group line verb words
 group_by line (Some group_verb.Canceled) words = canceled_group line words
 
--- the group that begins with a word, by the words behind it
+-- the group that begins with a word, by the words after it
 unfoldable pub group_of : ℕ → List ℕ → List (List ℕ) → Result Group ScriptError
 group_of line word words = group_by line (action_verb word) words
 
--- the actions that words are, behind the operands of the action before
+-- the actions that words are, after the operands of the action before
 unfoldable pub actions_behind : ℕ → ℕ → List (List ℕ) → Result (List Action) ScriptError
 actions_behind line operands [] = Ok []
 actions_behind line (suc operands) (word ∷ words) = actions_behind line operands words
@@ -124,19 +124,19 @@ actions_behind line zero (word ∷ words) = do
 abbrev pub actions_of : ℕ → List (List ℕ) → Result (List Action) ScriptError
 actions_of line words = actions_behind line 0 words
 
--- `cancel`, `decide`, `timeoutdecision`, behind the workflow
+-- `cancel`, `decide`, `timeoutdecision`, after the workflow
 unfoldable pub bare_of : ℕ → BareCommand → List (List ℕ) → Result Command ScriptError
 bare_of line verb [] = Ok (bare_command verb)
 bare_of line verb _ = refused line BadLine
 
--- `start TYPE`, `terminate REASON`, `faildecision CAUSE`, `actstart ID`, `acttimeout ID`, `fire ID`, `childstart ID`, behind the workflow
+-- `start TYPE`, `terminate REASON`, `faildecision CAUSE`, `actstart ID`, `acttimeout ID`, `fire ID`, `childstart ID`, after the workflow
 unfoldable pub named_of : ℕ → NamedCommand → List (List ℕ) → Result Command ScriptError
 named_of line verb (name ∷ []) = do
   name ← named line name
   Ok (named_command verb name)
 named_of line verb _ = refused line BadLine
 
--- `signal NAME INPUT`, `actdone ID RESULT`, `actfail ID REASON`, `childdone ID RESULT`, `childfail ID REASON`, behind the workflow
+-- `signal NAME INPUT`, `actdone ID RESULT`, `actfail ID REASON`, `childdone ID RESULT`, `childfail ID REASON`, after the workflow
 unfoldable pub paired_of : ℕ → PairedCommand → List (List ℕ) → Result Command ScriptError
 paired_of line verb (one ∷ two ∷ []) = do
   one ← named line one
@@ -144,20 +144,20 @@ paired_of line verb (one ∷ two ∷ []) = do
   Ok (paired_command verb one two)
 paired_of line verb _ = refused line BadLine
 
--- `respond ACTION ..`, behind the workflow
+-- `respond ACTION ..`, after the workflow
 unfoldable pub respond_of : ℕ → List (List ℕ) → Result Command ScriptError
 respond_of line words = do
   actions ← actions_of line words
   Ok (command.Respond actions)
 
--- the command of a verb, by the words behind the workflow
+-- the command of a verb, by the words after the workflow
 unfoldable pub command_of : ℕ → CommandVerb → List (List ℕ) → Result Command ScriptError
 command_of line (verb.Bare bare) words = bare_of line bare words
 command_of line (verb.Named one) words = named_of line one words
 command_of line (verb.Paired two) words = paired_of line two words
 command_of line verb.Respond words = respond_of line words
 
--- a command line `WORD C D W ..`, behind its first word
+-- a command line `WORD C D W ..`, after its first word
 unfoldable pub command_line : Header → ℕ → CommandVerb → List (List ℕ) → Result Act ScriptError
 command_line header line verb (cluster ∷ domain ∷ workflow ∷ operands) = do
   command ← command_of line verb operands

@@ -1,4 +1,4 @@
--- Lines that are no command lines, by the words that they need behind the first.
+-- Lines that are not command lines, by the words that they need after the first.
 use Rattle.std.specs.Prelude.{ℕ, ◌==◌, List, [], ◌∷◌, length, Result, Ok, if◌then◌else◌}
 use Rattle.ndc_event.specs.Outcome.{◌>>=◌}
 use Rattle.ndc_domain.specs.declared.clusters.ClusterNo.{ClusterNo}

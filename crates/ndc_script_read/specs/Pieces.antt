@@ -18,13 +18,13 @@ abbrev pub begins_cluster : List KeptLine → Bool
 begins_cluster [] = false
 begins_cluster (line ∷ lines) = is_cluster_line line.words
 
--- lines that were read, with those that are read behind them
+-- lines that were read, with those that are read after them
 abbrev pub with_front : List Line → Result (List Line) ScriptError → Result (List Line) ScriptError
 with_front front rest = do
   lines ← rest
   Ok (front ++ lines)
 
--- a script with the lines that are read behind its own
+-- a script with the lines that are read after its own
 abbrev pub with_rest : Script → Result (List Line) ScriptError → Result Script ScriptError
 with_rest script rest = do
   lines ← rest

@@ -28,7 +28,7 @@ fn past_limit(line: u64) -> ScriptError
     }
 }
 
-/// The job of a command line, behind the workflow.
+/// The job of a command line, after the workflow.
 #[tactic(auto, unfolding(crate::specs::Body::job_at))]
 fn job_at(
     names: &mut Interner,
@@ -38,7 +38,9 @@ fn job_at(
     workflow: &[u8],
     operands: &[&[u8]],
 ) -> Result<BurstJob, ScriptError>
-    ensures answer { Gives Memory (λ job. job) result (job_at line verb domain.now workflow.now (map (λ word. word.now) operands.now)) }
+    ensures answer { Gives Memory (λ job.
+        job) result (job_at line verb domain.now workflow.now
+        (map (λ word. word.now) operands.now)) }
     ensures well_formed { IfOk result IsWellFormedJob }
 {
     let command = command_of(names, line, verb, operands)?;
@@ -52,7 +54,7 @@ fn job_at(
     })
 }
 
-/// The job of a command line at the cluster of this name, behind its first word.
+/// The job of a command line at the cluster of this name, after its first word.
 #[tactic(auto, unfolding(crate::specs::Body::job_line))]
 fn job_line(
     names: &mut Interner,
@@ -61,7 +63,8 @@ fn job_line(
     verb: CommandVerb,
     words: &[&[u8]],
 ) -> Result<BurstJob, ScriptError>
-    ensures answer { Gives Memory (λ job. job) result (job_line name.now line verb (map (λ word. word.now) words.now)) }
+    ensures answer { Gives Memory (λ job.
+        job) result (job_line name.now line verb (map (λ word. word.now) words.now)) }
     ensures well_formed { IfOk result IsWellFormedJob }
 {
     match words {
@@ -84,7 +87,8 @@ fn words_job(
     line: u64,
     words: &[&[u8]],
 ) -> Result<BurstJob, ScriptError>
-    ensures answer { Gives Memory (λ job. job) result (words_job name.now line (map (λ word. word.now) words.now)) }
+    ensures answer { Gives Memory (λ job.
+        job) result (words_job name.now line (map (λ word. word.now) words.now)) }
     ensures well_formed { IfOk result IsWellFormedJob }
 {
     match words {
@@ -98,7 +102,8 @@ fn words_job(
 
 /// The job of a line of a burst.
 fn job_read(names: &mut Interner, name: &[u8], line: &KeptLine<'_>) -> Result<BurstJob, ScriptError>
-    ensures answer { Gives Memory (λ job. job) result (job_read name.now line.now.number line.now.reading line.now.words) }
+    ensures answer { Gives Memory (λ job.
+        job) result (job_read name.now line.now.number line.now.reading line.now.words) }
     ensures well_formed { IfOk result IsWellFormedJob }
 {
     match line.reading() {
@@ -150,7 +155,7 @@ fn jobs_of(
     Err(bad(end))
 }
 
-/// `burst C`, by its words behind the first and the lines behind it.
+/// `burst C`, by its words after the first and the lines after it.
 #[tactic(auto, unfolding(crate::specs::Body::burst_line))]
 fn burst_line(
     names: &mut Interner,
@@ -160,7 +165,8 @@ fn burst_line(
     words: &[&[u8]],
     lines: &[KeptLine<'_>],
 ) -> Result<Act, ScriptError>
-    ensures answer { Gives Memory (λ act. act) result (burst_line header.now end line (map (λ word. word.now) words.now) lines.now) }
+    ensures answer { Gives Memory (λ act.
+        act) result (burst_line header.now end line (map (λ word. word.now) words.now) lines.now) }
     ensures well_formed { IfOk result (IsWellFormedAct header.now) }
 {
     match words {
@@ -176,7 +182,7 @@ fn burst_line(
     }
 }
 
-/// The line that begins with a verb, by its words behind the first and the lines behind it.
+/// The line that begins with a verb, by its words after the first and the lines after it.
 #[tactic(auto, unfolding(crate::specs::Body::verb_act))]
 fn verb_act(
     names: &mut Interner,
@@ -188,7 +194,9 @@ fn verb_act(
     lines: &[KeptLine<'_>],
 ) -> Result<Act, ScriptError>
     requires { IsWellFormedHeader header.now }
-    ensures answer { Gives Memory (λ act. act) result (verb_act header.now end line verb (map (λ word. word.now) words.now) lines.now) }
+    ensures answer { Gives Memory (λ act.
+        act) result (verb_act header.now end line verb
+        (map (λ word. word.now) words.now) lines.now) }
     ensures well_formed { IfOk result (IsWellFormedAct header.now) }
 {
     match verb {
@@ -214,7 +222,7 @@ fn verb_act(
     }
 }
 
-/// The line that these words are, by the first; the lines behind it are those of a burst.
+/// The line that these words are, by the first; the lines after it are those of a burst.
 #[tactic(auto, unfolding(crate::specs::Body::words_act))]
 fn words_act(
     names: &mut Interner,
@@ -225,7 +233,8 @@ fn words_act(
     lines: &[KeptLine<'_>],
 ) -> Result<Act, ScriptError>
     requires { IsWellFormedHeader header.now }
-    ensures answer { Gives Memory (λ act. act) result (words_act header.now end line (map (λ word. word.now) words.now) lines.now) }
+    ensures answer { Gives Memory (λ act.
+        act) result (words_act header.now end line (map (λ word. word.now) words.now) lines.now) }
     ensures well_formed { IfOk result (IsWellFormedAct header.now) }
 {
     match words {
@@ -237,7 +246,7 @@ fn words_act(
     }
 }
 
-/// What a line asks for, with the lines behind it.
+/// What a line asks for, with the lines after it.
 fn act_read(
     names: &mut Interner,
     header: &Header,
@@ -246,7 +255,9 @@ fn act_read(
     lines: &[KeptLine<'_>],
 ) -> Result<Act, ScriptError>
     requires { IsWellFormedHeader header.now }
-    ensures answer { Gives Memory (λ act. act) result (act_read header.now end line.now.number line.now.reading line.now.words lines.now) }
+    ensures answer { Gives Memory (λ act.
+        act) result (act_read header.now end line.now.number line.now.reading line.now.words
+        lines.now) }
     ensures well_formed { IfOk result (IsWellFormedAct header.now) }
 {
     match line.reading() {
@@ -256,7 +267,7 @@ fn act_read(
     }
 }
 
-/// How many lines behind the first belong to a line.
+/// How many lines after the first belong to a line.
 fn lines_within(act: &Act) -> usize
     ensures { result ≡ lines_within act.now }
 {
@@ -266,7 +277,7 @@ fn lines_within(act: &Act) -> usize
     }
 }
 
-/// The lines of the body, or the first faulty one. The line behind the last has the number `end`.
+/// The lines of the body, or the first faulty one. The line after the last has the number `end`.
 #[tactic(auto, unfolding(crate::specs::Body::body_behind))]
 pub fn body_of(
     names: &mut Interner,

@@ -12,12 +12,12 @@ use ndc_script_words::{
     PairedAction, PairedCommand, action_verb, bad, named, workflow_at,
 };
 
-/// An action, and how many words behind its first belong to it.
+/// An action, and how many words after its first belong to it.
 #[derive(Drop)]
 pub struct Group {
     /// The action.
     pub action: Action,
-    /// How many words behind its first belong to it.
+    /// How many words after its first belong to it.
     pub operands: usize,
 }
 
@@ -125,7 +125,8 @@ fn named_group(
     verb: NamedAction,
     words: &[&[u8]],
 ) -> Result<Group, ScriptError>
-    ensures { Gives Memory (λ group. group) result (named_group line verb (map (λ word. word.now) words.now)) }
+    ensures { Gives Memory (λ group.
+        group) result (named_group line verb (map (λ word. word.now) words.now)) }
 {
     match words {
         [name, ..] => {
@@ -147,7 +148,8 @@ fn paired_group(
     verb: PairedAction,
     words: &[&[u8]],
 ) -> Result<Group, ScriptError>
-    ensures { Gives Memory (λ group. group) result (paired_group line verb (map (λ word. word.now) words.now)) }
+    ensures { Gives Memory (λ group.
+        group) result (paired_group line verb (map (λ word. word.now) words.now)) }
 {
     match words {
         [one, two, ..] => {
@@ -170,7 +172,8 @@ fn closing_group(
     verb: ClosingAction,
     words: &[&[u8]],
 ) -> Result<Group, ScriptError>
-    ensures { Gives Memory (λ group. group) result (closing_group line verb (map (λ word. word.now) words.now)) }
+    ensures { Gives Memory (λ group.
+        group) result (closing_group line verb (map (λ word. word.now) words.now)) }
 {
     match words {
         [name] => {
@@ -198,7 +201,7 @@ fn canceled_group(line: u64, words: &[&[u8]]) -> Result<Group, ScriptError>
     }
 }
 
-/// The group that begins with a word, by the words behind it.
+/// The group that begins with a word, by the words after it.
 #[tactic(auto, unfolding(crate::specs::Commands::group_of))]
 fn group_of(
     names: &mut Interner,
@@ -206,7 +209,8 @@ fn group_of(
     word: &[u8],
     words: &[&[u8]],
 ) -> Result<Group, ScriptError>
-    ensures { Gives Memory (λ group. group) result (group_of line word.now (map (λ word. word.now) words.now)) }
+    ensures { Gives Memory (λ group.
+        group) result (group_of line word.now (map (λ word. word.now) words.now)) }
 {
     match action_verb(word) {
         None => Err(bad(line)),
@@ -220,7 +224,8 @@ fn group_of(
 /// The actions that words are, read from left to right.
 #[tactic(auto, unfolding(crate::specs::Commands::actions_behind))]
 fn actions_of(names: &mut Interner, line: u64, words: &[&[u8]]) -> Result<Vec<Action>, ScriptError>
-    ensures { Gives Memory (λ actions. actions.items) result (actions_of line (map (λ word. word.now) words.now)) }
+    ensures { Gives Memory (λ actions.
+        actions.items) result (actions_of line (map (λ word. word.now) words.now)) }
 {
     let mut actions = Vec::new(names.alloc());
     let mut operands: usize = 0;
@@ -237,7 +242,7 @@ fn actions_of(names: &mut Interner, line: u64, words: &[&[u8]]) -> Result<Vec<Ac
     Ok(actions)
 }
 
-/// `cancel`, `decide` or `timeoutdecision`, behind the workflow.
+/// `cancel`, `decide` or `timeoutdecision`, after the workflow.
 #[tactic(auto, unfolding(crate::specs::Commands::bare_of))]
 fn bare_of(line: u64, verb: BareCommand, words: &[&[u8]]) -> Result<Command, ScriptError>
     ensures answer { result ≡ bare_of line verb (map (λ word. word.now) words.now) }
@@ -249,7 +254,7 @@ fn bare_of(line: u64, verb: BareCommand, words: &[&[u8]]) -> Result<Command, Scr
     }
 }
 
-/// A command with one name, behind the workflow.
+/// A command with one name, after the workflow.
 #[tactic(auto, unfolding(crate::specs::Commands::named_of))]
 fn named_of(
     names: &mut Interner,
@@ -257,7 +262,8 @@ fn named_of(
     verb: NamedCommand,
     words: &[&[u8]],
 ) -> Result<Command, ScriptError>
-    ensures answer { Gives Memory (λ command. command) result (named_of line verb (map (λ word. word.now) words.now)) }
+    ensures answer { Gives Memory (λ command.
+        command) result (named_of line verb (map (λ word. word.now) words.now)) }
     ensures well_formed { IfOk result IsWellFormedCommand }
 {
     match words {
@@ -269,7 +275,7 @@ fn named_of(
     }
 }
 
-/// A command with two names, behind the workflow.
+/// A command with two names, after the workflow.
 #[tactic(auto, unfolding(crate::specs::Commands::paired_of))]
 fn paired_of(
     names: &mut Interner,
@@ -277,7 +283,8 @@ fn paired_of(
     verb: PairedCommand,
     words: &[&[u8]],
 ) -> Result<Command, ScriptError>
-    ensures answer { Gives Memory (λ command. command) result (paired_of line verb (map (λ word. word.now) words.now)) }
+    ensures answer { Gives Memory (λ command.
+        command) result (paired_of line verb (map (λ word. word.now) words.now)) }
     ensures well_formed { IfOk result IsWellFormedCommand }
 {
     match words {
@@ -290,10 +297,11 @@ fn paired_of(
     }
 }
 
-/// `respond ACTION ..`, behind the workflow.
+/// `respond ACTION ..`, after the workflow.
 #[tactic(auto, unfolding(crate::specs::Commands::respond_of))]
 fn respond_of(names: &mut Interner, line: u64, words: &[&[u8]]) -> Result<Command, ScriptError>
-    ensures answer { Gives Memory (λ command. command) result (respond_of line (map (λ word. word.now) words.now)) }
+    ensures answer { Gives Memory (λ command.
+        command) result (respond_of line (map (λ word. word.now) words.now)) }
     ensures well_formed { IfOk result IsWellFormedCommand }
 {
     let actions = actions_of(names, line, words)?;
@@ -302,7 +310,7 @@ fn respond_of(names: &mut Interner, line: u64, words: &[&[u8]]) -> Result<Comman
     })
 }
 
-/// The command of a verb, by the words behind the workflow.
+/// The command of a verb, by the words after the workflow.
 #[tactic(auto, unfolding(crate::specs::Commands::command_of))]
 pub fn command_of(
     names: &mut Interner,
@@ -310,7 +318,8 @@ pub fn command_of(
     verb: CommandVerb,
     words: &[&[u8]],
 ) -> Result<Command, ScriptError>
-    ensures answer { Gives Memory (λ command. command) result (command_of line verb (map (λ word. word.now) words.now)) }
+    ensures answer { Gives Memory (λ command.
+        command) result (command_of line verb (map (λ word. word.now) words.now)) }
     ensures well_formed { IfOk result IsWellFormedCommand }
 {
     match verb {
@@ -321,7 +330,7 @@ pub fn command_of(
     }
 }
 
-/// A command line `WORD C D W ..`, behind its first word.
+/// A command line `WORD C D W ..`, after its first word.
 #[tactic(auto, unfolding(crate::specs::Commands::command_line))]
 pub fn command_line(
     names: &mut Interner,
@@ -330,7 +339,8 @@ pub fn command_line(
     verb: CommandVerb,
     words: &[&[u8]],
 ) -> Result<Act, ScriptError>
-    ensures answer { Gives Memory (λ act. act) result (command_line header.now line verb (map (λ word. word.now) words.now)) }
+    ensures answer { Gives Memory (λ act.
+        act) result (command_line header.now line verb (map (λ word. word.now) words.now)) }
     ensures well_formed { IfOk result (IsWellFormedAct header.now) }
 {
     match words {

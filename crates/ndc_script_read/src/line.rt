@@ -29,7 +29,7 @@ fn cluster_act(verb: ClusterVerb, cluster: ClusterNo) -> Act
     }
 }
 
-/// A line `WORD C`, behind its first word.
+/// A line `WORD C`, after its first word.
 #[tactic(auto, unfolding(crate::specs::Lines::cluster_line))]
 pub fn cluster_line(
     header: &Header,
@@ -71,7 +71,7 @@ fn pair_act(verb: PairVerb, one: ClusterNo, two: ClusterNo) -> Act
     }
 }
 
-/// A line `WORD C C`, behind its first word; the clusters differ.
+/// A line `WORD C C`, after its first word; the clusters differ.
 #[tactic(auto, unfolding(crate::specs::Lines::pair_line))]
 pub fn pair_line(
     header: &Header,
@@ -102,7 +102,7 @@ fn domain_act(verb: DomainVerb, at: ClusterNo, domain: Name) -> Act
     }
 }
 
-/// A line `WORD C D`, behind its first word.
+/// A line `WORD C D`, after its first word.
 #[tactic(auto, unfolding(crate::specs::Lines::domain_line))]
 pub fn domain_line(
     names: &mut Interner,
@@ -111,7 +111,8 @@ pub fn domain_line(
     verb: DomainVerb,
     words: &[&[u8]],
 ) -> Result<Act, ScriptError>
-    ensures answer { Gives Memory (λ act. act) result (domain_line header.now line verb (map (λ word. word.now) words.now)) }
+    ensures answer { Gives Memory (λ act.
+        act) result (domain_line header.now line verb (map (λ word. word.now) words.now)) }
     ensures well_formed { IfOk result (IsWellFormedAct header.now) }
 {
     match words {
@@ -124,7 +125,7 @@ pub fn domain_line(
     }
 }
 
-/// `retain C D DAYS`, behind its first word.
+/// `retain C D DAYS`, after its first word.
 #[tactic(auto, unfolding(crate::specs::Lines::retain_line))]
 pub fn retain_line(
     names: &mut Interner,
@@ -132,7 +133,8 @@ pub fn retain_line(
     line: u64,
     words: &[&[u8]],
 ) -> Result<Act, ScriptError>
-    ensures answer { Gives Memory (λ act. act) result (retain_line header.now line (map (λ word. word.now) words.now)) }
+    ensures answer { Gives Memory (λ act.
+        act) result (retain_line header.now line (map (λ word. word.now) words.now)) }
     ensures well_formed { IfOk result (IsWellFormedAct header.now) }
 {
     match words {
@@ -164,7 +166,7 @@ fn target_act(verb: TargetVerb, at: ClusterNo, domain: Name, target: ClusterNo) 
     }
 }
 
-/// A line `WORD C D CLUSTER`, behind its first word.
+/// A line `WORD C D CLUSTER`, after its first word.
 #[tactic(auto, unfolding(crate::specs::Lines::target_line))]
 pub fn target_line(
     names: &mut Interner,
@@ -173,7 +175,8 @@ pub fn target_line(
     verb: TargetVerb,
     words: &[&[u8]],
 ) -> Result<Act, ScriptError>
-    ensures answer { Gives Memory (λ act. act) result (target_line header.now line verb (map (λ word. word.now) words.now)) }
+    ensures answer { Gives Memory (λ act.
+        act) result (target_line header.now line verb (map (λ word. word.now) words.now)) }
     ensures well_formed { IfOk result (IsWellFormedAct header.now) }
 {
     match words {
@@ -186,7 +189,7 @@ pub fn target_line(
     }
 }
 
-/// `handover C D TARGET`, behind its first word; C and TARGET differ.
+/// `handover C D TARGET`, after its first word; C and TARGET differ.
 #[tactic(auto, unfolding(crate::specs::Lines::handover_line))]
 pub fn handover_line(
     names: &mut Interner,
@@ -194,7 +197,8 @@ pub fn handover_line(
     line: u64,
     words: &[&[u8]],
 ) -> Result<Act, ScriptError>
-    ensures answer { Gives Memory (λ act. act) result (handover_line header.now line (map (λ word. word.now) words.now)) }
+    ensures answer { Gives Memory (λ act.
+        act) result (handover_line header.now line (map (λ word. word.now) words.now)) }
     ensures well_formed { IfOk result (IsWellFormedAct header.now) }
 {
     match words {
@@ -211,7 +215,7 @@ pub fn handover_line(
     }
 }
 
-/// `levels READER SOURCE SHARD`, behind its first word.
+/// `levels READER SOURCE SHARD`, after its first word.
 #[tactic(auto, unfolding(crate::specs::Lines::levels_line))]
 pub fn levels_line(header: &Header, line: u64, words: &[&[u8]]) -> Result<Act, ScriptError>
     requires { IsWellFormedHeader header.now }
@@ -264,7 +268,7 @@ fn place_act(
     }
 }
 
-/// A line `WORD READER SOURCE SHARD NUMBER`, behind its first word.
+/// A line `WORD READER SOURCE SHARD NUMBER`, after its first word.
 #[tactic(auto, unfolding(crate::specs::Lines::place_line))]
 pub fn place_line(
     header: &Header,
@@ -287,7 +291,7 @@ pub fn place_line(
     }
 }
 
-/// `pull READER SOURCE`, or `pull READER SOURCE SHARD COUNT`, behind its first word.
+/// `pull READER SOURCE`, or `pull READER SOURCE SHARD COUNT`, after its first word.
 #[tactic(auto, unfolding(crate::specs::Lines::pull_line))]
 pub fn pull_line(header: &Header, line: u64, words: &[&[u8]]) -> Result<Act, ScriptError>
     requires { IsWellFormedHeader header.now }
@@ -343,7 +347,8 @@ fn places_with(
     number: &[u8],
 ) -> Result<Act, ScriptError>
     requires { shard < header.now.shards }
-    ensures answer { result ≡ places_with header.now line verb reader.now source.now shard place.now number.now }
+    ensures answer { result ≡ places_with header.now line verb reader.now source.now shard place.now
+        number.now }
     ensures well_formed { IfOk result (IsWellFormedAct header.now) }
 {
     let place = place_of(line, place)?;
@@ -352,7 +357,7 @@ fn places_with(
     Ok(places_act(verb, clusters.one, clusters.two, shard, place, number))
 }
 
-/// A line `WORD READER SOURCE SHARD PLACE NUMBER`, behind its first word.
+/// A line `WORD READER SOURCE SHARD PLACE NUMBER`, after its first word.
 #[tactic(auto, unfolding(crate::specs::Lines::places_line))]
 pub fn places_line(
     header: &Header,
@@ -373,7 +378,7 @@ pub fn places_line(
     }
 }
 
-/// `settle`, behind its first word.
+/// `settle`, after its first word.
 #[tactic(auto, unfolding(crate::specs::Lines::settle_line))]
 pub fn settle_line(line: u64, words: &[&[u8]]) -> Result<Act, ScriptError>
     ensures answer { result ≡ settle_line line (map (λ word. word.now) words.now) }
@@ -418,7 +423,7 @@ fn workflow_act(verb: WorkflowVerb, at: WorkflowAt) -> Act
     }
 }
 
-/// A line `WORD C D W`, behind its first word.
+/// A line `WORD C D W`, after its first word.
 #[tactic(auto, unfolding(crate::specs::Lines::workflow_line))]
 pub fn workflow_line(
     names: &mut Interner,
@@ -427,7 +432,8 @@ pub fn workflow_line(
     verb: WorkflowVerb,
     words: &[&[u8]],
 ) -> Result<Act, ScriptError>
-    ensures answer { Gives Memory (λ act. act) result (workflow_line header.now line verb (map (λ word. word.now) words.now)) }
+    ensures answer { Gives Memory (λ act.
+        act) result (workflow_line header.now line verb (map (λ word. word.now) words.now)) }
     ensures well_formed { IfOk result (IsWellFormedAct header.now) }
 {
     match words {
@@ -439,7 +445,7 @@ pub fn workflow_line(
     }
 }
 
-/// `compare C C D W`, behind its first word.
+/// `compare C C D W`, after its first word.
 #[tactic(auto, unfolding(crate::specs::Lines::compare_line))]
 pub fn compare_line(
     names: &mut Interner,
@@ -447,7 +453,8 @@ pub fn compare_line(
     line: u64,
     words: &[&[u8]],
 ) -> Result<Act, ScriptError>
-    ensures answer { Gives Memory (λ act. act) result (compare_line header.now line (map (λ word. word.now) words.now)) }
+    ensures answer { Gives Memory (λ act.
+        act) result (compare_line header.now line (map (λ word. word.now) words.now)) }
     ensures well_formed { IfOk result (IsWellFormedAct header.now) }
 {
     match words {
@@ -465,7 +472,7 @@ pub fn compare_line(
     }
 }
 
-/// `reset C D W EVENT`, behind its first word.
+/// `reset C D W EVENT`, after its first word.
 #[tactic(auto, unfolding(crate::specs::Lines::reset_line))]
 pub fn reset_line(
     names: &mut Interner,
@@ -473,7 +480,8 @@ pub fn reset_line(
     line: u64,
     words: &[&[u8]],
 ) -> Result<Act, ScriptError>
-    ensures answer { Gives Memory (λ act. act) result (reset_line header.now line (map (λ word. word.now) words.now)) }
+    ensures answer { Gives Memory (λ act.
+        act) result (reset_line header.now line (map (λ word. word.now) words.now)) }
     ensures well_formed { IfOk result (IsWellFormedAct header.now) }
 {
     match words {
@@ -503,7 +511,9 @@ fn beat_with(
     id: &[u8],
     details: &[u8],
 ) -> Result<Act, ScriptError>
-    ensures answer { Gives Memory (λ act. act) result (beat_with header.now line cluster.now domain.now workflow.now id.now details.now) }
+    ensures answer { Gives Memory (λ act.
+        act) result (beat_with header.now line cluster.now domain.now workflow.now id.now
+        details.now) }
     ensures well_formed { IfOk result (IsWellFormedAct header.now) }
 {
     let id = named(names, line, id)?;
@@ -518,7 +528,7 @@ fn beat_with(
     })
 }
 
-/// `beat C D W ID DETAILS`, behind its first word.
+/// `beat C D W ID DETAILS`, after its first word.
 #[tactic(auto, unfolding(crate::specs::Lines::beat_line))]
 pub fn beat_line(
     names: &mut Interner,
@@ -526,7 +536,8 @@ pub fn beat_line(
     line: u64,
     words: &[&[u8]],
 ) -> Result<Act, ScriptError>
-    ensures answer { Gives Memory (λ act. act) result (beat_line header.now line (map (λ word. word.now) words.now)) }
+    ensures answer { Gives Memory (λ act.
+        act) result (beat_line header.now line (map (λ word. word.now) words.now)) }
     ensures well_formed { IfOk result (IsWellFormedAct header.now) }
 {
     match words {
@@ -537,7 +548,7 @@ pub fn beat_line(
     }
 }
 
-/// `progress C D W ID`, behind its first word.
+/// `progress C D W ID`, after its first word.
 #[tactic(auto, unfolding(crate::specs::Lines::progress_line))]
 pub fn progress_line(
     names: &mut Interner,
@@ -545,7 +556,8 @@ pub fn progress_line(
     line: u64,
     words: &[&[u8]],
 ) -> Result<Act, ScriptError>
-    ensures answer { Gives Memory (λ act. act) result (progress_line header.now line (map (λ word. word.now) words.now)) }
+    ensures answer { Gives Memory (λ act.
+        act) result (progress_line header.now line (map (λ word. word.now) words.now)) }
     ensures well_formed { IfOk result (IsWellFormedAct header.now) }
 {
     match words {

@@ -28,7 +28,7 @@ fn script_of(alloc: Global, bytes: &[u8]) -> Result<Script, ScriptError>
 }
 
 /// Reads a script. Refused with the number of the first faulty line, from 1, and its cause; a fault where
-/// the text ends too early stands at the line behind the last.
+/// the text ends too early stands at the line after the last.
 pub fn parse(alloc: Global, bytes: &[u8]) -> Result<Script, ScriptError>
     ensures answer { Gives Memory (λ script. script) result (script_of bytes.now) }
     ensures well_formed { IfOk result IsWellFormed }
@@ -39,12 +39,12 @@ pub fn parse(alloc: Global, bytes: &[u8]) -> Result<Script, ScriptError>
 
 /// Reads lines of a script as they come, under a header that was read: one line, a whole burst from its line `burst` to
 /// its line `end`, or several of these. The first line of the bytes has this number; lines that are skipped count, and
-/// give nothing. Refused as [`parse`] refuses the same lines behind the header, with the number of the first faulty line
-/// and its cause: a burst without its line `end` at the line behind the last of the bytes, and the line 100,001 in any
+/// give nothing. Refused as [`parse`] refuses the same lines after the header, with the number of the first faulty line
+/// and its cause: a burst without its line `end` at the line after the last of the bytes, and the line 100,001 in any
 /// case.
 ///
-/// What `parse` reads of a text is what it reads of a front of it with the header, and these lines of the rest, piece by
-/// piece.
+/// What `parse` reads of a text is what it reads of a prefix of it with the header, and these lines of the rest, piece
+/// by piece.
 pub fn read_lines(
     alloc: Global,
     header: &Header,

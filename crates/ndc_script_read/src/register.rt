@@ -34,7 +34,8 @@ fn clusters_named(
     line: u64,
     words: &[&[u8]],
 ) -> Result<Vec<ClusterNo>, ScriptError>
-    ensures answer { Gives Memory (λ clusters. clusters.items) result (clusters_named header.now line (map (λ word. word.now) words.now)) }
+    ensures answer { Gives Memory (λ clusters.
+        clusters.items) result (clusters_named header.now line (map (λ word. word.now) words.now)) }
     ensures below { IfOk result (λ clusters. All (IsCluster header.now) clusters.items) }
     ensures count { IfOk result (λ clusters. length clusters.items ≡ length words.now) }
 {
@@ -56,7 +57,8 @@ fn clusters_for(
 ) -> Result<Vec<ClusterNo>, ScriptError>
     ensures below { IfOk result (λ clusters. All (IsCluster header.now) clusters.items) }
     ensures some { IfOk result (λ clusters. 0 < length clusters.items) }
-    ensures answer { Gives Memory (λ clusters. clusters.items) result (clusters_for header.now line (map (λ word. word.now) words.now)) }
+    ensures answer { Gives Memory (λ clusters.
+        clusters.items) result (clusters_for header.now line (map (λ word. word.now) words.now)) }
 {
     match words {
         [] => Ok(clusters_below(alloc, header.clusters.count())?),
@@ -72,10 +74,12 @@ fn members_named(
     line: u64,
     words: &[&[u8]],
 ) -> Result<Members, ScriptError>
-    ensures below { IfOk result (λ members. All (λ member. member < count_of header.now.clusters) members) }
+    ensures below { IfOk result (λ members.
+        All (λ member. member < count_of header.now.clusters) members) }
     ensures members { IfOk result AreMembers }
     ensures some { IfOk result (λ members. 0 < length members) }
-    ensures answer { Gives Memory (λ members. members) result (members_named header.now line (map (λ word. word.now) words.now)) }
+    ensures answer { Gives Memory (λ members.
+        members) result (members_named header.now line (map (λ word. word.now) words.now)) }
 {
     let clusters = clusters_for(alloc, header, line, words)?;
     let _count = header.clusters.count();
@@ -97,7 +101,9 @@ fn register_with(
     requires domain { IsName domain }
     requires days { AreDays days }
     ensures well_formed { IfOk result (IsWellFormedAct header.now) }
-    ensures answer { Gives Memory (λ act. act) result (register_with header.now line domain days at.now target.now (map (λ word. word.now) names.now)) }
+    ensures answer { Gives Memory (λ act.
+        act) result (register_with header.now line domain days at.now target.now
+        (map (λ word. word.now) names.now)) }
 {
     let at = known(header, line, at)?;
     let target = known(header, line, target)?;
@@ -111,7 +117,7 @@ fn register_with(
     })
 }
 
-/// `register C D ACTIVE DAYS CLUSTER ..`, behind its first word.
+/// `register C D ACTIVE DAYS CLUSTER ..`, after its first word.
 #[tactic(auto, unfolding(crate::specs::Register::register_line))]
 pub fn register_line(
     names: &mut Interner,
@@ -120,7 +126,8 @@ pub fn register_line(
     words: &[&[u8]],
 ) -> Result<Act, ScriptError>
     ensures well_formed { IfOk result (IsWellFormedAct header.now) }
-    ensures answer { Gives Memory (λ act. act) result (register_line header.now line (map (λ word. word.now) words.now)) }
+    ensures answer { Gives Memory (λ act.
+        act) result (register_line header.now line (map (λ word. word.now) words.now)) }
 {
     match words {
         [at, domain, target, days, clusters @ ..] => {

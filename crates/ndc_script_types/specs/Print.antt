@@ -15,7 +15,7 @@ use Rattle.ndc_script_types.specs.declared.script.Line.{Line}
 use Rattle.ndc_script_types.specs.declared.script.Script.{Script}
 use Rattle.ndc_script_types.specs.Below.{clusters_below}
 
--- words, each behind a space
+-- words, each after a space
 abbrev pub behind_spaces : List (List ℕ) → List ℕ
 behind_spaces [] = []
 behind_spaces (word ∷ words) = 32 ∷ word ++ behind_spaces words
@@ -130,12 +130,12 @@ act_words header (act.Beat cluster domain workflow id details) = codes "beat" �
 act_words header (act.Sync to from) = codes "sync" ∷ name_of header.clusters to ∷ name_of header.clusters from ∷ []
 act_words header (act.ProgressOf cluster domain workflow id) = codes "progress" ∷ name_of header.clusters cluster ∷ domain ∷ workflow ∷ id ∷ []
 
--- the lines behind the first: those of a burst, and its `end`
+-- the lines after the first: those of a burst, and its `end`
 abbrev pub lines_behind : Header → Act → List (List (List ℕ))
 lines_behind header (act.Burst cluster jobs) = map (job_words (name_of header.clusters cluster)) jobs ++ (codes "end" ∷ []) ∷ []
 lines_behind header _ = []
 
--- how many lines behind the first belong to a line: those of a burst
+-- how many lines after the first belong to a line: those of a burst
 abbrev pub lines_within : Act → ℕ
 lines_within (act.Burst cluster jobs) = length jobs + 1
 lines_within _ = 0

@@ -8,7 +8,8 @@ use std::alloc::Global;
 /// The first clusters, as many as this.
 pub fn clusters_below(alloc: Global, count: u32) -> Result<Vec<ClusterNo>, OutOfMemory>
     ensures answer { IfOk result (λ clusters. clusters.items ≡ clusters_below count) }
-    ensures below { IfOk result (λ clusters. All (λ cluster. cluster.number < count) clusters.items) }
+    ensures below { IfOk result (λ clusters.
+        All (λ cluster. cluster.number < count) clusters.items) }
     ensures count { IfOk result (λ clusters. length clusters.items ≡ count) }
 {
     let mut clusters = Vec::new(alloc);

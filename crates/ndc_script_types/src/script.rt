@@ -274,7 +274,7 @@ pub struct Script {
     pub lines: Lines,
 }
 
-/// Why a text is no script.
+/// Why a text is not a script.
 #[derive(Clone, Copy, Debug, PartialEq, Eq, Error)]
 pub enum ScriptCause {
     #[error("the header does not go on so")]

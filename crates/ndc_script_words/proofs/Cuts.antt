@@ -24,7 +24,7 @@ pub text_lines-split : (bytes front back : List ℕ) → (0 < length bytes) → 
 text_lines-split [] front back n f b = absurd (omega arith)
 text_lines-split (x ∷ bytes) front back n f b = rw (f, b) (text_lines-cut x bytes)
 
--- the rest behind the first byte
+-- the rest after the first byte
 pub drop_first : (back : List ℕ) → take (length back - 1) (drop 1 back) ≡ drop 1 back
 drop_first [] = refl
 drop_first (b ∷ bs) = rw (sub-one, take-length bs) refl

@@ -39,7 +39,7 @@ number_read line Unreadable number = refused line BadHeader
 number_read line Readable None = refused line BadHeader
 number_read line Readable (Some number) = Ok number
 
--- what a header line gives: where it stands, its number, and the lines behind it
+-- what a header line gives: where it stands, its number, and the lines after it
 pub record Setting : Type 0 where
   pub line : ℕ
   pub value : ℕ
@@ -82,12 +82,12 @@ abbrev pub before_members : Option (List ℕ × ℕ) → List (List ℕ × ℕ) 
 before_members None members = []
 before_members (Some member) members = member ∷ members
 
--- the members of the well-formed cluster lines at the front
+-- the members of the well-formed cluster lines at the beginning
 abbrev pub members_of : List KeptLine → List (List ℕ × ℕ)
 members_of [] = []
 members_of (line ∷ lines) = before_members (member_of line) (members_of lines)
 
--- the lines behind the well-formed cluster lines at the front
+-- the lines after the well-formed cluster lines at the beginning
 abbrev pub behind_members : List KeptLine → List KeptLine
 behind_members lines = drop (length (members_of lines)) lines
 
@@ -96,7 +96,7 @@ abbrev pub is_cluster_line : List (List ℕ) → Bool
 is_cluster_line [] = false
 is_cluster_line (word ∷ words) = bytes_eq word (codes "cluster")
 
--- the cause at the first line behind the limit line, where it is no well-formed cluster line
+-- the cause at the first line after the limit line, where it is not a well-formed cluster line
 abbrev pub no_member_cause : Reading → Bool → ScriptCause
 no_member_cause PastLimit is_cluster = LineLimit
 no_member_cause Readable is_cluster = if is_cluster then BadHeader else NoClusters
@@ -111,7 +111,7 @@ no_member end (line ∷ lines) = Refused line.number (no_member_cause line.readi
 abbrev pub number_at : ℕ → List KeptLine → ℕ → ℕ
 number_at end lines place = option_map_or (λ line. line.number) (slice_get lines place) end
 
--- where a fault of the clusters stands: at the increment line, behind the limit line, or at a cluster line
+-- where a fault of the clusters stands: at the increment line, after the limit line, or at a cluster line
 abbrev pub clusters_refusal : ℕ → ℕ → List KeptLine → ClustersError → ScriptError
 clusters_refusal end increment lines clusters.IncrementLimit = Refused increment IncrementLimit
 clusters_refusal end increment lines clusters.NoClusters = no_member end lines
@@ -126,7 +126,7 @@ abbrev pub placed : ℕ → ℕ → List KeptLine → Result ClusterList Cluster
 placed end increment lines (Ok clusters) = Ok clusters
 placed end increment lines (Err error) = Err (clusters_refusal end increment lines error)
 
--- the lines behind the cluster lines; a malformed cluster line is none of them
+-- the lines after the cluster lines; a malformed cluster line is none of them
 abbrev pub body_lines : List KeptLine → Result (List KeptLine) ScriptError
 body_lines [] = Ok []
 body_lines (line ∷ lines) = if is_cluster_line line.words then refused line.number BadHeader else Ok (line ∷ lines)

@@ -15,7 +15,7 @@ has_leading_zero (byte ∷ bytes) = (byte == 48) && nat_lt 0 (length bytes)
 abbrev pub is_number : List ℕ → Bool
 is_number word = nat_lt 0 (length word) && nat_le (length word) 18 && list_all is_digit word && not (has_leading_zero word)
 
--- the value of digits that stand behind those of a number
+-- the value of digits that stand after those of a number
 abbrev pub value_on : ℕ → List ℕ → ℕ
 value_on value [] = value
 value_on value (byte ∷ bytes) = value_on (value * 10 + (byte - 48)) bytes

@@ -1,4 +1,4 @@
--- The words behind the first of a line: names, numbers, clusters, shards.
+-- The words after the first of a line: names, numbers, clusters, shards.
 use Rattle.std.specs.Prelude.{ℕ, ◌-◌, Option, None, Some, List, Result, Ok, Err, if◌then◌else◌}
 use Rattle.std.specs.Str.{bytes_eq}
 use Rattle.ndc_event.specs.Outcome.{◌>>=◌}

@@ -4,7 +4,7 @@ use Rattle.std.specs.List.{list_all, onto_first, slice_split, cons_option}
 use Rattle.ndc_script_words.specs.declared.text.Reading.{Reading}
 use Rattle.ndc_script_words.specs.declared.text.Reading.TheVariants.{Readable, Unreadable, PastLimit}
 
--- the lines: cut behind each 0x0a; a last line without it counts, and an empty rest is none
+-- the lines: cut after each 0x0a; a last line without it counts, and an empty rest is none
 abbrev pub text_lines : List ℕ → List (List ℕ)
 text_lines [] = []
 text_lines (byte ∷ bytes) = if byte == 10 then [] ∷ text_lines bytes else onto_first byte (text_lines bytes)
@@ -64,10 +64,10 @@ kept_from number (line ∷ lines) =
 abbrev pub kept_of : List ℕ → List KeptLine
 kept_of bytes = kept_from 1 (text_lines bytes)
 
--- the number of the line behind those of a text whose first line has this number
+-- the number of the line after those of a text whose first line has this number
 abbrev pub line_behind : ℕ → List ℕ → ℕ
 line_behind first bytes = first + length (text_lines bytes)
 
--- the number of the line behind the last
+-- the number of the line after the last
 abbrev pub line_after : List ℕ → ℕ
 line_after bytes = length (text_lines bytes) + 1

@@ -14,7 +14,7 @@ use ndc_script_types::{Header, ScriptCause, ScriptError};
 use std::alloc::{AllocError, Global};
 use std::marker::Model;
 
-/// What a header line gives: where it stands, its number, and the lines behind it.
+/// What a header line gives: where it stands, its number, and the lines after it.
 #[derive(Drop)]
 struct Setting<'a, 'b> {
     line: u64,
@@ -27,7 +27,8 @@ impl<'a, 'b> Model for Setting<'a, 'b> {
 
     ghost Value = { Setting };
 
-    ghost view = { λ setting. record { line = setting.line; value = setting.value; rest = setting.rest.now } };
+    ghost view = { λ setting.
+        record { line = setting.line; value = setting.value; rest = setting.rest.now } };
 }
 
 /// A header and the lines of the body.
@@ -131,7 +132,8 @@ fn setting_of<'a, 'b>(
     end: u64,
     lines: &'b [KeptLine<'a>],
 ) -> Result<Setting<'a, 'b>, ScriptError>
-    ensures answer { Gives Memory (λ setting. setting) result (setting_of key.now low high end lines.entry.now) }
+    ensures answer { Gives Memory (λ setting.
+        setting) result (setting_of key.now low high end lines.entry.now) }
     ensures least { IfOk result (λ setting. low ≤ setting.value) }
     ensures most { IfOk result (λ setting. setting.value ≤ high) }
 {
@@ -186,7 +188,8 @@ fn named_initial(
     name: &[u8],
     initial: &[u8],
 ) -> Result<Option<(Name, u64)>, OutOfMemory>
-    ensures { IfOk result (λ member. member ≡ named_initial (name_of name.now) (number_of initial.now)) }
+    ensures { IfOk result (λ member.
+        member ≡ named_initial (name_of name.now) (number_of initial.now)) }
 {
     match Name::new(alloc, name) {
         Ok(name) => Ok(match number_of(initial) {
@@ -224,7 +227,7 @@ fn member_of(alloc: Global, line: &KeptLine<'_>) -> Result<Option<(Name, u64)>, 
     }
 }
 
-/// The members of the well-formed cluster lines at the front.
+/// The members of the well-formed cluster lines at the beginning.
 fn members_of(alloc: Global, lines: &[KeptLine<'_>]) -> Result<Vec<(Name, u64)>, OutOfMemory>
     ensures { IfOk result (λ members. members.items ≡ members_of lines.now) }
 {
@@ -268,7 +271,7 @@ fn number_at(end: u64, lines: &[KeptLine<'_>], place: usize) -> u64
     }
 }
 
-/// Where a fault of the clusters stands: at the increment line, behind the limit line, or at a cluster line.
+/// Where a fault of the clusters stands: at the increment line, after the limit line, or at a cluster line.
 fn clusters_refusal(
     end: u64,
     increment: u64,
@@ -299,7 +302,7 @@ fn clusters_refusal(
     }
 }
 
-/// The lines behind the cluster lines; a malformed cluster line is none of them.
+/// The lines after the cluster lines; a malformed cluster line is none of them.
 fn body_lines<'a, 'b>(lines: &'b [KeptLine<'a>]) -> Result<&'b [KeptLine<'a>], ScriptError>
     ensures { Gives Memory (λ body. body.now) result (body_lines lines.entry.now) }
 {
@@ -327,7 +330,8 @@ fn clusters_read<'a, 'b>(
     requires limit_least { 10 ≤ limit }
     requires limit_most { limit ≤ 204800 }
     ensures well_formed { IfOk result (λ read. IsWellFormedHeader read.header) }
-    ensures answer { Gives Memory (λ read. read) result (clusters_read end increment.entry shards limit lines.entry.now) }
+    ensures answer { Gives Memory (λ read.
+        read) result (clusters_read end increment.entry shards limit lines.entry.now) }
 {
     let members = members_of(alloc, lines)?;
     let (_, behind) = lines.split_at(members.len());
@@ -346,7 +350,7 @@ fn clusters_read<'a, 'b>(
     })
 }
 
-/// The header that lines begin with. The line behind the last has the number `end`.
+/// The header that lines begin with. The line after the last has the number `end`.
 #[tactic(auto, unfolding(crate::specs::Header::header_of))]
 pub fn header_of<'a, 'b>(
     alloc: Global,

@@ -31,7 +31,7 @@ pub struct WorkflowAt {
     pub workflow: Name,
 }
 
-/// The refusal of a line that is none of the language.
+/// The refusal of a line that is not of the language.
 pub fn bad(line: u64) -> ScriptError
     ensures { result ≡ Refused line BadLine }
 {
@@ -129,7 +129,8 @@ pub fn two_clusters(
     two: &[u8],
 ) -> Result<TwoClusters, ScriptError>
     ensures answer { result ≡ two_clusters header.now line one.now two.now }
-    ensures well_formed { IfOk result (λ clusters. AreTwoClusters header.now clusters.one clusters.two) }
+    ensures well_formed { IfOk result (λ clusters.
+        AreTwoClusters header.now clusters.one clusters.two) }
 {
     if one == two {
         return Err(bad(line));
@@ -147,8 +148,10 @@ pub fn workflow_at(
     domain: &[u8],
     workflow: &[u8],
 ) -> Result<WorkflowAt, ScriptError>
-    ensures answer { Gives Memory (λ at. at) result (workflow_at header.now line cluster.now domain.now workflow.now) }
-    ensures well_formed { IfOk result (λ at. IsWorkflowAt header.now at.cluster at.domain at.workflow) }
+    ensures answer { Gives Memory (λ at.
+        at) result (workflow_at header.now line cluster.now domain.now workflow.now) }
+    ensures well_formed { IfOk result (λ at.
+        IsWorkflowAt header.now at.cluster at.domain at.workflow) }
 {
     let domain = named(names, line, domain)?;
     let workflow = named(names, line, workflow)?;

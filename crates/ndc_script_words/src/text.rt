@@ -19,7 +19,7 @@ pub enum Reading {
     Readable,
     /// It has a byte that no line may have, or a word that is too long.
     Unreadable,
-    /// It stands behind the last line that a script may have.
+    /// It stands after the last line that a script may have.
     PastLimit,
 }
 
@@ -40,7 +40,11 @@ impl<'a> Model for KeptLine<'a> {
 
     ghost Value = { KeptLine };
 
-    ghost view = { λ line. record { number = line.number; reading = line.reading; words = map (λ word. word.now) line.words.items } };
+    ghost view = { λ line. record {
+      number = line.number;
+      reading = line.reading;
+      words = map (λ word. word.now) line.words.items;
+    } };
 }
 
 impl<'a> KeptLine<'a> {
@@ -78,10 +82,11 @@ fn line_len(bytes: &[u8]) -> usize
     }
 }
 
-/// The first line of a text and what stands behind it; nothing where the text is empty.
+/// The first line of a text and what stands after it; nothing where the text is empty.
 fn split_line(bytes: &[u8]) -> Option<(&[u8], &[u8])>
     ensures none { IfNone result (text_lines bytes.now ≡ []) }
-    ensures some { IfSome result (λ parts. text_lines bytes.now ≡ parts.0.now ∷ text_lines parts.1.now) }
+    ensures some { IfSome result (λ parts.
+        text_lines bytes.now ≡ parts.0.now ∷ text_lines parts.1.now) }
     ensures shorter { IfSome result (λ parts. length parts.1.now < length bytes.now) }
 {
     if bytes.is_empty() {
@@ -226,14 +231,14 @@ fn line_count(bytes: &[u8]) -> u64
     count
 }
 
-/// The number of the line behind the last, where the first line has this number.
+/// The number of the line after the last, where the first line has this number.
 pub fn line_behind(first: u64, bytes: &[u8]) -> u64
     ensures { first ≤ 100000 → result ≡ line_behind first bytes.now }
 {
     first.saturating_add(line_count(bytes))
 }
 
-/// The number of the line behind the last.
+/// The number of the line after the last.
 pub fn line_after(bytes: &[u8]) -> u64
     ensures { result ≡ line_after bytes.now }
 {

@@ -1,4 +1,4 @@
-// The words that begin lines and actions, by what stands behind them.
+// The words that begin lines and actions, by what stands after them.
 ghost use Rattle.std.specs.Prelude.{◌≡◌};
 ghost use Rattle.ndc_script_words.specs.Verbs.{verb_to_b, verb_c, verb_d, verb_to_h, verb_to_m, verb_to_q, verb_r, verb_s, verb_from_t, verb_of, closing_verb, action_verb};
 
@@ -135,7 +135,7 @@ pub enum WorkflowVerb {
     Dump,
 }
 
-/// Lines, by the words that they need behind the first.
+/// Lines, by the words that they need after the first.
 #[derive(Clone, Copy)]
 pub enum Verb {
     Command(CommandVerb),

@@ -42,7 +42,7 @@ ids-up-to id version most (kind ∷ kinds) l = (omega (arith, l), ids-up-to (id 
 all-ids : (id version most : ℕ) (kinds : List EventKind) → id + length kinds ≤ most + 1 → All (λ (event : Event). event.id ≤ most) (events_from id version kinds)
 all-ids id version most kinds l = All-from_recursion _ (events_from id version kinds) (ids-up-to id version most kinds l)
 
--- the last id that a command which begins no run writes behind
+-- the last id after which a command that begins no run writes
 last-behind : (s : StateValue) (command : Command) → begins_run command ≡ false → last_id (Some s) command ≡ s.next - 1
 last-behind s (Start _) e = absurd (cc)
 last-behind s _ e = refl

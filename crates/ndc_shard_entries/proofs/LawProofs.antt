@@ -1,4 +1,4 @@
--- What is written comes behind all that is learned.
+-- What is written comes after all that is learned.
 use Rattle.std.proofs.Common.{◌≡◌, ◌≤◌, ◌<◌, ◌+◌, ◌++◌, ◌⊎◌, ℕ, Bool, true, false, not, List, [], ◌∷◌, inl, inr, Option, Some, None, Result, Ok, Err, IfOk, IfSome, if◌then◌else◌, refl, sym, ◌∙◌, subst, ap, arith, max, ◌^◌}
 use Rattle.std.specs.Prelude.{nat_lt, option_to_list}
 use Rattle.std.specs.List.{AllByRecursion}
@@ -41,7 +41,7 @@ use Rattle.ndc_model_cells.specs.Messages.{IsCarriedBy, IsMessage, IsNewTo}
 use Rattle.ndc_shard_entries.specs.Written.{AreWrittenTo, IsSecond, IsWrittenTo}
 use Rattle.ndc_shard_entries.proofs.NewRunLemmas.{no-part}
 
--- the version with which a cluster may write is not behind
+-- the version with which a cluster may write is below no learned one
 pub writes_ahead : (home : Desk) (one : Option DomainRecord) (batches : List Batch) → IfOk (may_write_by home one batches) (λ version. greatest_version batches ≤ version)
 writes_ahead home None batches = tt
 writes_ahead home (Some one) batches = by (is_writer home.me (writer_of home.clusters one.version)) (nat_lt one.version (greatest_version batches)) refl
@@ -72,7 +72,7 @@ next-above batches version top b has = before-from b.key (next_key version batch
     by (inl e) = inr (e, omega (arith, tasks))
     by (inr l) = inl l
 
--- a key comes before the one behind it
+-- a key comes before the one after it
 behind-later : (key : BatchKey) → key_lt key (key_behind key) ≡ true
 behind-later key = before-from key (key_behind key) (inr (refl, omega arith))
 
@@ -212,7 +212,7 @@ module _ (batches : List Batch) (domain workflow : Name) (entry : Entry) (sent :
         tt,
       )
 
--- the batch that is carried, behind the one that carries it
+-- the batch that is carried, after the one that carries it
 module _ (batches : List Batch) (domain workflow : Name) (entry : Entry) (second : Batch) (sound : IsSound batches) (is : IsWrittenTo batches domain workflow entry) (two : entry.second ≡ Some second) where
   carried : IsSecond domain workflow entry.batch second
   carried = subst (λ (o : Option Batch). IfSome o (IsSecond domain workflow entry.batch)) two is.second

@@ -1,4 +1,4 @@
--- What is written to a workflow comes behind all that is learned of it.
+-- What is written to a workflow comes after all that is learned of it.
 use Rattle.std.specs.Prelude.{◌≡◌, ◌≤◌, ◌+◌, ℕ, true, All, List, [], ◌∷◌, IfSome}
 use Rattle.std.specs.List.{AllByRecursion}
 use Rattle.ndc_model_cells.specs.Laws.{arrived_second}
@@ -20,7 +20,7 @@ pub record IsSecond (domain workflow : Name) (b second : Batch) : Type 0 where
   pub carried : IsCarriedBy b second
   pub run : second.run ≡ run_of second.key
 
--- an entry of a workflow behind all that is learned of it: its batch comes after each learned one with the next task at most, and points back
+-- an entry of a workflow after all that is learned of it: its batch comes after each learned one with the next task at most, and points back
 pub record IsWrittenTo (batches : List Batch) (domain workflow : Name) (entry : Entry) : Type 0 where
   pub of : IsOf domain workflow entry.batch
   pub above : (b : Batch) → Has batches b → key_lt b.key entry.batch.key ≡ true
@@ -32,7 +32,7 @@ pub record IsWrittenTo (batches : List Batch) (domain workflow : Name) (entry : 
 abbrev pub HasIdsUpTo : ℕ → Entry → Type 0
 HasIdsUpTo most entry = AllByRecursion (λ b. All (λ event. event.id ≤ most) b.events) (batches_in entry)
 
--- entries that are written in order, each behind all that is learned with those before it
+-- entries that are written in order, each after all that is learned with those before it
 abbrev pub AreWrittenTo : List Batch → Name → Name → List Entry → Type 0
 AreWrittenTo batches domain workflow [] = Unit {0}
 AreWrittenTo batches domain workflow (entry ∷ entries) =

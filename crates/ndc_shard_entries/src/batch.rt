@@ -8,7 +8,7 @@ use crate::tip::Tip;
 use ndc_event::{Batch, BatchKey, EventKind, Events, Name, OutOfMemory, RunId};
 use std::alloc::Global;
 
-/// The key behind another.
+/// The key after another.
 pub(crate) fn key_behind(key: BatchKey) -> BatchKey
     requires { key.task ≤ 2 ^ 60 }
     ensures { result ≡ key_behind key }
@@ -28,7 +28,8 @@ pub(crate) fn first_batch(
     carrier: Option<BatchKey>,
     kinds: Vec<EventKind>,
 ) -> Result<Batch, OutOfMemory>
-    ensures { IfOk result (λ batch. batch ≡ first_batch domain.now workflow.now key carrier kinds.items) }
+    ensures { IfOk result (λ batch.
+        batch ≡ first_batch domain.now workflow.now key carrier kinds.items) }
 {
     let events = events_from(alloc, 1, key.version, kinds)?;
     Ok(Batch {
@@ -52,7 +53,9 @@ pub(crate) fn batch_below(
     kinds: Vec<EventKind>,
 ) -> Result<Batch, OutOfMemory>
     requires { tip.now.state.now.next + length kinds.items ≤ 2 ^ 64 }
-    ensures { IfOk result (λ batch. batch ≡ batch_below domain.now workflow.now key tip.now.batch.now tip.now.state.now kinds.items) }
+    ensures { IfOk result (λ batch.
+        batch ≡ batch_below domain.now workflow.now key tip.now.batch.now tip.now.state.now
+        kinds.items) }
 {
     let events = events_from(alloc, tip.state.next(), key.version, kinds)?;
     Ok(Batch {
@@ -75,7 +78,8 @@ pub(crate) fn carried_by(
     kinds: &[EventKind],
 ) -> Result<Option<Batch>, OutOfMemory>
     requires { key.task ≤ 2 ^ 60 }
-    ensures { IfOk result (λ second. second ≡ carried_by domain.now workflow.now key (goes_on_as kinds.now)) }
+    ensures { IfOk result (λ second.
+        second ≡ carried_by domain.now workflow.now key (goes_on_as kinds.now)) }
 {
     match goes_on_as(kinds) {
         None => Ok(None),

@@ -17,43 +17,62 @@ ghost use Rattle.ndc_model_cells.specs.Messages.{IsMessage, IsNewTo};
 
 /// The version with which a cluster may write is not below any that it has learned.
 pub fn a_writer_is_not_behind()
-    ensures { (home : Desk) (one : Option RecordValue) (batches : List Batch) → IfOk (may_write_by home one batches) (λ version. greatest_version batches ≤ version) }
+    ensures { (home : Desk) (one : Option RecordValue) (batches : List Batch)
+        → IfOk (may_write_by home one batches) (λ version. greatest_version batches ≤ version) }
 {}
 
 /// With a version that is not below any learned one, what a command, a reset or a reapplication writes is of its
-/// workflow and comes behind all that is learned, each entry also behind those that are written before it.
+/// workflow and comes after all that is learned, each entry also after those that are written before it.
 pub fn what_is_written_comes_behind_all_that_is_learned()
-    ensures commands { (batches : List Batch) (version limit : ℕ) (domain workflow : NameValue) (command : Asked) → IsSound batches → greatest_version batches ≤ version
-        → IfOk (command_entries domain workflow command limit version batches) (AreWrittenTo batches domain workflow) }
-    ensures resets { (batches : List Batch) (version limit event : ℕ) (domain workflow : NameValue) → IsSound batches → greatest_version batches ≤ version
-        → IfOk (reset_below domain workflow event limit version (workflow_tip batches) batches) (AreWrittenTo batches domain workflow) }
-    ensures reapplications { (batches : List Batch) (version : ℕ) (domain workflow : NameValue) → IsSound batches → greatest_version batches ≤ version
-        → AreWrittenTo batches domain workflow (reapplication_below domain workflow version (workflow_tip batches) batches (strays batches)) }
+    ensures commands { (batches : List Batch) (version limit : ℕ) (domain workflow : NameValue)
+        (command : Asked) → IsSound batches → greatest_version batches ≤ version
+        → IfOk (command_entries domain workflow command limit version batches) (AreWrittenTo batches
+        domain workflow) }
+    ensures resets { (batches : List Batch) (version limit event : ℕ) (domain workflow : NameValue)
+        → IsSound batches → greatest_version batches ≤ version
+        → IfOk (reset_below domain workflow event limit version
+        (workflow_tip batches) batches) (AreWrittenTo batches domain workflow) }
+    ensures reapplications { (batches : List Batch) (version : ℕ) (domain workflow : NameValue)
+        → IsSound batches → greatest_version batches ≤ version
+        → AreWrittenTo batches domain workflow (reapplication_below domain workflow version
+        (workflow_tip batches) batches (strays batches)) }
 {}
 
 /// No event that a command or a reset writes has an id above the limit of histories, which is at least 2; what a
 /// reapplication writes goes on from the last event of the current branch of the current run.
 pub fn what_is_written_keeps_ids_small()
-    ensures commands { (batches : List Batch) (version limit : ℕ) (domain workflow : NameValue) (command : Asked) → 2 ≤ limit
-        → IfOk (command_entries domain workflow command limit version batches) (AllByRecursion (HasIdsUpTo limit)) }
+    ensures commands { (batches : List Batch) (version limit : ℕ) (domain workflow : NameValue)
+        (command : Asked) → 2 ≤ limit
+        → IfOk (command_entries domain workflow command limit version batches) (AllByRecursion
+        (HasIdsUpTo limit)) }
     ensures resets { (batches : List Batch) (version limit event : ℕ) (domain workflow : NameValue)
-        → IfOk (reset_below domain workflow event limit version (workflow_tip batches) batches) (AllByRecursion (HasIdsUpTo limit)) }
-    ensures reapplications { (batches : List Batch) (version most : ℕ) (domain workflow : NameValue) → IfSome (state_under (workflow_tip batches) batches) (λ s. s.next + length (strays batches) + 2 ≤ most)
-        → AllByRecursion (HasIdsUpTo most) (reapplication_below domain workflow version (workflow_tip batches) batches (strays batches)) }
+        → IfOk (reset_below domain workflow event limit version
+        (workflow_tip batches) batches) (AllByRecursion (HasIdsUpTo limit)) }
+    ensures reapplications { (batches : List Batch) (version most : ℕ) (domain workflow : NameValue)
+        → IfSome (state_under (workflow_tip batches) batches) (λ s.
+        s.next + length (strays batches) + 2 ≤ most)
+        → AllByRecursion (HasIdsUpTo most) (reapplication_below domain workflow version
+        (workflow_tip batches) batches (strays batches)) }
 {}
 
-/// What is sent of an entry that comes behind all that is learned is a message as cells write them, and is new.
+/// What is sent of an entry that comes after all that is learned is a message as cells write them, and is new.
 pub fn what_is_written_is_a_new_message()
-    ensures message { (batches : List Batch) (domain workflow : NameValue) (entry : Entry) (sent : Message) → IsWrittenTo batches domain workflow entry
+    ensures message { (batches : List Batch) (domain workflow : NameValue) (entry : Entry)
+        (sent : Message) → IsWrittenTo batches domain workflow entry
         → sent.batch ≡ entry.batch → sent.second ≡ entry.second → IsMessage sent }
-    ensures fresh { (batches : List Batch) (domain workflow : NameValue) (entry : Entry) (sent : Message) → IsWrittenTo batches domain workflow entry
+    ensures fresh { (batches : List Batch) (domain workflow : NameValue) (entry : Entry)
+        (sent : Message) → IsWrittenTo batches domain workflow entry
         → sent.batch ≡ entry.batch → sent.second ≡ entry.second → IsNewTo batches sent }
 {}
 
-/// The batch that is carried is new also behind the one that carries it, and begins a run of which no batch is learned.
+/// The batch that is carried is new also after the one that carries it, and begins a run of which no batch is learned.
 pub fn a_carried_batch_begins_a_new_run()
-    ensures fresh { (batches : List Batch) (domain workflow : NameValue) (entry : Entry) (second : Batch) → IsSound batches → IsWrittenTo batches domain workflow entry
+    ensures fresh { (batches : List Batch) (domain workflow : NameValue) (entry : Entry)
+        (second : Batch) → IsSound batches → IsWrittenTo batches domain workflow entry
         → entry.second ≡ Some second → batch_at second.key (arrived entry.batch batches) ≡ None }
-    ensures begins { (batches : List Batch) (domain workflow : NameValue) (entry : Entry) (second : Batch) → IsSound batches → IsSound (arrived entry.batch batches) → greatest_task batches ≤ 10 ^ 12
-        → IsWrittenTo batches domain workflow entry → entry.second ≡ Some second → part_of second.run (arrived entry.batch batches) ≡ [] }
+    ensures begins { (batches : List Batch) (domain workflow : NameValue) (entry : Entry)
+        (second : Batch) → IsSound batches → IsSound (arrived entry.batch batches)
+        → greatest_task batches ≤ 10 ^ 12
+        → IsWrittenTo batches domain workflow entry → entry.second ≡ Some second
+        → part_of second.run (arrived entry.batch batches) ≡ [] }
 {}

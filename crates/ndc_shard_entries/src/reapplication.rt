@@ -26,7 +26,9 @@ pub fn reapplication_entry(
     requires strays { list.now ≡ strays runs.now }
     requires tasks { greatest_task runs.now ≤ 10 ^ 12 }
     requires ids { IfSome (state_under (workflow_tip runs.now) runs.now) (λ s. s.next ≤ 10 ^ 12) }
-    ensures { IfOk result (λ entry. option_to_list entry ≡ reapplication_below domain.now workflow.now version (workflow_tip runs.now) runs.now (strays runs.now)) }
+    ensures { IfOk result (λ entry.
+        option_to_list entry ≡ reapplication_below domain.now workflow.now version
+        (workflow_tip runs.now) runs.now (strays runs.now)) }
 {
     if list.is_empty() {
         return Ok(None);

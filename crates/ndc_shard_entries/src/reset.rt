@@ -35,7 +35,9 @@ pub fn reset_entries(
     runs: &Runs,
 ) -> Result<Vec<Entry>, CommandError>
     requires { greatest_task runs.now ≤ 10 ^ 12 }
-    ensures { Gives Memory (λ entries. entries.items) result (reset_below domain.now workflow.now event limit version (workflow_tip runs.now) runs.now) }
+    ensures { Gives Memory (λ entries.
+        entries.items) result (reset_below domain.now workflow.now event limit version
+        (workflow_tip runs.now) runs.now) }
 {
     let Some(tip) = tip_of(runs) else {
         return Err(CommandError::Refused(Refusal::NoWorkflow));
@@ -78,7 +80,9 @@ fn closing_entry(
     key: BatchKey,
     tip: &Tip<'_>,
 ) -> Result<Option<Entry>, CommandError>
-    ensures { Gives Memory (λ entry. option_to_list entry) result (if is_close_full limit tip.now.state.now key.version then Err (Refused HistoryFull) else Ok (closing_entries domain.now workflow.now key tip.now.batch.now tip.now.state.now)) }
+    ensures { Gives Memory (λ entry. option_to_list entry) result
+        (if is_close_full limit tip.now.state.now key.version then Err (Refused HistoryFull) else Ok
+        (closing_entries domain.now workflow.now key tip.now.batch.now tip.now.state.now)) }
 {
     if !tip.state.is_running() {
         return Ok(None);
@@ -114,7 +118,7 @@ fn reset_reason(alloc: Global) -> Result<Name, OutOfMemory>
     }
 }
 
-/// Whether so many events behind one with this id are above the limit.
+/// Whether so many events after one with this id are above the limit.
 fn is_above(limit: u64, last: u64, count: usize) -> bool
     ensures { result ≡ nat_lt limit (last + count) }
 {
@@ -124,7 +128,7 @@ fn is_above(limit: u64, last: u64, count: usize) -> bool
     }
 }
 
-/// The key of the new run's first batch: behind the closing one, where there is one.
+/// The key of the new run's first batch: after the closing one, where there is one.
 fn reset_key(key: BatchKey, state: &State) -> BatchKey
     requires { key.task ≤ 2 ^ 60 }
     ensures { result ≡ reset_key key state.now }
@@ -136,9 +140,10 @@ fn reset_key(key: BatchKey, state: &State) -> BatchKey
     }
 }
 
-/// The entry that there may be, and the other one behind it.
+/// The entry that there may be, and the other one after it.
 fn both(alloc: Global, first: Option<Entry>, second: Entry) -> Result<Vec<Entry>, OutOfMemory>
-    ensures { IfOk result (λ entries. entries.items ≡ option_to_list first ++ option_to_list (Some second)) }
+    ensures { IfOk result (λ entries.
+        entries.items ≡ option_to_list first ++ option_to_list (Some second)) }
 {
     let mut entries = Vec::with_capacity(alloc, 2)?;
     if let Some(first) = first {
@@ -160,7 +165,8 @@ fn history_to(alloc: Global, runs: &Runs, key: BatchKey) -> Result<Vec<&Event>, 
 
 /// The events of the batches, in order.
 fn events_of<'b>(alloc: Global, batches: &[&'b Batch]) -> Result<Vec<&'b Event>, OutOfMemory>
-    ensures { IfOk result (λ events. map (λ e. e.now) events.items ≡ history_of (map (λ b. b.now) batches.now)) }
+    ensures { IfOk result (λ events.
+        map (λ e. e.now) events.items ≡ history_of (map (λ b. b.now) batches.now)) }
 {
     let mut events = Vec::new(alloc);
     for batch in batches {

@@ -23,7 +23,9 @@ impl<'a> Drop for Tip<'a> {
 
 /// The tip of what is learned, where there is one.
 pub(crate) fn tip_of(runs: &Runs) -> Option<Tip<'_>>
-    ensures { MatchOption result (workflow_tip runs.now ≡ None) (λ tip. (workflow_tip runs.now ≡ Some tip.batch.now) × (state_to tip.batch.now.run tip.batch.now.key runs.now ≡ tip.state.now)) }
+    ensures { MatchOption result (workflow_tip runs.now ≡ None) (λ tip.
+        (workflow_tip runs.now ≡ Some tip.batch.now)
+        × (state_to tip.batch.now.run tip.batch.now.key runs.now ≡ tip.state.now)) }
 {
     let batch = runs.tip()?;
     let state = runs.state()?;

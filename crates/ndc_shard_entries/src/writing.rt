@@ -25,7 +25,13 @@ pub fn writes_to(
     me: ClusterNo,
     domain: Option<&DomainRecord>,
 ) -> Result<u64, Refusal>
-    ensures { (limit : ℕ) (table : List RecordValue) → result ≡ writes_to (record { clusters = clusters.now; me = me; limit = limit; table = table }) (option_copied domain.entry) }
+    ensures { (limit : ℕ) (table : List RecordValue)
+        → result ≡ writes_to (record {
+          clusters = clusters.now;
+          me = me;
+          limit = limit;
+          table = table;
+        }) (option_copied domain.entry) }
 {
     let Some(domain) = domain else {
         return Err(Refusal::UnknownDomain);
@@ -84,7 +90,9 @@ pub fn command_entry(
     runs: &Runs,
 ) -> Result<Entry, CommandError>
     requires { greatest_task runs.now ≤ 10 ^ 12 }
-    ensures { Gives Memory (λ entry. entry ∷ []) result (command_entries domain.now workflow.now command.now limit version runs.now) }
+    ensures { Gives Memory (λ entry.
+        entry ∷ []) result (command_entries domain.now workflow.now command.now limit version
+        runs.now) }
 {
     let key = next_key(version, runs);
     let next_run = RunId::of(key_behind(key));
@@ -117,8 +125,11 @@ fn entry_below(
     kinds: Vec<EventKind>,
 ) -> Result<Entry, OutOfMemory>
     requires task { key.task ≤ 2 ^ 60 }
-    requires ids { IfSome (state_under (workflow_tip runs.now) runs.now) (λ s. s.next + length kinds.items ≤ 2 ^ 64) }
-    ensures { IfOk result (λ entry. entry ≡ entry_below domain.now workflow.now key (workflow_tip runs.now) runs.now kinds.items) }
+    requires ids { IfSome (state_under (workflow_tip runs.now) runs.now) (λ s.
+        s.next + length kinds.items ≤ 2 ^ 64) }
+    ensures { IfOk result (λ entry.
+        entry ≡ entry_below domain.now workflow.now key
+        (workflow_tip runs.now) runs.now kinds.items) }
 {
     match tip_of(runs) {
         None => {

@@ -1,4 +1,4 @@
--- What is tested of a batch of which nobody vouches, and of the one that goes right after it, decides whether what is learned then is sound.
+-- What is tested of a batch that nobody vouches for, and of the one that goes right after it, decides whether what is learned then is sound.
 use Rattle.std.proofs.Common.{◌≡◌, ◌+◌, ◌<◌, ◌^◌, ◌==◌, ◌⊎◌, ℕ, Bool, true, false, not, ◌||◌, ◌&&◌, is_some, IfSome, List, [], ◌∷◌, inl, inr, Option, Some, None, Result, Ok, Err, IsOk, if◌then◌else◌, refl, sym, ◌∙◌, subst, ap, arith}
 use Rattle.std.specs.List.{AllByRecursion}
 use Rattle.std.proofs.lemmas.Bool.{and_from, and_parts, eqb-true}

@@ -21,7 +21,7 @@ none-arrived (b ∷ batches) others key none =
     let q = none-arrived batches others key p.1 in
     (ap (λ t. cond t (Some b) (batch_at key batches)) p.0 ∙ q.0, q.1)
 
--- a batch that arrives before others, arrives behind them as well
+-- a batch that arrives before others, arrives after them as well
 arrived-behind : (b : Batch) (batches others : List Batch) → batch_at b.key batches ≡ None → all_arrived batches (arrived b others) ≡ arrived b (all_arrived batches others)
 arrived-behind b [] others none = refl
 arrived-behind b (x ∷ xs) others none =

@@ -86,7 +86,7 @@ arrived-swap a b batches apart = by (compared a.key b.key)
     by (same e) = absurd (true≢false (sym (subst (λ (k : BatchKey). key_eq a.key k ≡ true) e (key_eq-self a.key)) ∙ apart))
     by (more l) = sym (arrived-rising b a batches l)
 
--- a key that is not there is not that of the first, nor there behind it
+-- a key that is not there is not that of the first, nor there after it
 pub none-parts : (c : Batch) (cs : List Batch) (key : BatchKey) → batch_at key (c ∷ cs) ≡ None → (key_eq c.key key ≡ false) × (batch_at key cs ≡ None)
 none-parts c cs key none = by (key_eq c.key key) refl none
   where
@@ -115,7 +115,7 @@ none-before b (x ∷ xs) key none = by (compared b.key x.key) (λ h. none-before
         let r = rest p.1 in
         with-first (r.1, r.0) p.0
 
--- what comes before all of the batches goes in front
+-- what comes before all of the batches goes first
 in-front : (b : Batch) (batches : List Batch) → ComeAfter b.key batches → arrived b batches ≡ b ∷ batches
 in-front b [] after = refl
 in-front b (x ∷ xs) after = arrived-less b x xs after.0

@@ -47,7 +47,7 @@ use Rattle.ndc_shard_runs.proofs.ReadLemmas.{tip-is-last, last-has, last-current
 use Rattle.ndc_shard_runs.proofs.StrayLemmas.{part-current, current-origins, settles}
 use Rattle.ndc_shard_runs.proofs.UnlistedLemmas.{among-both, fewer-strays, settled-behind}
 
--- what comes behind all goes last
+-- what comes after all goes last
 arrived-last : (b : Batch) (batches : List Batch) → ((x : Batch) → Among x batches → key_lt x.key b.key ≡ true) → arrived b batches ≡ batches ++ b ∷ []
 arrived-last b [] above = refl
 arrived-last b (x ∷ xs) above = arrived-more b x xs (above x (inl refl)) ∙ ap (λ l. x ∷ l) (arrived-last b xs (λ y h. above y (inr h)))
@@ -344,7 +344,7 @@ above-all batches b sound after none (begins p alone idle) x has = by (last_batc
 pub follows-last : (batches : List Batch) (b : Batch) → IsSound batches → IsSound (arrived b batches) → batch_at b.key batches ≡ None → Follows batches b → last_batch (arrived b batches) ≡ Some b
 follows-last batches b sound after none f = last-is batches b sound after none (above-all batches b sound after none f)
 
--- behind a batch that follows all that is learned, the strays are those whose origins it does not settle
+-- after a batch that follows all that is learned, the strays are those whose origins it does not settle
 pub strays-behind : (batches : List Batch) (b : Batch) → IsSound batches → IsSound (arrived b batches) → batch_at b.key batches ≡ None → Follows batches b
     → strays (arrived b batches) ≡ filter (is_unlisted (origins_in b.run b.events)) (strays batches)
 strays-behind batches b sound after none (below tip e p) = follows-below batches b sound after none (above-all batches b sound after none (below tip e p)) tip e p
@@ -389,7 +389,7 @@ pub known-with : (batches : List Batch) (b : Batch) (kept : Option (List Stray))
     → t ≡ follows batches b → AreKnown batches kept → AreKnown (arrived b batches) (after_batch b t kept)
 known-with batches b kept t sound after none e known = known-when batches b kept t sound after none (λ h. follows-is batches b (sym e ∙ h)) known
 
--- a batch that begins a run behind one that followed all others and left its run closed, follows all others
+-- a batch that begins a run after one that followed all others and left its run closed, follows all others
 pub follows-both : (batches : List Batch) (b second : Batch) → IsSound batches → IsSound (arrived b batches) → batch_at b.key batches ≡ None → Follows batches b
     → second.parent ≡ None → part_of second.run (arrived b batches) ≡ [] → key_lt b.key second.key ≡ true
     → (current_state b.run (arrived b batches)).running ≡ false → Follows (arrived b batches) second

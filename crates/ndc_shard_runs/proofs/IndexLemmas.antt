@@ -170,7 +170,7 @@ all-placed front (b ∷ batches) before rise =
     each [] all after = tt
     each (c ∷ l) all after = (all-join (λ (x : Batch). key_lt x.key c.key ≡ true) front (b ∷ []) all.0 (after.0, tt), each l all.1 after.1)
 
--- nothing stands in front of the first
+-- nothing stands before the first
 pub before-all : (batches : List Batch) → AllByRecursion (λ (b : Batch). AllByRecursion (λ (x : Batch). key_lt x.key b.key ≡ true) []) batches
 before-all [] = tt
 before-all (b ∷ batches) = (tt, before-all batches)

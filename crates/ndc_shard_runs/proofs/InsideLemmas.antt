@@ -205,7 +205,7 @@ module _ (r : Inside) (inside : IsRunsInside r) (b second : Batch) (none : batch
           ∙ ap (λ (l : List Batch). (current_state b.run l).running) (sym parts-both ∙ ap batches_of e)
           ∙ ap (λ (i : RunId). (current_state i v.batches).running) (sym (found-run b.run (with_batch b (with_batch second r.runs)) v e)) ∙ g
 
-  -- what is known of the strays behind both
+  -- what is known of the strays after both
   pub known-both : (s t u : Bool) (mid last : Option (List Stray)) → IsSound (arrived b (all_of r.runs)) → IsSound (arrived second (arrived b (all_of r.runs))) → second.parent ≡ None
       → s ≡ lies_beside (all_of r.runs) b → t ≡ follows (all_of r.runs) b
       → u ≡ (t && (key_lt b.key second.key && not (is_open (option_map (λ v. current_state v.run v.batches) (run_at b.run (with_batch b (with_batch second r.runs)))))))

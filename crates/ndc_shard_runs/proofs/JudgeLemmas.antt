@@ -64,7 +64,7 @@ pub both-fine : (one two : Result Learned RunError) → IsOk one → IsOk two �
 both-fine (Ok begun) two ok fine = fine
 both-fine (Err e) two ok fine = absurd (cc)
 
--- where the run takes the first, what the tree says of it is no refusal
+-- where the run takes the first, what the tree says of it is not a refusal
 pub placed-fine : (part : List Batch) (b second : Batch) → IsOk (learned b.run part b) → IsOk (both_joined part b second) → IsOk (both_learned part b second)
 placed-fine part b second taken both = by (inserted b.run part b) taken
   where

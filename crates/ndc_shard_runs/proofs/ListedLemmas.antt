@@ -36,7 +36,7 @@ first-one x y xs ys a b (inr h) (inl e) = sym e
 first-one x y xs ys a b (inr h) (inr k) =
     absurd (omega (arith, all-among (λ (z : RunId). y.value < z.value) ys x b.0 h, all-among (λ (z : RunId). x.value < z.value) xs y a.0 k))
 
--- what stands behind it
+-- what stands after it
 others-one : (x y : RunId) (xs ys : List RunId) → Climb (x ∷ xs) → x ≡ y → ((z : RunId) → Among z (x ∷ xs) → Among z (y ∷ ys)) → (z : RunId) → Among z xs → Among z ys
 others-one x y xs ys a same to z h = by (to z (inr h))
   where

@@ -161,7 +161,7 @@ named-with batches b sound after none ok named all x has = by (was_or_new b batc
     by (inl same) = subst (λ (y : Batch). AllByRecursion (λ copy. NamesOriginal (arrived b batches) copy.kind) y.events) (sym same) (all-from (λ (copy : Event). NamesOriginal (arrived b batches) copy.kind) b.events own)
     by (inr old) = all-from (λ (copy : Event). NamesOriginal (arrived b batches) copy.kind) x.events (more x old)
 
--- the same of two batches, of which the second is learned behind the first
+-- the same of two batches, of which the second is learned after the first
 pub named-both : (batches : List Batch) (b second : Batch) → IsSound batches → IsSound (arrived b batches) → IsSound (arrived second (arrived b batches)) → batch_at b.key batches ≡ None → batch_at second.key (arrived b batches) ≡ None
     → fault_of b ≡ None → fault_of second ≡ None → CopiesNamed batches → are_named_copies batches b ≡ true → are_named_copies batches second ≡ true → CopiesNamed (arrived second (arrived b batches))
 named-both batches b second sound after both none fresh ok ok2 named first then =

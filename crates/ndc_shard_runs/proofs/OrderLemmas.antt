@@ -16,7 +16,7 @@ module _ {X : Type 0} where
   all-read P (x ∷ xs) zero old at all = let is : x ≡ old = cc in subst P is all.0
   all-read P (x ∷ xs) (suc place) old at all = all-read P xs place old at all.1
 
-  -- a list in order stays so where one item takes the place of another that comes before and behind the same
+  -- a list in order stays so where one item takes the place of another that comes before and after the same
   pub order-set : (before : X → X → Type 0) (xs : List X) (place : ℕ) (old new : X) → slice_get xs place ≡ Some old → ((y : X) → before old y → before new y) → ((y : X) → before y old → before y new)
       → InOrder before xs → InOrder before (set xs place new)
   order-set before [] place old new at behind front order = order

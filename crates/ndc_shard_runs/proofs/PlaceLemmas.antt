@@ -93,7 +93,7 @@ with-arrived b (x ∷ xs) none = by (key_lt b.key x.key) (key_eq b.key x.key) re
     by false true f g parts rest = let h : key_eq x.key b.key ≡ true = flip g in let n : key_eq x.key b.key ≡ false = parts.0 in absurd (cc)
     by false false f g parts rest = rw (f, g) (ap (λ l. (x.key, x.run) ∷ l) (rest parts.1))
 
--- a batch whose key comes behind all others goes to the end
+-- a batch whose key comes after all others goes to the end
 pub placed-behind : (b : Batch) (front : List Batch) → AllByRecursion (λ (x : Batch). key_lt x.key b.key ≡ true) front → with_place b.key b.run (places_of front) ≡ places_of (front ++ b ∷ [])
 placed-behind b [] before = refl
 placed-behind b (x ∷ front) before = rw (not-less b.key x.key before.0, not-same b.key x.key before.0) (ap (λ l. (x.key, x.run) ∷ l) (placed-behind b front before.1))

@@ -88,7 +88,7 @@ module _ (batches : List Batch) (b : Batch) (sound : IsSound batches) (after : I
               let fit = after.parents b c key there e at in
               (c, has-found batches key c (found-key (arrived b batches) key c at) has, fit.run, fit.ids)
 
-  -- a batch of its version in its run comes before the key behind the parent
+  -- a batch of its version in its run comes before the key after the parent
   module _ (x : Batch) (has : Has batches x) (own : x.run ≡ b.run) (version : x.key.version ≡ b.key.version) where
     in-both : Has (arrived b batches) x
     in-both = stays b batches sound.set.ordered x has
@@ -195,7 +195,7 @@ task-up-to [] x h = absurd h
 task-up-to (y ∷ batches) x (inl same) = subst (λ (z : Batch). z.key.task ≤ max y.key.task (greatest_task batches)) (sym same) (omega arith)
 task-up-to (y ∷ batches) x (inr h) = omega (arith, task-up-to batches x h)
 
--- where the greatest task is small, a batch with which the set is sound is taken by its run, and one behind it as well
+-- where the greatest task is small, a batch with which the set is sound is taken by its run, and one after it as well
 pub taken-small : (batches : List Batch) (b : Batch) → IsSound batches → IsSound (arrived b batches) → batch_at b.key batches ≡ None → greatest_task batches < 2 ^ 64 → b.key.task < 2 ^ 64
     → IsOk (learned b.run (part_of b.run batches) b)
 taken-small batches b sound after none most own =

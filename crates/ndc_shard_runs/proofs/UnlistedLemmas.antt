@@ -40,7 +40,7 @@ later-all one two (f ∷ list) l all =
     let q = and_parts (origin_lt two f.origin) (list_all (origin_lt two) (origins_of list)) all in
     and_from (origin_lt one f.origin) (list_all (origin_lt one) (origins_of list)) (origin_lt-trans one two f.origin l q.0) (later-all one two list l q.1)
 
--- what comes before all goes in front
+-- what comes before all goes first
 in-front : (s : Stray) (list : List Stray) → list_all (origin_lt s.origin) (origins_of list) ≡ true → with_stray s list ≡ s ∷ list
 in-front s [] all = refl
 in-front s (f ∷ list) all = rw (and_parts (origin_lt s.origin f.origin) (list_all (origin_lt s.origin) (origins_of list)) all).0 refl

@@ -32,7 +32,7 @@ abbrev pub is_none_or_original : Name → Name → Option Event → Bool
 is_none_or_original name input None = true
 is_none_or_original name input (Some event) = is_original name input event.kind
 
--- whether an event of a batch of this kind is no copied signal, or names nothing but its original in the batch and in the others
+-- whether an event of a batch of this kind is not a copied signal, or names nothing but its original in the batch and in the others
 abbrev pub is_fit_copy : List Batch → Batch → EventKind → Bool
 is_fit_copy batches b (WorkflowExecutionSignaled name input (Some origin)) = is_none_or_original name input (event_of origin (b ∷ [])) && is_none_or_original name input (event_of origin batches)
 is_fit_copy batches b _ = true
@@ -41,7 +41,7 @@ is_fit_copy batches b _ = true
 abbrev pub are_fit_copies : List Batch → Batch → Bool
 are_fit_copies batches b = list_all (λ event. is_fit_copy batches b event.kind) b.events
 
--- whether an event of this kind is no copied signal, or names an event of a batch or of the others
+-- whether an event of this kind is not a copied signal, or names an event of a batch or of the others
 abbrev pub is_named_copy : List Batch → Batch → EventKind → Bool
 is_named_copy batches b (WorkflowExecutionSignaled name input (Some origin)) = is_some (event_of origin (b ∷ [])) || is_some (event_of origin batches)
 is_named_copy batches b _ = true
@@ -50,7 +50,7 @@ is_named_copy batches b _ = true
 abbrev pub are_named_copies : List Batch → Batch → Bool
 are_named_copies batches b = list_all (λ event. is_named_copy batches b event.kind) b.events
 
--- whether an event of this kind is no copied signal, or names nothing but its original in a batch
+-- whether an event of this kind is not a copied signal, or names nothing but its original in a batch
 abbrev pub is_fit_to : Batch → EventKind → Bool
 is_fit_to b (WorkflowExecutionSignaled name input (Some origin)) = is_none_or_original name input (event_of origin (b ∷ []))
 is_fit_to b _ = true

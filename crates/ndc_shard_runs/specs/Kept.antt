@@ -30,7 +30,7 @@ pub record IsIdle (batches : List Batch) (tip : Batch) (key : BatchKey) : Type 0
   pub closed : (state_to tip.run tip.key batches).running ≡ false
 
 -- a batch follows all that is learned: it goes on from the current branch of the current run, or it begins a run
--- behind all others, of which the current one is not open
+-- after all others, of which the current one is not open
 pub data Follows (batches : List Batch) (b : Batch) : Type 0 where
   below : (tip : Batch) → last_batch batches ≡ Some tip → b.parent ≡ Some tip.key → Follows batches b
   begins : b.parent ≡ None → part_of b.run batches ≡ [] → ((tip : Batch) → last_batch batches ≡ Some tip → IsIdle batches tip b.key) → Follows batches b
@@ -53,7 +53,7 @@ after_batch b follows kept = if follows then option_map (filter (is_unlisted (or
 abbrev pub after_any : Batch → Bool → Bool → Option (List Stray) → Option (List Stray)
 after_any b beside follows kept = if beside then kept else after_batch b follows kept
 
--- whether the key, where there is one, comes behind this one
+-- whether the key, where there is one, comes after this one
 abbrev pub is_ahead : BatchKey → Option BatchKey → Bool
 is_ahead key None = false
 is_ahead key (Some tip) = key_lt key tip
@@ -72,7 +72,7 @@ abbrev pub is_idle : Option Batch → BatchKey → List Batch → Bool
 is_idle None key batches = true
 is_idle (Some tip) key batches = key_lt tip.key key && not (state_to tip.run tip.key batches).running
 
--- whether a batch with this parent goes on from the current branch of the current run, or begins a run behind all
+-- whether a batch with this parent goes on from the current branch of the current run, or begins a run after all
 -- others, of which the current one is not open
 abbrev pub follows_with : Option BatchKey → List Batch → Batch → Bool
 follows_with None batches b = is_nil (part_of b.run batches) && is_idle (last_batch batches) b.key batches

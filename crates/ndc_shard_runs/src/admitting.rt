@@ -1,4 +1,4 @@
-//! What is learned of a batch of which nobody vouches.
+//! What is learned of a batch that nobody vouches for.
 ghost use Rattle.std.specs.Prelude.{◌≡◌, IsTrue};
 ghost use Rattle.ndc_model_sets.specs.Paths.{last_event};
 ghost use Rattle.ndc_shard_runs.specs.Fitting.{continues, is_carrying_fit, is_continued_by};
@@ -38,8 +38,10 @@ impl Runs {
         requires second { IfSome (option_copied second) (GoesWithNew self.old batch.now) }
         requires ids { HasSmallIds batch.now }
         requires second_ids { IfSome (option_copied second) HasSmallIds }
-        ensures answer { Gives Memory (λ done. done) result (fit_of self.old batch.now (option_copied second.entry)) }
-        ensures ok { OnOk result (self.new ≡ arrived_second (option_copied second.entry) (arrived batch.now self.old)) }
+        ensures answer { Gives Memory (λ done.
+            done) result (fit_of self.old batch.now (option_copied second.entry)) }
+        ensures ok { OnOk result
+            (self.new ≡ arrived_second (option_copied second.entry) (arrived batch.now self.old)) }
         ensures err { OnErr result (self.new ≡ self.old) }
     {
         match second {
@@ -85,7 +87,8 @@ impl Runs {
         requires second { GoesWithNew self.old batch.now second.now }
         requires ids { HasSmallIds batch.now }
         requires second_ids { HasSmallIds second.now }
-        ensures answer { Gives Memory (λ done. done) result (fit_both self.old batch.now second.now) }
+        ensures answer { Gives Memory (λ done.
+            done) result (fit_both self.old batch.now second.now) }
         ensures ok { OnOk result (self.new ≡ arrived second.now (arrived batch.now self.old)) }
         ensures err { OnErr result (self.new ≡ self.old) }
     {

@@ -41,7 +41,7 @@ impl Runs {
         true
     }
 
-    /// Whether an event of the batch of this kind is no copied signal, or one that fits.
+    /// Whether an event of the batch of this kind is not a copied signal, or one that fits.
     fn is_fit_copy(&self, batch: &Batch, kind: &EventKind) -> bool
         requires { fault_of batch.now ≡ None }
         ensures { result ≡ is_fit_copy self.now batch.now kind.now }
@@ -87,7 +87,7 @@ impl Runs {
         true
     }
 
-    /// Whether an event of the batch of this kind is no copied signal, or one that names an event that is there.
+    /// Whether an event of the batch of this kind is not a copied signal, or one that names an event that is there.
     fn is_named_copy(&self, batch: &Batch, kind: &EventKind) -> bool
         requires { fault_of batch.now ≡ None }
         ensures { result ≡ is_named_copy self.now batch.now kind.now }
@@ -154,7 +154,8 @@ impl Runs {
     /// The same of the copied signals in these batches.
     fn are_all_open_fit(&self, batch: &Batch, others: &[&Batch]) -> bool
         requires { fault_of batch.now ≡ None }
-        ensures { result ≡ list_all (λ other. are_open_fit self.now batch.now other.events) (map (λ b. b.now) others.now) }
+        ensures { result ≡ list_all (λ other. are_open_fit self.now batch.now other.events)
+            (map (λ b. b.now) others.now) }
     {
         for other in others {
             if !self.are_open_fit(batch, other.events.as_slice()) {
@@ -177,7 +178,8 @@ impl Runs {
         true
     }
 
-    /// Whether an event of this kind is no copied signal that is open, or names nothing but its original in the batch.
+    /// Whether an event of this kind is not a copied signal that is open, or names nothing but its original in the
+    /// batch.
     fn is_open_fit(&self, batch: &Batch, kind: &EventKind) -> bool
         requires { fault_of batch.now ≡ None }
         ensures { result ≡ is_open_fit self.now batch.now kind.now }
@@ -212,7 +214,7 @@ fn are_fit_to(batch: &Batch, events: &[Event]) -> bool
     true
 }
 
-/// Whether an event of this kind is no copied signal, or names nothing but its original in the batch.
+/// Whether an event of this kind is not a copied signal, or names nothing but its original in the batch.
 fn is_fit_to(batch: &Batch, kind: &EventKind) -> bool
     requires { fault_of batch.now ≡ None }
     ensures { result ≡ is_fit_to batch.now kind.now }
@@ -270,7 +272,8 @@ fn is_original(kind: &EventKind, name: &Name, input: &Name) -> bool
 
 /// Whether an event of this kind is a copied signal.
 fn is_copy(kind: &EventKind) -> bool
-    ensures { result ≡ false → (batches : List One) (b : One) → is_named_copy batches b kind.now ≡ true }
+    ensures { result ≡ false → (batches : List One) (b : One) → is_named_copy batches b kind.now
+        ≡ true }
 {
     match kind {
         EventKind::WorkflowExecutionSignaled { origin, .. } => origin.as_ref().is_some(),

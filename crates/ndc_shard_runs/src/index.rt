@@ -146,9 +146,11 @@ impl RunIndex {
 
     /// What the tree of its run says of a batch whose key is new there.
     pub(crate) fn judge(&self, batch: &Batch) -> Result<Inserted, TreeError>
-        requires fresh { batch_at batch.now.key (batches_of (run_at batch.now.run self.now)) ≡ None }
+        requires fresh { batch_at batch.now.key (batches_of (run_at batch.now.run self.now))
+            ≡ None }
         requires faultless { fault_of batch.now ≡ None }
-        ensures { result ≡ inserted batch.now.run (batches_of (run_at batch.now.run self.now)) batch.now }
+        ensures { result ≡ inserted batch.now.run
+            (batches_of (run_at batch.now.run self.now)) batch.now }
     {
         let key = batch.key;
         match self.runs.get(batch.run) {
@@ -168,12 +170,16 @@ impl RunIndex {
         steps: &mut Steps<L>,
     ) -> Result<(), OutOfMemory>
         requires fresh { batch_at batch.now.key (all_of self.old) ≡ None }
-        requires fits { IsOk (learned batch.now.run (batches_of (run_at batch.now.run self.old)) batch.now) }
+        requires fits { IsOk (learned batch.now.run
+            (batches_of (run_at batch.now.run self.old)) batch.now) }
         requires faultless { fault_of batch.now ≡ None }
         requires ids { All (λ event. event.id ≤ 10 ^ 12) batch.now.events }
         ensures ok { OnOk result (self.new ≡ with_batch batch.now self.old) }
         ensures err { OnErr result (self.new ≡ self.old) }
-        ensures extend_steps { OnOk result (batch.now.parent ≡ current_key batch.now.run (batches_of (run_at batch.now.run self.old)) → steps.new ≡ counted steps.old (length batch.now.events)) }
+        ensures extend_steps { OnOk result
+            (batch.now.parent ≡ current_key batch.now.run
+            (batches_of (run_at batch.now.run self.old))
+            → steps.new ≡ counted steps.old (length batch.now.events)) }
         ensures most_steps { CountsWithin steps.old (length batch.now.events + 511) steps.new }
     {
         match self.try_learn(alloc, batch, steps) {
@@ -192,13 +198,19 @@ impl RunIndex {
         steps: &mut Steps<L>,
     ) -> Result<Learned, RunError>
         requires fresh { batch_at batch.now.key (all_of self.old) ≡ None }
-        requires fits { IsOk (inserted batch.now.run (batches_of (run_at batch.now.run self.old)) batch.now) }
+        requires fits { IsOk (inserted batch.now.run
+            (batches_of (run_at batch.now.run self.old)) batch.now) }
         requires faultless { fault_of batch.now ≡ None }
         requires ids { All (λ event. event.id ≤ 10 ^ 12) batch.now.events }
-        ensures answer { Gives Memory (λ done. done) result (learned batch.now.run (batches_of (run_at batch.now.run self.old)) batch.now) }
+        ensures answer { Gives Memory (λ done.
+            done) result (learned batch.now.run
+            (batches_of (run_at batch.now.run self.old)) batch.now) }
         ensures ok { OnOk result (self.new ≡ with_batch batch.now self.old) }
         ensures err { OnErr result (self.new ≡ self.old) }
-        ensures extend_steps { OnOk result (batch.now.parent ≡ current_key batch.now.run (batches_of (run_at batch.now.run self.old)) → steps.new ≡ counted steps.old (length batch.now.events)) }
+        ensures extend_steps { OnOk result
+            (batch.now.parent ≡ current_key batch.now.run
+            (batches_of (run_at batch.now.run self.old))
+            → steps.new ≡ counted steps.old (length batch.now.events)) }
         ensures most_steps { CountsWithin steps.old (length batch.now.events + 511) steps.new }
     {
         take_in(&mut self.runs, &mut self.places, alloc, batch, steps)
@@ -213,9 +225,11 @@ impl RunIndex {
         steps: &mut Steps<L>,
     ) -> Result<(), OutOfMemory>
         requires fresh { batch_at batch.now.key (all_of self.old) ≡ None }
-        requires fits { IsOk (learned batch.now.run (batches_of (run_at batch.now.run self.old)) batch.now) }
+        requires fits { IsOk (learned batch.now.run
+            (batches_of (run_at batch.now.run self.old)) batch.now) }
         requires second_fresh { batch_at second.now.key (all_of self.old) ≡ None }
-        requires fits_both { IsOk (both_joined (batches_of (run_at batch.now.run self.old)) batch.now second.now) }
+        requires fits_both { IsOk
+            (both_joined (batches_of (run_at batch.now.run self.old)) batch.now second.now) }
         requires other_key { key_eq second.now.key batch.now.key ≡ false }
         requires second_run { run_at second.now.run self.old ≡ None }
         requires other_run { same_run second.now.run batch.now.run ≡ false }
@@ -224,10 +238,16 @@ impl RunIndex {
         requires second_faultless { fault_of second.now ≡ None }
         requires ids { All (λ event. event.id ≤ 10 ^ 12) batch.now.events }
         requires second_ids { All (λ event. event.id ≤ 10 ^ 12) second.now.events }
-        ensures ok { OnOk result (self.new ≡ with_batch batch.now (with_batch second.now self.old)) }
+        ensures ok { OnOk result
+            (self.new ≡ with_batch batch.now (with_batch second.now self.old)) }
         ensures err { OnErr result (self.new ≡ self.old) }
-        ensures extend_steps { OnOk result (batch.now.parent ≡ current_key batch.now.run (batches_of (run_at batch.now.run self.old)) → steps.new ≡ counted (counted steps.old (length second.now.events)) (length batch.now.events)) }
-        ensures most_steps { CountsWithin steps.old (length second.now.events + (length batch.now.events + 511)) steps.new }
+        ensures extend_steps { OnOk result
+            (batch.now.parent ≡ current_key batch.now.run
+            (batches_of (run_at batch.now.run self.old))
+            → steps.new ≡ counted (counted steps.old (length second.now.events))
+            (length batch.now.events)) }
+        ensures most_steps { CountsWithin steps.old
+            (length second.now.events + (length batch.now.events + 511)) steps.new }
     {
         match self.try_learn_both(alloc, batch, second, steps) {
             Ok(_) => Ok(()),
@@ -247,7 +267,8 @@ impl RunIndex {
         steps: &mut Steps<L>,
     ) -> Result<Learned, RunError>
         requires fresh { batch_at batch.now.key (all_of self.old) ≡ None }
-        requires fits { IsOk (inserted batch.now.run (batches_of (run_at batch.now.run self.old)) batch.now) }
+        requires fits { IsOk (inserted batch.now.run
+            (batches_of (run_at batch.now.run self.old)) batch.now) }
         requires second_fresh { batch_at second.now.key (all_of self.old) ≡ None }
         requires other_key { key_eq second.now.key batch.now.key ≡ false }
         requires second_run { run_at second.now.run self.old ≡ None }
@@ -257,11 +278,19 @@ impl RunIndex {
         requires second_faultless { fault_of second.now ≡ None }
         requires ids { All (λ event. event.id ≤ 10 ^ 12) batch.now.events }
         requires second_ids { All (λ event. event.id ≤ 10 ^ 12) second.now.events }
-        ensures answer { Gives Memory (λ done. done) result (both_joined (batches_of (run_at batch.now.run self.old)) batch.now second.now) }
-        ensures ok { OnOk result (self.new ≡ with_batch batch.now (with_batch second.now self.old)) }
+        ensures answer { Gives Memory (λ done.
+            done) result (both_joined
+            (batches_of (run_at batch.now.run self.old)) batch.now second.now) }
+        ensures ok { OnOk result
+            (self.new ≡ with_batch batch.now (with_batch second.now self.old)) }
         ensures err { OnErr result (self.new ≡ self.old) }
-        ensures extend_steps { OnOk result (batch.now.parent ≡ current_key batch.now.run (batches_of (run_at batch.now.run self.old)) → steps.new ≡ counted (counted steps.old (length second.now.events)) (length batch.now.events)) }
-        ensures most_steps { CountsWithin steps.old (length second.now.events + (length batch.now.events + 511)) steps.new }
+        ensures extend_steps { OnOk result
+            (batch.now.parent ≡ current_key batch.now.run
+            (batches_of (run_at batch.now.run self.old))
+            → steps.new ≡ counted (counted steps.old (length second.now.events))
+            (length batch.now.events)) }
+        ensures most_steps { CountsWithin steps.old
+            (length second.now.events + (length batch.now.events + 511)) steps.new }
     {
         take_both(
             &mut self.runs,
@@ -346,14 +375,19 @@ fn take_in<L>(
 ) -> Result<Learned, RunError>
     requires indexed { AreIndexed runs.old places.old }
     requires fresh { batch_at batch.now.key (all_of runs.old) ≡ None }
-    requires fits { IsOk (inserted batch.now.run (batches_of (run_at batch.now.run runs.old)) batch.now) }
+    requires fits { IsOk (inserted batch.now.run
+        (batches_of (run_at batch.now.run runs.old)) batch.now) }
     requires faultless { fault_of batch.now ≡ None }
     requires ids { All (λ event. event.id ≤ 10 ^ 12) batch.now.events }
     ensures indexed { AreIndexed runs.new places.new }
-    ensures answer { Gives Memory (λ done. done) result (learned batch.now.run (batches_of (run_at batch.now.run runs.old)) batch.now) }
+    ensures answer { Gives Memory (λ done.
+        done) result (learned batch.now.run
+        (batches_of (run_at batch.now.run runs.old)) batch.now) }
     ensures ok { OnOk result (runs.new ≡ with_batch batch.now runs.old) }
     ensures err { OnErr result (runs.new ≡ runs.old) }
-    ensures extend_steps { OnOk result (batch.now.parent ≡ current_key batch.now.run (batches_of (run_at batch.now.run runs.old)) → steps.new ≡ counted steps.old (length batch.now.events)) }
+    ensures extend_steps { OnOk result
+        (batch.now.parent ≡ current_key batch.now.run (batches_of (run_at batch.now.run runs.old))
+        → steps.new ≡ counted steps.old (length batch.now.events)) }
     ensures most_steps { CountsWithin steps.old (length batch.now.events + 511) steps.new }
 {
     enter(places, alloc, runs, batch)?;
@@ -378,7 +412,8 @@ fn take_both<L>(
 ) -> Result<Learned, RunError>
     requires indexed { AreIndexed runs.old places.old }
     requires fresh { batch_at batch.now.key (all_of runs.old) ≡ None }
-    requires fits { IsOk (inserted batch.now.run (batches_of (run_at batch.now.run runs.old)) batch.now) }
+    requires fits { IsOk (inserted batch.now.run
+        (batches_of (run_at batch.now.run runs.old)) batch.now) }
     requires second_fresh { batch_at second.now.key (all_of runs.old) ≡ None }
     requires other_key { key_eq second.now.key batch.now.key ≡ false }
     requires second_run { run_at second.now.run runs.old ≡ None }
@@ -389,11 +424,17 @@ fn take_both<L>(
     requires ids { All (λ event. event.id ≤ 10 ^ 12) batch.now.events }
     requires second_ids { All (λ event. event.id ≤ 10 ^ 12) second.now.events }
     ensures indexed { AreIndexed runs.new places.new }
-    ensures answer { Gives Memory (λ done. done) result (both_joined (batches_of (run_at batch.now.run runs.old)) batch.now second.now) }
+    ensures answer { Gives Memory (λ done.
+        done) result (both_joined
+        (batches_of (run_at batch.now.run runs.old)) batch.now second.now) }
     ensures ok { OnOk result (runs.new ≡ with_batch batch.now (with_batch second.now runs.old)) }
     ensures err { OnErr result (runs.new ≡ runs.old) }
-    ensures extend_steps { OnOk result (batch.now.parent ≡ current_key batch.now.run (batches_of (run_at batch.now.run runs.old)) → steps.new ≡ counted (counted steps.old (length second.now.events)) (length batch.now.events)) }
-    ensures most_steps { CountsWithin steps.old (length second.now.events + (length batch.now.events + 511)) steps.new }
+    ensures extend_steps { OnOk result
+        (batch.now.parent ≡ current_key batch.now.run (batches_of (run_at batch.now.run runs.old))
+        → steps.new ≡ counted (counted steps.old (length second.now.events))
+        (length batch.now.events)) }
+    ensures most_steps { CountsWithin steps.old
+        (length second.now.events + (length batch.now.events + 511)) steps.new }
 {
     match take_in(runs, places, alloc, second, steps) {
         Ok(_) => {}

@@ -104,7 +104,8 @@ impl Kept {
 
 /// Drops those whose origins the batch settles.
 fn drop_settled(list: &mut Vec<Stray>, batch: &Batch)
-    ensures { list.new.items ≡ filter (is_unlisted (origins_in batch.now.run batch.now.events)) list.old.items }
+    ensures { list.new.items
+        ≡ filter (is_unlisted (origins_in batch.now.run batch.now.events)) list.old.items }
 {
     if list.is_empty() {
         return;
@@ -140,7 +141,8 @@ fn rising_in(alloc: Global, run: RunId, events: &[Event]) -> Option<Vec<Origin>>
 /// Appends the origin of the event, where it is a signal; answers whether that is done and the list still rises.
 fn push_rising(list: &mut Vec<Origin>, run: RunId, event: &Event) -> bool
     requires { InOrder origin_before list.old.items }
-    ensures pushed { IsTrue result → list.new.items ≡ list.old.items ++ origins_in run (event.now ∷ []) }
+    ensures pushed { IsTrue result
+        → list.new.items ≡ list.old.items ++ origins_in run (event.now ∷ []) }
     ensures rises { InOrder origin_before list.new.items }
 {
     match &event.kind {
@@ -173,7 +175,9 @@ fn settles(batch: &Batch, origin: Origin) -> bool
 
 /// Whether the event of a run is a signal that has this origin.
 fn is_from(run: RunId, event: &Event, origin: Origin) -> bool
-    ensures { result ≡ is_among origin (origins_of (cons_option (signal_of run event.now.id event.now.version event.now.kind) [])) }
+    ensures { result ≡ is_among origin
+        (origins_of (cons_option
+        (signal_of run event.now.id event.now.version event.now.kind) [])) }
 {
     match &event.kind {
         EventKind::WorkflowExecutionSignaled { origin: from, .. } => {
@@ -195,9 +199,10 @@ pub(crate) fn has_no_signal(batch: &Batch) -> bool
     true
 }
 
-/// Whether the event of a run is no signal.
+/// Whether the event of a run is not a signal.
 fn is_no_signal(_run: RunId, event: &Event) -> bool
-    ensures { result ≡ is_empty (cons_option (signal_of _run event.now.id event.now.version event.now.kind) []) }
+    ensures { result ≡ is_empty
+        (cons_option (signal_of _run event.now.id event.now.version event.now.kind) []) }
 {
     match &event.kind {
         EventKind::WorkflowExecutionSignaled { .. } => false,

@@ -6,14 +6,15 @@ use thiserror::Error;
 /// Why a batch that comes next, or the one that goes right after it, does not fit what is learned of its workflow.
 #[derive(Clone, Copy, Debug, PartialEq, Eq, Error)]
 pub enum Misfit {
-    /// The parent is no batch of the run.
+    /// The parent is not a batch of the run.
     #[error("the parent is of another run")]
     ParentUnfit,
-    /// The first event's id is not one past the parent's last, or a batch of the same run and version is no ancestor.
+    /// The first event's id is not one past the parent's last, or a batch of the same run and version is not an
+    /// ancestor.
     #[error("the ids do not go on from the parent's, or the version is split")]
     IllFormed,
-    /// A copied signal names an event that is no original signal of its name and input: one of the batch names a learned
-    /// event, or a learned one names an event of the batch.
+    /// A copied signal names an event that is not an original signal of its name and input: one of the batch names a
+    /// learned event, or a learned one names an event of the batch.
     #[error("a copied signal names an event that is not its original")]
     OriginUnfit,
     /// The carrier does not end by continuing as the run that the carried batch begins.

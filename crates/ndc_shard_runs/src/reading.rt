@@ -26,7 +26,8 @@ impl Runs {
     /// The batches of the path to the one of this key, from its run's first on; none exactly where it is not learned. A
     /// look-up for each batch of the path.
     pub fn path(&self, alloc: Global, key: BatchKey) -> Result<Option<Vec<&Batch>>, OutOfMemory>
-        ensures { IfOk result (λ path. option_map (λ list. map (λ b. b.now) list.items) path ≡ path_at key self.now) }
+        ensures { IfOk result (λ path.
+            option_map (λ list. map (λ b. b.now) list.items) path ≡ path_at key self.now) }
     {
         match self.run_of(key) {
             None => Ok(None),

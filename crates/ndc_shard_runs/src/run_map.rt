@@ -95,13 +95,19 @@ impl RunMap {
         batch: &Batch,
         steps: &mut Steps<L>,
     ) -> Result<Learned, RunError>
-        requires fits { IsOk (inserted batch.now.run (batches_of (run_at batch.now.run self.old)) batch.now) }
+        requires fits { IsOk (inserted batch.now.run
+            (batches_of (run_at batch.now.run self.old)) batch.now) }
         requires faultless { fault_of batch.now ≡ None }
         requires ids { All (λ event. event.id ≤ 10 ^ 12) batch.now.events }
-        ensures answer { Gives Memory (λ done. done) result (learned batch.now.run (batches_of (run_at batch.now.run self.old)) batch.now) }
+        ensures answer { Gives Memory (λ done.
+            done) result (learned batch.now.run
+            (batches_of (run_at batch.now.run self.old)) batch.now) }
         ensures ok { OnOk result (self.new ≡ with_batch batch.now self.old) }
         ensures err { OnErr result (self.new ≡ self.old) }
-        ensures extend_steps { OnOk result (batch.now.parent ≡ current_key batch.now.run (batches_of (run_at batch.now.run self.old)) → steps.new ≡ counted steps.old (length batch.now.events)) }
+        ensures extend_steps { OnOk result
+            (batch.now.parent ≡ current_key batch.now.run
+            (batches_of (run_at batch.now.run self.old))
+            → steps.new ≡ counted steps.old (length batch.now.events)) }
         ensures most_steps { CountsWithin steps.old (length batch.now.events + 511) steps.new }
     {
         match place_of(self.runs.as_slice(), batch.run) {
@@ -144,10 +150,12 @@ fn grow<L>(
     requires fits { IsOk (inserted run.old.run run.old.batches batch.now) }
     requires faultless { fault_of batch.now ≡ None }
     requires ids { All (λ event. event.id ≤ 10 ^ 12) batch.now.events }
-    ensures answer { Gives Memory (λ done. done) result (learned run.old.run run.old.batches batch.now) }
+    ensures answer { Gives Memory (λ done.
+        done) result (learned run.old.run run.old.batches batch.now) }
     ensures ok { OnOk result (run.new ≡ grown batch.now run.old) }
     ensures err { OnErr result (run.new ≡ run.old) }
-    ensures extend_steps { OnOk result (batch.now.parent ≡ current_key run.old.run run.old.batches → steps.new ≡ counted steps.old (length batch.now.events)) }
+    ensures extend_steps { OnOk result (batch.now.parent ≡ current_key run.old.run run.old.batches
+        → steps.new ≡ counted steps.old (length batch.now.events)) }
     ensures most_steps { CountsWithin steps.old (length batch.now.events + 511) steps.new }
 {
     run.join(alloc, batch, steps)

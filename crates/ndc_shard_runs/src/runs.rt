@@ -97,7 +97,8 @@ impl Runs {
         requires ids { All (λ event. event.id ≤ 10 ^ 12) batch.now.events }
         ensures ok { OnOk result (self.new ≡ arrived batch.now self.old) }
         ensures err { OnErr result (self.new ≡ self.old) }
-        ensures extend_steps { OnOk result (batch.now.parent ≡ current_key batch.now.run self.old → steps.new ≡ counted steps.old (length batch.now.events)) }
+        ensures extend_steps { OnOk result (batch.now.parent ≡ current_key batch.now.run self.old
+            → steps.new ≡ counted steps.old (length batch.now.events)) }
         ensures most_steps { CountsWithin steps.old (length batch.now.events + 511) steps.new }
     {
         let follows = self.follows(batch);
@@ -117,10 +118,10 @@ impl Runs {
     /// Learns a batch that comes next, where its run takes it; its carrier fits, and where its run takes it, so do its copies.
     /// Refused with
     /// [`RunError::MissingParent`] where its parent is of another run, with [`RunError::NotWellFormed`] where its first id is
-    /// not one past the parent's last, or a batch of its version is no ancestor, and then with [`RunError::Invalid`] for the
-    /// first event that is forbidden on its path, with its first rule. After an error all is as it was. A batch that goes on
-    /// from the current branch of its run takes a step for each of its events, any other at most 511 more; one that is
-    /// refused before its events are looked at takes none.
+    /// not one past the parent's last, or a batch of its version is not an ancestor, and then with
+    /// [`RunError::Invalid`] for the first event that is forbidden on its path, with its first rule. After an error all
+    /// is as it was. A batch that goes on from the current branch of its run takes a step for each of its events, any
+    /// other at most 511 more; one that is refused before its events are looked at takes none.
     pub fn try_learn<L>(
         &mut self,
         alloc: Global,
@@ -128,13 +129,16 @@ impl Runs {
         steps: &mut Steps<L>,
     ) -> Result<Learned, RunError>
         requires next { ComesNext self.old batch.now }
-        requires copies { IsOk (learned batch.now.run (part_of batch.now.run self.old) batch.now) → CopiesFitWith self.old batch.now }
+        requires copies { IsOk (learned batch.now.run (part_of batch.now.run self.old) batch.now)
+            → CopiesFitWith self.old batch.now }
         requires carrier { IsCarrierFit self.old batch.now }
         requires ids { All (λ event. event.id ≤ 10 ^ 12) batch.now.events }
-        ensures answer { Gives Memory (λ done. done) result (learned batch.now.run (part_of batch.now.run self.old) batch.now) }
+        ensures answer { Gives Memory (λ done.
+            done) result (learned batch.now.run (part_of batch.now.run self.old) batch.now) }
         ensures ok { OnOk result (self.new ≡ arrived batch.now self.old) }
         ensures err { OnErr result (self.new ≡ self.old) }
-        ensures extend_steps { OnOk result (batch.now.parent ≡ current_key batch.now.run self.old → steps.new ≡ counted steps.old (length batch.now.events)) }
+        ensures extend_steps { OnOk result (batch.now.parent ≡ current_key batch.now.run self.old
+            → steps.new ≡ counted steps.old (length batch.now.events)) }
         ensures most_steps { CountsWithin steps.old (length batch.now.events + 511) steps.new }
     {
         let follows = self.follows(batch);
@@ -176,8 +180,11 @@ impl Runs {
         requires second_ids { All (λ event. event.id ≤ 10 ^ 12) second.now.events }
         ensures ok { OnOk result (self.new ≡ arrived second.now (arrived batch.now self.old)) }
         ensures err { OnErr result (self.new ≡ self.old) }
-        ensures extend_steps { OnOk result (batch.now.parent ≡ current_key batch.now.run self.old → steps.new ≡ counted (counted steps.old (length second.now.events)) (length batch.now.events)) }
-        ensures most_steps { CountsWithin steps.old (length second.now.events + (length batch.now.events + 511)) steps.new }
+        ensures extend_steps { OnOk result (batch.now.parent ≡ current_key batch.now.run self.old
+            → steps.new ≡ counted (counted steps.old (length second.now.events))
+            (length batch.now.events)) }
+        ensures most_steps { CountsWithin steps.old
+            (length second.now.events + (length batch.now.events + 511)) steps.new }
     {
         let follows = self.follows(batch);
         let beside = self.lies_beside(batch);
@@ -209,20 +216,27 @@ impl Runs {
         steps: &mut Steps<L>,
     ) -> Result<Learned, RunError>
         requires next { ComesNext self.old batch.now }
-        requires copies { IsOk (both_learned (part_of batch.now.run self.old) batch.now second.now) → CopiesFitWith self.old batch.now }
+        requires copies { IsOk (both_learned (part_of batch.now.run self.old) batch.now second.now)
+            → CopiesFitWith self.old batch.now }
         requires carrier { IsCarrierFit self.old batch.now }
         requires second_next { ComesNext (arrived batch.now self.old) second.now }
-        requires second_copies { IsOk (both_learned (part_of batch.now.run self.old) batch.now second.now) → CopiesFitWith (arrived batch.now self.old) second.now }
+        requires second_copies { IsOk
+            (both_learned (part_of batch.now.run self.old) batch.now second.now)
+            → CopiesFitWith (arrived batch.now self.old) second.now }
         requires second_carrier { IsCarrierFit (arrived batch.now self.old) second.now }
         requires first { second.now.parent ≡ None }
         requires begins { part_of second.now.run (arrived batch.now self.old) ≡ [] }
         requires ids { All (λ event. event.id ≤ 10 ^ 12) batch.now.events }
         requires second_ids { All (λ event. event.id ≤ 10 ^ 12) second.now.events }
-        ensures answer { Gives Memory (λ done. done) result (both_learned (part_of batch.now.run self.old) batch.now second.now) }
+        ensures answer { Gives Memory (λ done.
+            done) result (both_learned (part_of batch.now.run self.old) batch.now second.now) }
         ensures ok { OnOk result (self.new ≡ arrived second.now (arrived batch.now self.old)) }
         ensures err { OnErr result (self.new ≡ self.old) }
-        ensures extend_steps { OnOk result (batch.now.parent ≡ current_key batch.now.run self.old → steps.new ≡ counted (counted steps.old (length second.now.events)) (length batch.now.events)) }
-        ensures most_steps { CountsWithin steps.old (length second.now.events + (length batch.now.events + 511)) steps.new }
+        ensures extend_steps { OnOk result (batch.now.parent ≡ current_key batch.now.run self.old
+            → steps.new ≡ counted (counted steps.old (length second.now.events))
+            (length batch.now.events)) }
+        ensures most_steps { CountsWithin steps.old
+            (length second.now.events + (length batch.now.events + 511)) steps.new }
     {
         let follows = self.follows(batch);
         let beside = self.lies_beside(batch);
@@ -347,14 +361,17 @@ impl Runs {
 
     /// Whether it is known without a look-up that this will be so once the batch is learned too.
     fn stays_named(&self, batch: &Batch) -> bool
-        ensures { result ≡ true → CopiesNamed self.now × (are_named_copies self.now batch.now ≡ true) }
+        ensures { result ≡ true → CopiesNamed self.now
+            × (are_named_copies self.now batch.now ≡ true) }
     {
         self.is_named() && self.has_no_copies(batch)
     }
 
     /// The same once the batch is learned and then another one.
     fn both_stay_named(&self, batch: &Batch, second: &Batch) -> bool
-        ensures { result ≡ true → CopiesNamed self.now × (are_named_copies self.now batch.now ≡ true) × (are_named_copies self.now second.now ≡ true) }
+        ensures { result ≡ true → CopiesNamed self.now
+            × (are_named_copies self.now batch.now ≡ true)
+            × (are_named_copies self.now second.now ≡ true) }
     {
         self.stays_named(batch) && self.has_no_copies(second)
     }
@@ -362,7 +379,8 @@ impl Runs {
     /// Whether it will be so once the batch is learned too, where it is known that it is so. A look-up for each copied signal.
     fn will_be_named(&self, batch: &Batch) -> bool
         requires { fault_of batch.now ≡ None }
-        ensures { result ≡ true → CopiesNamed self.now × (are_named_copies self.now batch.now ≡ true) }
+        ensures { result ≡ true → CopiesNamed self.now
+            × (are_named_copies self.now batch.now ≡ true) }
     {
         self.is_named() && self.has_named_copies(batch)
     }
@@ -371,14 +389,17 @@ impl Runs {
     fn both_will_be_named(&self, batch: &Batch, second: &Batch) -> bool
         requires first { fault_of batch.now ≡ None }
         requires second { fault_of second.now ≡ None }
-        ensures { result ≡ true → CopiesNamed self.now × (are_named_copies self.now batch.now ≡ true) × (are_named_copies self.now second.now ≡ true) }
+        ensures { result ≡ true → CopiesNamed self.now
+            × (are_named_copies self.now batch.now ≡ true)
+            × (are_named_copies self.now second.now ≡ true) }
     {
         self.will_be_named(batch) && self.has_named_copies(second)
     }
 
     /// Whether there may be strays: not where they are known, and there is none. What is known stays so with each batch
-    /// that goes on from the current branch of the current run, or begins a run behind a current one that is not open, or
-    /// comes before the tip of its run and has a parent and no signal; after any other it is found by [`Runs::is_due`].
+    /// that goes on from the current branch of the current run, or begins a run after a current one that is not open,
+    /// or comes before the tip of its run and has a parent and no signal; after any other it is found by
+    /// [`Runs::is_due`].
     fn may_have_strays(&self) -> bool
         ensures { result ≡ false → strays self.now ≡ [] }
     {
@@ -449,14 +470,15 @@ impl Runs {
 
     /// The run of the batch of this key.
     pub(crate) fn run_of(&self, key: BatchKey) -> Option<&Run>
-        ensures run { option_copied result ≡ option_map (λ b. run_in self.now b.run) (batch_at key self.now) }
+        ensures run { option_copied result
+            ≡ option_map (λ b. run_in self.now b.run) (batch_at key self.now) }
         ensures sound { IsSound self.now }
     {
         self.runs.run_of(key)
     }
 
     /// Whether the batch follows all that is learned: it goes on from the current branch of the current run, or begins a
-    /// run behind all others, of which the current one is not open.
+    /// run after all others, of which the current one is not open.
     fn follows(&self, batch: &Batch) -> bool
         ensures { result ≡ follows self.now batch.now }
     {
@@ -473,7 +495,7 @@ impl Runs {
         batch.parent.is_some() && has_no_signal(batch) && self.is_behind_tip(batch)
     }
 
-    /// Whether the tip of the batch's run comes behind the batch.
+    /// Whether the tip of the batch's run comes after the batch.
     fn is_behind_tip(&self, batch: &Batch) -> bool
         ensures { result ≡ is_ahead batch.now.key (current_key batch.now.run self.now) }
     {
@@ -521,14 +543,18 @@ impl Runs {
 
 /// Whether the batch, which follows all others or not, does so and comes before the key, and its run is not open.
 fn is_left(runs: &RunIndex, batch: &Batch, follows: bool, key: BatchKey) -> bool
-    ensures { result ≡ (follows && (key_lt batch.now.key key && not (is_open (option_map (λ r. current_state r.run r.batches) (run_at batch.now.run runs.now))))) }
+    ensures { result ≡ (follows
+        && (key_lt batch.now.key key
+        && not (is_open (option_map (λ r. current_state r.run r.batches)
+        (run_at batch.now.run runs.now))))) }
 {
     follows && batch.key.is_before(key) && !is_run_open(runs.get(batch.run))
 }
 
 /// Whether there is a run and it is open.
 fn is_run_open(run: Option<&Run>) -> bool
-    ensures { result ≡ is_open (option_map (λ r. current_state r.run r.batches) (option_copied run.entry)) }
+    ensures { result ≡ is_open
+        (option_map (λ r. current_state r.run r.batches) (option_copied run.entry)) }
 {
     match run {
         None => false,
@@ -536,7 +562,7 @@ fn is_run_open(run: Option<&Run>) -> bool
     }
 }
 
-/// Whether the other key, where there is one, comes behind this one.
+/// Whether the other key, where there is one, comes after this one.
 fn is_ahead(key: BatchKey, other: Option<BatchKey>) -> bool
     ensures { result ≡ is_ahead key other }
 {

@@ -39,7 +39,9 @@ impl Runs {
     fn settling(&self, alloc: Global, batches: &[&Batch]) -> Result<Vec<&State>, OutOfMemory>
         requires all { map (λ b. b.now) batches.now ≡ self.now }
         requires sound { IsSound self.now }
-        ensures { IfOk result (λ list. origins_seen (map (λ s. s.now) list.items) ≡ flat_map (settled_from self.now) (map (λ b. b.now) batches.now)) }
+        ensures { IfOk result (λ list.
+            origins_seen (map (λ s. s.now) list.items)
+            ≡ flat_map (settled_from self.now) (map (λ b. b.now) batches.now)) }
     {
         let mut list = Vec::new(alloc);
         for batch in batches {
@@ -73,7 +75,8 @@ impl Runs {
 
 /// The state by which the run settles origins, where it is the current one or not.
 fn settling_state(run: &Run, is_current: bool) -> Option<&State>
-    ensures { seen_by (option_copied result) ≡ settled_with (current_state run.now.run run.now.batches) is_current }
+    ensures { seen_by (option_copied result)
+        ≡ settled_with (current_state run.now.run run.now.batches) is_current }
 {
     let state = run.state();
     if state.is_running() && !is_current {
@@ -85,7 +88,8 @@ fn settling_state(run: &Run, is_current: bool) -> Option<&State>
 
 /// Adds the state, where there is one.
 fn push_state<'s>(list: &mut Vec<&'s State>, state: Option<&'s State>) -> Result<(), OutOfMemory>
-    ensures { OnOk result (origins_seen (map (λ s. s.now) list.new.items) ≡ origins_seen (map (λ s. s.now) list.old.items) ++ seen_by (option_copied state.entry)) }
+    ensures { OnOk result (origins_seen (map (λ s. s.now) list.new.items)
+        ≡ origins_seen (map (λ s. s.now) list.old.items) ++ seen_by (option_copied state.entry)) }
 {
     match state {
         None => Ok(()),
@@ -102,7 +106,9 @@ fn unsettled(
     batches: &[&Batch],
     states: &[&State],
 ) -> Result<Vec<Stray>, OutOfMemory>
-    ensures { IfOk result (λ list. list.items ≡ unsettled (origins_seen (map (λ s. s.now) states.now)) (map (λ b. b.now) batches.now)) }
+    ensures { IfOk result (λ list.
+        list.items ≡ unsettled (origins_seen (map (λ s. s.now) states.now))
+        (map (λ b. b.now) batches.now)) }
 {
     let mut list = Vec::new(alloc);
     let mut hint = 0;
@@ -121,7 +127,9 @@ fn push_unsettled(
     states: &[&State],
     hint: usize,
 ) -> Result<usize, OutOfMemory>
-    ensures { OnOk result (list.new.items ≡ list.old.items ++ unsettled_in (origins_seen (map (λ s. s.now) states.now)) run events.now) }
+    ensures { OnOk result (list.new.items
+        ≡ list.old.items ++ unsettled_in
+        (origins_seen (map (λ s. s.now) states.now)) run events.now) }
 {
     let mut place = hint;
     for event in events {
@@ -138,7 +146,9 @@ fn push_event(
     states: &[&State],
     hint: usize,
 ) -> Result<usize, OutOfMemory>
-    ensures { OnOk result (list.new.items ≡ list.old.items ++ filter (is_unlisted (origins_seen (map (λ s. s.now) states.now))) (cons_option (signal_of run event.now.id event.now.version event.now.kind) [])) }
+    ensures { OnOk result (list.new.items
+        ≡ list.old.items ++ filter (is_unlisted (origins_seen (map (λ s. s.now) states.now)))
+        (cons_option (signal_of run event.now.id event.now.version event.now.kind) [])) }
 {
     match &event.kind {
         EventKind::WorkflowExecutionSignaled {

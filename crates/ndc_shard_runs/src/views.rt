@@ -77,7 +77,8 @@ fn branch_views<L>(
     run: &Run,
     steps: &mut Steps<L>,
 ) -> Result<Vec<BranchView>, OutOfMemory>
-    ensures { IfOk result (λ list. list.items ≡ map (branch_with run.now) (tip_keys run.now.run run.now.batches)) }
+    ensures { IfOk result (λ list.
+        list.items ≡ map (branch_with run.now) (tip_keys run.now.run run.now.batches)) }
 {
     let keys = run.tree().branches(alloc)?;
     let mut list = Vec::new(alloc);

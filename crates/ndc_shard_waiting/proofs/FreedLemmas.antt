@@ -69,7 +69,7 @@ rise-freed so_far (sent ∷ waiting) rise =
           (precede-part (both sent) (batches_of waiting) (batches_of (kept_by so_far waiting)) (λ P all. (batches-freed P so_far waiting all).1) before) r.1,
     ))
 
--- what is found in front is not found behind
+-- what is found before is not found after
 pub found-precedes : (front rest : List Batch) (key : BatchKey) (b : Batch) → Precede front rest → batch_at key front ≡ Some b → batch_at key rest ≡ None
 found-precedes front rest key b before h =
     none-there rest key (subst (λ (k : BatchKey). ComeAfter k rest) (found-key front key b h) (found-all (λ x. ComeAfter x.key rest) front key b before h))

@@ -167,7 +167,7 @@ none-awaited before one (Some key) own messages none = by (key_eq key before) (k
     by true false e = refl
     by true true e = any-none (λ m. is_link_for before one (earlier m.batch) m.batch.key) one (link-only before one) messages (subst (λ (k : BatchKey). message_at k messages ≡ None) (same-keys own one e) none)
 
--- behind a put the messages wait, and are linked
+-- after a put the messages wait, and are linked
 pub put-links : (r : Result (Unit {0}) AllocError) (new : Message) (before after : List Message) (links more : List Link) → AreWaiting before → CanWait new → IsNewTo (batches_of before) new
     → ((a one : BatchKey) → is_linked a one links ≡ is_awaited a one before)
     → OnOk r (after ≡ put_off new before) → OnOk r ((a one : BatchKey) → is_linked a one more ≡ (is_link_for a one (earlier new.batch) new.batch.key || is_linked a one links))

@@ -111,7 +111,7 @@ pub all-each : {X : Type 0} (P : X → Type 0) → ((x : X) → P x) → (xs : L
 all-each P f [] = tt
 all-each P f (x ∷ xs) = (f x, all-each P f xs)
 
--- what comes behind is not in front
+-- what comes after is not before
 pub precede-none : (front rest : List Batch) → Precede front rest → AllByRecursion (λ x. batch_at x.key front ≡ None) rest
 precede-none [] rest before = all-each (λ x. batch_at x.key [] ≡ None) (λ x. refl) rest
 precede-none (b ∷ front) rest before =
@@ -127,7 +127,7 @@ apart-join so_far front rest apart before =
     all-two (λ (b : Batch). batch_at b.key so_far ≡ None) (λ b. batch_at b.key front ≡ None) (λ b. batch_at b.key (so_far ++ front) ≡ None)
     (λ b h g. at-neither b.key so_far front h g) rest (all-back (λ b. batch_at b.key so_far ≡ None) front rest apart) (precede-none front rest before)
 
--- each batch in front has a key that is not behind
+-- each batch before has a key that does not come after
 pub front-none : (front rest : List Batch) → Precede front rest → AllByRecursion (λ b. batch_at b.key rest ≡ None) front
 front-none [] rest before = tt
 front-none (b ∷ front) rest before = (none-there rest b.key before.0, front-none front rest before.1)

@@ -212,7 +212,7 @@ wakes-more earlier links before now link rest e wakes = record {
     move false true c = refl
     move false false c = refl
 
--- behind the links of a key none is of it
+-- after the links of a key none is of it
 none-linked : (earlier one : BatchKey) (links : List Link) → AllByRecursion (λ link. key_lt earlier link.earlier ≡ true) links → is_linked earlier one links ≡ false
 none-linked earlier one [] all = refl
 none-linked earlier one (x ∷ xs) all = by (key_eq x.earlier earlier) refl (none-linked earlier one xs all.1)

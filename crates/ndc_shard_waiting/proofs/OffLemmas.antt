@@ -20,7 +20,7 @@ use Rattle.ndc_shard_waiting.proofs.OrderLemmas.{all-back, all-more, Precede, ri
 use Rattle.ndc_shard_waiting.proofs.FreedLemmas.{freed-cases, batches-freed, precede-part}
 use Rattle.ndc_shard_waiting.proofs.KeptLemmas.{both-all, carried-earlier, carried-after, behind-next, has-neither, IsApart, apart-join}
 
--- what waits does not wait for what comes behind it
+-- what waits does not wait for what comes after it
 pub not-behind : (b : Batch) (rest : List Batch) → PointsBack b → IsSome (earlier b) → ComeAfter b.key rest → has_key (earlier b) rest ≡ false
 not-behind b rest back some after = by (earlier b) refl some
   where

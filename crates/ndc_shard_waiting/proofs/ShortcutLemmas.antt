@@ -90,7 +90,7 @@ set-all-lead (Ok x) waiting before after key to lead new e _ one t h = by (key_e
     by false f g = lead one t g
 set-all-lead (Err x) waiting before after key to lead new _ e one t h = lead one t (ap (shortcut_at one) (sym e) ∙ h)
 
--- how many keys are not behind a key: a measure of going upwards
+-- how many keys are not after a key: a measure of going upwards
 abbrev pub up_to : List Batch → BatchKey → ℕ
 up_to batches key = length (filter (λ b. not (key_lt key b.key)) batches)
 

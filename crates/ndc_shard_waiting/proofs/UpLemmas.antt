@@ -29,7 +29,7 @@ pub missing-none : (batches : List Batch) → missing_from None batches ≡ None
 missing-none [] = refl
 missing-none (b ∷ batches) = missing-step None b batches ∙ ap (over b) (missing-none batches)
 
--- from an earlier key one meets none of the batches behind it
+-- from an earlier key one meets none of the batches after it
 missing-early : (b : Batch) (batches : List Batch) → PointsBack b → ComeAfter b.key batches → missing_from (earlier b) (b ∷ batches) ≡ earlier b
 missing-early b batches back after = by (earlier b) refl
   where

@@ -46,7 +46,8 @@ impl Drop for Held {
 
 /// Takes out the shortcuts of the message's batches.
 fn forget(shortcuts: &mut Shortcuts, sent: &Message)
-    ensures { (one to : Key) → shortcut_at one shortcuts.new ≡ Some to → (shortcut_at one shortcuts.old ≡ Some to) × (batch_at one (both sent.now) ≡ None) }
+    ensures { (one to : Key) → shortcut_at one shortcuts.new ≡ Some to
+        → (shortcut_at one shortcuts.old ≡ Some to) × (batch_at one (both sent.now) ≡ None) }
 {
     shortcuts.forget(sent.batch.key);
     if let Some(second) = sent.second.as_ref() {
@@ -56,7 +57,9 @@ fn forget(shortcuts: &mut Shortcuts, sent: &Message)
 
 /// Takes out the shortcuts of the messages' batches.
 fn forget_all(shortcuts: &mut Shortcuts, messages: &[Message])
-    ensures { (one to : Key) → shortcut_at one shortcuts.new ≡ Some to → (shortcut_at one shortcuts.old ≡ Some to) × (batch_at one (batches_of messages.now) ≡ None) }
+    ensures { (one to : Key) → shortcut_at one shortcuts.new ≡ Some to
+        → (shortcut_at one shortcuts.old ≡ Some to)
+        × (batch_at one (batches_of messages.now) ≡ None) }
 {
     for sent in messages {
         forget(shortcuts, sent);
@@ -76,10 +79,15 @@ fn missed(ends: &Shortcuts, batch: &Batch) -> BatchKey
     }
 }
 
-/// Notes what a batch misses, for those behind it too.
+/// Notes what a batch misses, for those after it too.
 fn note(ends: &mut Shortcuts, found: &mut Vec<PutOff>, batch: &Batch) -> Result<(), OutOfMemory>
-    ensures ends { OnOk result ((one : Key) → shortcut_at one ends.new ≡ (if key_eq batch.now.key one then Some (missed_by ends.old batch.now) else shortcut_at one ends.old)) }
-    ensures found { OnOk result (found.new.items ≡ found.old.items ++ record { key = batch.now.key; missing = missed_by ends.old batch.now } ∷ []) }
+    ensures ends { OnOk result
+        ((one : Key) → shortcut_at one ends.new
+        ≡ (if key_eq batch.now.key one then Some
+        (missed_by ends.old batch.now) else shortcut_at one ends.old)) }
+    ensures found { OnOk result
+        (found.new.items ≡ found.old.items
+        ++ record { key = batch.now.key; missing = missed_by ends.old batch.now } ∷ []) }
 {
     let missing = missed(ends, batch);
     ends.set(batch.key, missing)?;
@@ -154,7 +162,7 @@ impl Held {
         self.shelf.put(message)
     }
 
-    /// Takes out what waits for the message, which becomes learned, directly or not: the message, and behind it what
+    /// Takes out what waits for the message, which becomes learned, directly or not: the message, and after it what
     /// it frees, in key order; all others stay. In time of the logarithm of the messages for each that is freed. For
     /// want of memory some that would be freed may be lost, and with them the message.
     pub(crate) fn free(
@@ -186,8 +194,13 @@ impl Held {
         batch: &Batch,
         second: Option<&Batch>,
     ) -> Result<Option<BatchKey>, OutOfMemory>
-        ensures some { IfOk result (λ found. IfSome found (λ key. is_woken (batch.now ∷ option_to_list (option_copied second.entry)) key self.now ≡ true)) }
-        ensures none { IfOk result (λ found. IfNone found (AllByRecursion (λ sent. waits_for (batch.now ∷ option_to_list (option_copied second.entry)) sent ≡ false) self.now)) }
+        ensures some { IfOk result (λ found.
+            IfSome found (λ key. is_woken
+            (batch.now ∷ option_to_list (option_copied second.entry)) key self.now ≡ true)) }
+        ensures none { IfOk result (λ found.
+            IfNone found (AllByRecursion (λ sent.
+            waits_for (batch.now ∷ option_to_list (option_copied second.entry)) sent
+            ≡ false) self.now)) }
     {
         self.shelf.first_waiter(alloc, batch, second)
     }
@@ -207,7 +220,9 @@ impl Held {
     /// Of each batch that is put off, those that are carried too, in key order, what it misses. In time of the
     /// batches times the logarithm of them.
     pub(crate) fn all_missing(&self, alloc: Global) -> Result<Vec<PutOff>, OutOfMemory>
-        ensures { IfOk result (λ list. map (λ one. (one.key, Some one.missing)) list.items ≡ all_missing (batches_of self.now)) }
+        ensures { IfOk result (λ list.
+            map (λ one. (one.key, Some one.missing)) list.items
+            ≡ all_missing (batches_of self.now)) }
     {
         let mut ends = Shortcuts::new(alloc);
         let mut found = Vec::new(alloc);

@@ -44,7 +44,8 @@ impl Links {
 
     /// The batch of the key `own` waits for that of the key `earlier`.
     pub(crate) fn add(&mut self, earlier: BatchKey, own: BatchKey) -> Result<(), OutOfMemory>
-        ensures ok { OnOk result ((before one : Key) → is_linked before one self.new ≡ (is_link before one earlier own || is_linked before one self.old)) }
+        ensures ok { OnOk result ((before one : Key) → is_linked before one self.new
+            ≡ (is_link before one earlier own || is_linked before one self.old)) }
         ensures err { OnErr result (self.new ≡ self.old) }
     {
         self.set.insert(Link { earlier, own })?;
@@ -53,7 +54,8 @@ impl Links {
 
     /// The batch of the key `own` no more waits for that of the key `earlier`.
     pub(crate) fn cut(&mut self, earlier: BatchKey, own: BatchKey)
-        ensures { (before one : Key) → is_linked before one self.new ≡ (not (is_link before one earlier own) && is_linked before one self.old) }
+        ensures { (before one : Key) → is_linked before one self.new
+            ≡ (not (is_link before one earlier own) && is_linked before one self.old) }
     {
         self.set.remove(&Link { earlier, own });
     }
@@ -64,7 +66,8 @@ impl Links {
         earlier: Option<BatchKey>,
         own: BatchKey,
     ) -> Result<(), OutOfMemory>
-        ensures ok { OnOk result ((before one : Key) → is_linked before one self.new ≡ (is_link_for before one earlier own || is_linked before one self.old)) }
+        ensures ok { OnOk result ((before one : Key) → is_linked before one self.new
+            ≡ (is_link_for before one earlier own || is_linked before one self.old)) }
         ensures err { OnErr result (self.new ≡ self.old) }
     {
         match earlier {
@@ -75,7 +78,8 @@ impl Links {
 
     /// Takes out what `add_for` puts in.
     pub(crate) fn cut_for(&mut self, earlier: Option<BatchKey>, own: BatchKey)
-        ensures { (before one : Key) → is_linked before one self.new ≡ (not (is_link_for before one earlier own) && is_linked before one self.old) }
+        ensures { (before one : Key) → is_linked before one self.new
+            ≡ (not (is_link_for before one earlier own) && is_linked before one self.old) }
     {
         if let Some(key) = earlier {
             self.cut(key, own);
@@ -85,7 +89,8 @@ impl Links {
     /// Puts the keys of all batches that wait for this one to the others. In time of the logarithm of the links for
     /// each of them.
     pub(crate) fn wake(&self, earlier: BatchKey, todo: &mut KeySet) -> Result<(), OutOfMemory>
-        ensures { OnOk result ((one : Key) → is_key_among one todo.new ≡ (is_key_among one todo.old || is_linked earlier one self.now)) }
+        ensures { OnOk result ((one : Key) → is_key_among one todo.new
+            ≡ (is_key_among one todo.old || is_linked earlier one self.now)) }
     {
         let own = BatchKey {
             version: 0,

@@ -59,11 +59,16 @@ fn key_before(key: BatchKey) -> Option<BatchKey>
 /// both are as they were.
 fn put_in(messages: &mut Messages, links: &mut Links, message: Message) -> Result<(), OutOfMemory>
     requires new { message_at message.batch.key messages.old ≡ None }
-    requires loose { (before one : Key) → (is_link_for before one (earlier message.batch) message.batch.key && is_linked before one links.old) ≡ false }
+    requires loose { (before one : Key)
+        → (is_link_for before one (earlier message.batch) message.batch.key
+        && is_linked before one links.old) ≡ false }
     ensures messages { OnOk result (messages.new ≡ put_off message messages.old) }
-    ensures links { OnOk result ((before one : Key) → is_linked before one links.new ≡ (is_link_for before one (earlier message.batch) message.batch.key || is_linked before one links.old)) }
+    ensures links { OnOk result ((before one : Key) → is_linked before one links.new
+        ≡ (is_link_for before one (earlier message.batch) message.batch.key
+        || is_linked before one links.old)) }
     ensures messages_err { OnErr result (messages.new ≡ messages.old) }
-    ensures links_err { OnErr result ((before one : Key) → is_linked before one links.new ≡ is_linked before one links.old) }
+    ensures links_err { OnErr result ((before one : Key) → is_linked before one links.new
+        ≡ is_linked before one links.old) }
 {
     let own = message.batch.key;
     let earlier = earlier_key(&message.batch);
@@ -193,7 +198,10 @@ impl Shelf {
         second: Option<&Batch>,
         todo: &mut KeySet,
     ) -> Result<(), OutOfMemory>
-        ensures woken { OnOk result ((one : Key) → is_key_among one todo.new ≡ (is_key_among one todo.old || is_woken (batch.now ∷ option_to_list (option_copied second.entry)) one self.now)) }
+        ensures woken { OnOk result
+            ((one : Key) → is_key_among one todo.new
+            ≡ (is_key_among one todo.old
+            || is_woken (batch.now ∷ option_to_list (option_copied second.entry)) one self.now)) }
         ensures waiting { AreWaiting self.now }
     {
         self.links.wake(batch.key, todo)?;
@@ -211,15 +219,20 @@ impl Shelf {
         batch: &Batch,
         second: Option<&Batch>,
     ) -> Result<Option<BatchKey>, OutOfMemory>
-        ensures some { IfOk result (λ found. IfSome found (λ key. is_woken (batch.now ∷ option_to_list (option_copied second.entry)) key self.now ≡ true)) }
-        ensures none { IfOk result (λ found. IfNone found (AllByRecursion (λ sent. waits_for (batch.now ∷ option_to_list (option_copied second.entry)) sent ≡ false) self.now)) }
+        ensures some { IfOk result (λ found.
+            IfSome found (λ key. is_woken
+            (batch.now ∷ option_to_list (option_copied second.entry)) key self.now ≡ true)) }
+        ensures none { IfOk result (λ found.
+            IfNone found (AllByRecursion (λ sent.
+            waits_for (batch.now ∷ option_to_list (option_copied second.entry)) sent
+            ≡ false) self.now)) }
     {
         let mut woken = KeySet::new(alloc);
         self.wake(batch, second, &mut woken)?;
         Ok(woken.take_least())
     }
 
-    /// Takes out what waits for the message, directly or not: the message, and behind it what it frees, in key order.
+    /// Takes out what waits for the message, directly or not: the message, and after it what it frees, in key order.
     /// For want of memory some of it is lost.
     pub(crate) fn free(
         &mut self,

@@ -42,7 +42,9 @@ impl Shortcuts {
 
     /// Gives the key a shortcut in place of the one that it has.
     pub(crate) fn set(&mut self, key: BatchKey, to: BatchKey) -> Result<(), OutOfMemory>
-        ensures ok { OnOk result ((one : Key) → shortcut_at one self.new ≡ (if key_eq key one then Some to else shortcut_at one self.old)) }
+        ensures ok { OnOk result
+            ((one : Key) → shortcut_at one self.new
+            ≡ (if key_eq key one then Some to else shortcut_at one self.old)) }
         ensures err { OnErr result (self.new ≡ self.old) }
     {
         self.map.insert(key, to)?;
@@ -51,7 +53,8 @@ impl Shortcuts {
 
     /// Takes the key's shortcut out.
     pub(crate) fn forget(&mut self, key: BatchKey)
-        ensures { (one : Key) → shortcut_at one self.new ≡ (if key_eq key one then None else shortcut_at one self.old) }
+        ensures { (one : Key) → shortcut_at one self.new
+            ≡ (if key_eq key one then None else shortcut_at one self.old) }
     {
         self.map.remove(&key);
     }

@@ -147,7 +147,7 @@ impl Waiting {
         Ok(())
     }
 
-    /// Takes out what waits for the message, which becomes learned, directly or not: the message, and behind it what
+    /// Takes out what waits for the message, which becomes learned, directly or not: the message, and after it what
     /// it frees, in key order; all others stay. In time of the logarithm of the messages for each that is freed. For
     /// want of memory some that would be freed may be lost, and with them the message.
     pub fn free(&mut self, alloc: Global, message: Message) -> Result<Vec<Message>, OutOfMemory>
@@ -171,8 +171,13 @@ impl Waiting {
         batch: &Batch,
         second: Option<&Batch>,
     ) -> Result<Option<BatchKey>, OutOfMemory>
-        ensures some { IfOk result (λ found. IfSome found (λ key. is_woken (batch.now ∷ option_to_list (option_copied second.entry)) key self.now ≡ true)) }
-        ensures none { IfOk result (λ found. IfNone found (AllByRecursion (λ sent. waits_for (batch.now ∷ option_to_list (option_copied second.entry)) sent ≡ false) self.now)) }
+        ensures some { IfOk result (λ found.
+            IfSome found (λ key. is_woken
+            (batch.now ∷ option_to_list (option_copied second.entry)) key self.now ≡ true)) }
+        ensures none { IfOk result (λ found.
+            IfNone found (AllByRecursion (λ sent.
+            waits_for (batch.now ∷ option_to_list (option_copied second.entry)) sent
+            ≡ false) self.now)) }
     {
         match &self.held {
             None => Ok(None),
@@ -196,7 +201,9 @@ impl Waiting {
     /// Of each batch that is put off, those that are carried too, in key order, what it misses. In time of the
     /// batches times the logarithm of them.
     pub fn all_missing(&self, alloc: Global) -> Result<Vec<PutOff>, OutOfMemory>
-        ensures { IfOk result (λ list. map (λ one. (one.key, Some one.missing)) list.items ≡ all_missing (batches_of self.now)) }
+        ensures { IfOk result (λ list.
+            map (λ one. (one.key, Some one.missing)) list.items
+            ≡ all_missing (batches_of self.now)) }
     {
         match &self.held {
             None => Ok(Vec::new(alloc)),

@@ -22,7 +22,7 @@ replay-append s (event ∷ front) rest = by (applied s event) (λ next. replay-a
     by (Ok next) tail = tail next
     by (Err error) tail = refl
 
--- the first event of a replay is allowed, and the others replay behind it
+-- the first event of a replay is allowed, and the others replay after it
 pub replay-cons : (s t : StateValue) (event : Event) (events : List Event) → replay s (event ∷ events) ≡ Ok t → (rule_of s event ≡ None) × (replay (after s event) events ≡ Ok t)
 replay-cons s t event events h = by (applied s event) refl h
   where

@@ -14,7 +14,7 @@ drop_end [] (suc i) h = refl
 drop_end (y ∷ ys) zero h = absurd (cc)
 drop_end (y ∷ ys) (suc i) h = drop_end ys i h
 
--- one more entry, printed behind a comma
+-- one more entry, printed after a comma
 pub further_text-one : (text more : List ℕ) (xs : List Pending) (i : ℕ) (x : Pending) → slice_get xs i ≡ Some x → more ≡ text ++ (44 ∷ pending_text x)
     → more ++ further_text (drop (i + 1) xs) ≡ text ++ further_text (drop i xs)
 further_text-one text more xs i x h e =

@@ -18,7 +18,7 @@ abbrev pub replay : StateValue → List Event → Result StateValue StateError
 replay s [] = Ok s
 replay s (event ∷ events) = applied s event >>= (λ next. replay next events)
 
--- these events, behind those that gave a state or were forbidden
+-- these events, after those that gave a state or were forbidden
 abbrev pub replay_on : Result StateValue StateError → List Event → Result StateValue StateError
 replay_on before events = before >>= (λ s. replay s events)
 

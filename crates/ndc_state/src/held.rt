@@ -68,7 +68,8 @@ fn keep(
     count: usize,
     started: &[usize],
 ) -> Result<(), OutOfMemory>
-    ensures ok { OnOk result (IsKeptAs kept.new (marked_of kept.old count started.now entries.now.entries)) }
+    ensures ok { OnOk result
+        (IsKeptAs kept.new (marked_of kept.old count started.now entries.now.entries)) }
     ensures err { OnErr result (kept.new ≡ kept.old) }
 {
     if kept.is_some() {
@@ -92,8 +93,10 @@ fn make_way(
     name: &Name,
 ) -> Result<(), OutOfMemory>
     requires { IsCountWithin kept.old count entries.old.entries }
-    ensures current { remaining removed.new.keys entries.new.entries ≡ remaining removed.old.keys entries.old.entries }
-    ensures marked { marked_of kept.new count started.now entries.new.entries ≡ marked_of kept.old count started.now entries.old.entries }
+    ensures current { remaining removed.new.keys entries.new.entries
+        ≡ remaining removed.old.keys entries.old.entries }
+    ensures marked { marked_of kept.new count started.now entries.new.entries
+        ≡ marked_of kept.old count started.now entries.old.entries }
     ensures within { IsCountWithin kept.new count entries.new.entries }
     ensures ok { OnOk result (is_gone removed.new.keys name.now ≡ false) }
 {
@@ -164,7 +167,8 @@ impl Held {
     /// Notes that the event starts the name.
     pub(crate) fn start(&mut self, name: &Name, id: u64) -> Result<(), OutOfMemory>
         requires { IsTrue (is_waiting (pending_of name.now self.old.current)) }
-        ensures current { OnOk result (self.new.current ≡ with_started name.now id self.old.current) }
+        ensures current { OnOk result
+            (self.new.current ≡ with_started name.now id self.old.current) }
         ensures marked { self.new.marked ≡ self.old.marked }
         ensures err { OnErr result (self.new ≡ self.old) }
     {

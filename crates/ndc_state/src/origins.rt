@@ -131,7 +131,9 @@ impl Origins {
 
     /// Lists the origin of the event, where it is a signal.
     fn collect_one(&mut self, run: RunId, event: &Event) -> Result<(), OutOfMemory>
-        ensures current { OnOk result (self.new.current ≡ collected_by run event.now.id event.now.version event.now.kind self.old.current) }
+        ensures current { OnOk result
+            (self.new.current ≡ collected_by run event.now.id event.now.version event.now.kind
+            self.old.current) }
         ensures marked { self.new.marked ≡ self.old.marked }
     {
         match &event.kind {

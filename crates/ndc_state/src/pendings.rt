@@ -92,7 +92,8 @@ impl Pendings {
     /// Notes that the event starts the name.
     pub(crate) fn start(&mut self, name: &Name, id: u64) -> Result<(), OutOfMemory>
         requires { IsTrue (is_waiting (pending_of name.now self.old.current)) }
-        ensures current { OnOk result (self.new.current ≡ with_started name.now id self.old.current) }
+        ensures current { OnOk result
+            (self.new.current ≡ with_started name.now id self.old.current) }
         ensures marked { self.new.marked ≡ self.old.marked }
         ensures err { OnErr result (self.new ≡ self.old) }
     {

@@ -39,7 +39,8 @@ pub(crate) fn keep_remaining(entries: &mut IndexMap<Name, Pending>, removed: &In
     }
     entries.retain(
         |name: &Name, pending: &mut Pending| -> bool
-            ensures { (result ≡ not (is_gone removed.entry.now.keys name.now)) × (pending.new ≡ pending.old) }
+            ensures { (result ≡ not (is_gone removed.entry.now.keys name.now))
+                × (pending.new ≡ pending.old) }
         { !is_gone(removed, name) },
     );
 }
@@ -63,7 +64,8 @@ fn unless_gone(
     removed: &IndexSet<Name>,
     place: usize,
 ) -> Option<Pending>
-    ensures { values_from place removed.now.keys entries.now.entries ≡ cons_option result (values_from (suc place) removed.now.keys entries.now.entries) }
+    ensures { values_from place removed.now.keys entries.now.entries
+        ≡ cons_option result (values_from (suc place) removed.now.keys entries.now.entries) }
 {
     let (name, pending) = entries.get_index(place)?;
     if is_gone(removed, name) {
@@ -104,7 +106,8 @@ pub(crate) fn remaining_at(
     removed: &IndexSet<Name>,
     place: usize,
 ) -> Option<Pending>
-    ensures { result ≡ slice_get (values_of (remaining removed.now.keys entries.now.entries)) place }
+    ensures { result ≡ slice_get
+        (values_of (remaining removed.now.keys entries.now.entries)) place }
 {
     if are_none(removed) {
         return at(entries, place);

@@ -71,7 +71,8 @@ impl State {
         ensures answer { Gives Memory (λ _. self.new) result (replay self.old events.now) }
         ensures err { OnErr result (self.new ≡ self.old) }
         ensures ok_steps { OnOk result (steps.new ≡ counted steps.old (length events.now)) }
-        ensures steps { result ≢ Err Memory → steps.new ≡ counted steps.old (allowed_count self.old events.now) }
+        ensures steps { result ≢ Err Memory
+            → steps.new ≡ counted steps.old (allowed_count self.old events.now) }
         ensures most_steps { CountsWithin steps.old (allowed_count self.old events.now) steps.new }
     {
         self.tracked.step_all(events, steps)
@@ -214,10 +215,13 @@ impl State {
         self.tracked.try_copy_without_origins()
     }
 
-    /// Lists the origins of the signals among the events behind those that are listed; one that is listed
+    /// Lists the origins of the signals among the events after those that are listed; one that is listed
     /// already stays where it is. Nothing else of the state changes. For want of memory it is unchanged.
     pub fn collect_origins(&mut self, events: &[Event]) -> Result<(), OutOfMemory>
-        ensures ok { OnOk result (self.new ≡ record self.old { origins = collected self.old.run self.old.origins events.now }) }
+        ensures ok { OnOk result
+            (self.new ≡ record self.old {
+              origins = collected self.old.run self.old.origins events.now;
+            }) }
         ensures err { OnErr result (self.new ≡ self.old) }
     {
         self.tracked.collect(events)

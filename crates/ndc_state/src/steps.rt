@@ -31,7 +31,7 @@ impl<L> Steps<L> {
         }
     }
 
-    /// How many steps were taken; 2^64 - 1 also stands for more.
+    /// How many steps were taken; 2^64 - 1 also means more.
     pub fn taken(&self) -> u64
         ensures { result ≡ self.now }
     {

@@ -261,7 +261,8 @@ impl Tracked {
     #[tactic(auto, unfolding(crate::specs::Table::row))]
     fn change(&mut self, event: &Event) -> Result<(), OutOfMemory>
         requires { (row_at self.old.current event.now).own ≡ None }
-        ensures current { OnOk result (self.new.current ≡ (row_at self.old.current event.now).effect) }
+        ensures current { OnOk result
+            (self.new.current ≡ (row_at self.old.current event.now).effect) }
         ensures marked { self.new.marked ≡ self.old.marked }
         ensures err { OnErr result (self.new ≡ self.old) }
     {
@@ -381,7 +382,8 @@ impl Tracked {
     /// [`State::apply`]: crate::State::apply
     pub(crate) fn apply<L>(&mut self, event: &Event, steps: &mut Steps<L>) -> Result<(), StateError>
         requires { event.now.id ≤ 10 ^ 12 }
-        ensures answer { Gives Memory (λ _. self.new.current) result (applied self.old.current event.now) }
+        ensures answer { Gives Memory (λ _. self.new.current) result
+            (applied self.old.current event.now) }
         ensures marked { self.new.marked ≡ self.old.marked }
         ensures err { OnErr result (self.new ≡ self.old) }
         ensures steps { steps.new ≡ (if is_ok result then counted steps.old 1 else steps.old) }
@@ -401,12 +403,15 @@ impl Tracked {
     /// marked one, as for want of memory, and the steps of the events before it stay counted.
     pub fn apply_all<L>(&mut self, events: &[Event], steps: &mut Steps<L>) -> Result<(), StateError>
         requires { All (λ event. event.id ≤ 10 ^ 12) events.now }
-        ensures answer { Gives Memory (λ _. self.new.current) result (replay self.old.current events.now) }
+        ensures answer { Gives Memory (λ _. self.new.current) result
+            (replay self.old.current events.now) }
         ensures marked { self.new.marked ≡ self.old.marked }
         ensures err { OnErr result (self.new.current ≡ self.old.marked) }
         ensures ok_steps { OnOk result (steps.new ≡ counted steps.old (length events.now)) }
-        ensures steps { result ≢ Err Memory → steps.new ≡ counted steps.old (allowed_count self.old.current events.now) }
-        ensures most_steps { CountsWithin steps.old (allowed_count self.old.current events.now) steps.new }
+        ensures steps { result ≢ Err Memory
+            → steps.new ≡ counted steps.old (allowed_count self.old.current events.now) }
+        ensures most_steps { CountsWithin steps.old
+            (allowed_count self.old.current events.now) steps.new }
     {
         for event in events {
             if let Err(error) = self.apply(event, steps) {
@@ -424,11 +429,14 @@ impl Tracked {
         steps: &mut Steps<L>,
     ) -> Result<(), StateError>
         requires { All (λ event. event.id ≤ 10 ^ 12) events.now }
-        ensures answer { Gives Memory (λ _. self.new.current) result (replay self.old.current events.now) }
+        ensures answer { Gives Memory (λ _. self.new.current) result
+            (replay self.old.current events.now) }
         ensures err { OnErr result (self.new.current ≡ self.old.current) }
         ensures ok_steps { OnOk result (steps.new ≡ counted steps.old (length events.now)) }
-        ensures steps { result ≢ Err Memory → steps.new ≡ counted steps.old (allowed_count self.old.current events.now) }
-        ensures most_steps { CountsWithin steps.old (allowed_count self.old.current events.now) steps.new }
+        ensures steps { result ≢ Err Memory
+            → steps.new ≡ counted steps.old (allowed_count self.old.current events.now) }
+        ensures most_steps { CountsWithin steps.old
+            (allowed_count self.old.current events.now) steps.new }
     {
         self.mark();
         self.apply_all(events, steps)?;
@@ -436,9 +444,12 @@ impl Tracked {
         Ok(())
     }
 
-    /// Lists the origins of the signals among the events behind those listed, or goes back to where it was.
+    /// Lists the origins of the signals among the events after those listed, or goes back to where it was.
     pub(crate) fn collect(&mut self, events: &[Event]) -> Result<(), OutOfMemory>
-        ensures ok { OnOk result (self.new.current ≡ record self.old.current { origins = collected self.old.current.run self.old.current.origins events.now }) }
+        ensures ok { OnOk result
+            (self.new.current ≡ record self.old.current {
+              origins = collected self.old.current.run self.old.current.origins events.now;
+            }) }
         ensures err { OnErr result (self.new.current ≡ self.old.current) }
     {
         self.origins.collect(self.outline.run, events)
@@ -446,7 +457,8 @@ impl Tracked {
 
     /// The same state, with these origins.
     fn with_origins(&self, origins: Origins) -> Result<Tracked, OutOfMemory>
-        ensures { IfOk result (λ copy. copy.current ≡ record self.now.current { origins = origins.current }) }
+        ensures { IfOk result (λ copy.
+            copy.current ≡ record self.now.current { origins = origins.current }) }
     {
         Ok(Tracked {
             outline: self.outline,

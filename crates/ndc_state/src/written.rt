@@ -26,7 +26,8 @@ impl State {
         version: u64,
         kinds: &mut Vec<EventKind>,
     ) -> Result<(), OutOfMemory>
-        ensures ok { OnOk result (kinds.new.items ≡ kinds.old.items ++ failover_close self.now version) }
+        ensures ok { OnOk result
+            (kinds.new.items ≡ kinds.old.items ++ failover_close self.now version) }
     {
         if self.is_failover_close_due(version) {
             kinds.push(EventKind::DecisionTaskFailed {

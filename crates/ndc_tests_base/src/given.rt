@@ -13,7 +13,7 @@ pub(crate) struct Test;
 const FIRST: &str =
     "{\"domain\":\"alpha\",\"events\":[{\"eventId\":1,\"eventType\":\"WorkflowExecutionStarted\",\"version\":1,\"workflowType\":\"order\"},{\"eventId\":2,\"eventType\":\"DecisionTaskScheduled\",\"version\":1}],\"parent\":null,\"run\":\"00000000-0000-0001-0000-000000000001\",\"task\":1,\"version\":1,\"workflow\":\"w1\"}";
 
-/// The text of one with a signal, behind it.
+/// The text of one with a signal, after it.
 const SECOND: &str =
     "{\"domain\":\"alpha\",\"events\":[{\"eventId\":3,\"eventType\":\"WorkflowExecutionSignaled\",\"input\":\"x\",\"signalName\":\"ping\",\"version\":1}],\"parent\":{\"task\":1,\"version\":1},\"run\":\"00000000-0000-0001-0000-000000000001\",\"task\":2,\"version\":1,\"workflow\":\"w1\"}";
 
@@ -35,7 +35,7 @@ pub(crate) fn batch(alloc: Global, text: &str) -> Result<Batch, OutOfMemory>
     if is_small { Ok(batch) } else { Err(AllocError) }
 }
 
-/// The batches of a run that forks: the third goes on behind the first. They are let go in one place.
+/// The batches of a run that forks: the third goes on after the first. They are let go in one place.
 pub(crate) struct ForkedRun {
     pub first: Batch,
     pub second: Batch,

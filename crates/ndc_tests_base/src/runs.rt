@@ -22,7 +22,7 @@ const COPIED: &str =
 const FALSE_INPUT: &str =
     "{\"domain\":\"alpha\",\"events\":[{\"eventId\":1,\"eventType\":\"WorkflowExecutionStarted\",\"version\":2,\"workflowType\":\"order\"},{\"eventId\":2,\"eventType\":\"WorkflowExecutionSignaled\",\"input\":\"y\",\"origin\":{\"event\":2,\"run\":\"00000000-0000-0001-0000-000000000001\",\"version\":1},\"signalName\":\"ping\",\"version\":2}],\"parent\":null,\"run\":\"00000000-0000-0002-0000-000000000002\",\"task\":2,\"version\":2,\"workflow\":\"w1\"}";
 
-/// The same, of an event that is no signal.
+/// The same, of an event that is not a signal.
 const FALSE_ORIGIN: &str =
     "{\"domain\":\"alpha\",\"events\":[{\"eventId\":1,\"eventType\":\"WorkflowExecutionStarted\",\"version\":2,\"workflowType\":\"order\"},{\"eventId\":2,\"eventType\":\"WorkflowExecutionSignaled\",\"input\":\"x\",\"origin\":{\"event\":1,\"run\":\"00000000-0000-0001-0000-000000000001\",\"version\":1},\"signalName\":\"ping\",\"version\":2}],\"parent\":null,\"run\":\"00000000-0000-0002-0000-000000000002\",\"task\":2,\"version\":2,\"workflow\":\"w1\"}";
 
@@ -83,7 +83,7 @@ fn admit_text(runs: &mut Runs, alloc: Global, text: &str) -> Result<Learned, Mis
     admit(runs, alloc, &batch, &mut steps)
 }
 
-// What becomes of the batch of a text behind one that is learned.
+// What becomes of the batch of a text after one that is learned.
 fn behind(alloc: Global, first: &str, text: &str) -> Result<Learned, Misfit> {
     let mut runs = Runs::new(alloc);
     admit_text(&mut runs, alloc, first)?;

@@ -5,7 +5,7 @@ use ndc_tree::{Inserted, Tree, TreeError};
 use std::alloc::Global;
 use std::test::Fail;
 
-// A run of three batches, of which the third forks off behind the first, and what became of that one.
+// A run of three batches, of which the third forks off after the first, and what became of that one.
 fn forked(alloc: Global) -> Result<(Tree, Inserted), TreeError> {
     let batches = given::forked(alloc)?;
     let mut tree = Tree::new(alloc, RunId::of(key(1, 1)));

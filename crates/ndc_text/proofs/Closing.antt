@@ -1,4 +1,4 @@
--- Where the text of an object ends: at the brace that closes it. So no proper front of the text of an object is the text of one.
+-- Where the text of an object ends: at the brace that closes it. So no proper prefix of the text of an object is the text of one.
 use Rattle.std.proofs.Common.{◌≡◌, ℕ, zero, suc, ◌<◌, ◌≤◌, ◌==◌, Bool, true, false, ◌&&◌, ◌||◌, List, [], ◌∷◌, ◌++◌, Some, None, Option, unwrap_or, decimal, inl, inr, refl, sym, ap, ◌∙◌, arith, append-nil, append_assoc}
 use Rattle.std.specs.Prelude.{if◌then◌else◌}
 use Rattle.std.specs.Char.{digit_value}
@@ -22,7 +22,7 @@ abbrev closed : ℕ → List ℕ → (ℕ → Option (List ℕ)) → Option (Lis
 closed zero rest go = Some rest
 closed (suc n) rest go = go n
 
--- what stands behind the bracket that closes the outermost one, where n others are open in it
+-- what stands after the bracket that closes the outermost one, where n others are open in it
 rest_after : Place → ℕ → List ℕ → Option (List ℕ)
 rest_after outside n [] = None
 rest_after outside n (b ∷ bs) =
@@ -148,7 +148,7 @@ mutual
 
 -- ---- the end of an object's text
 
--- what stands behind the object that the text begins with
+-- what stands after the object that the text begins with
 abbrev behind : List ℕ → Option (List ℕ)
 behind [] = None
 behind (b ∷ bs) = rest_after outside 0 bs

@@ -3,11 +3,11 @@ use Rattle.std.proofs.Common.{◌≡◌, ℕ, ◌+◌, ◌<◌, List, ◌++◌, 
 use Rattle.std.proofs.lemmas.List.{at_drop_more}
 use Rattle.std.specs.List.{flat_map}
 
--- three pieces behind one
+-- three pieces after one
 four : (old one a b c : List ℕ) → (((old ++ one) ++ a) ++ b) ++ c ≡ old ++ (((one ++ a) ++ b) ++ c)
 four old one a b c = simp append_assoc
 
--- where one piece was printed, and three behind it, all were
+-- where one piece was printed, and three after it, all were
 pub behind_one : {T E : Type 0} (r : Result T E) (old one a b c now new : List ℕ) → now ≡ old ++ one
     → OnOk r (new ≡ ((now ++ a) ++ b) ++ c) → OnOk r (new ≡ old ++ (((one ++ a) ++ b) ++ c))
 behind_one (Ok x) old one a b c now new e f = f ∙ ap (λ (z : List ℕ). ((z ++ a) ++ b) ++ c) e ∙ four old one a b c
@@ -22,7 +22,7 @@ printed_more f xs i x old now new below is e h =
     ∙ ap (λ y. now ++ (f y ++ flat_map f (drop (i + 1) xs))) is
     ∙ sym (ap (λ (z : List ℕ). now ++ z) (at_drop_more (flat_map f) xs i x below)) ∙ h
 
--- six pieces behind one
+-- six pieces after one
 pub behind_six : (old one a b c d e f now new : List ℕ) → now ≡ old ++ one → new ≡ (((((now ++ a) ++ b) ++ c) ++ d) ++ e) ++ f
     → new ≡ old ++ ((((((one ++ a) ++ b) ++ c) ++ d) ++ e) ++ f)
 behind_six old one a b c d e f now new g h = h ∙ ap (λ (z : List ℕ). (((((z ++ a) ++ b) ++ c) ++ d) ++ e) ++ f) g ∙ simp append_assoc

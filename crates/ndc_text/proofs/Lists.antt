@@ -1,9 +1,9 @@
--- Lists: one that was read behind what stands before it, and a test over a mapped list.
+-- Lists: one that was read after what stands before it, and a test over a mapped list.
 use Rattle.std.proofs.Common.{◌≡◌, Bool, ◌||◌, List, [], ◌∷◌, ◌++◌, map, Result, Ok, Err, refl, ap}
 use Rattle.std.specs.List.{list_any}
 use Rattle.ndc_text.specs.declared.error.TextError.{TextError}
 
--- the list that was read, behind the front
+-- the list that was read, after the prefix
 abbrev pub with_front : {A : Type 0} → List A → Result (List A) TextError → Result (List A) TextError
 with_front front (Ok xs) = Ok (front ++ xs)
 with_front front (Err e) = Err e

@@ -23,7 +23,7 @@ by_test bytes false e h = refl
 pub json_none : (bytes : List ℕ) → (IsUtf8 bytes → read bytes ≡ None) → json_at bytes ≡ Err NotJson
 json_none bytes h = by_test bytes (is_utf8 bytes) refl h
 
--- a text that does not parse is no run
+-- a text that does not parse is not a run
 pub run_none : (o : Option (List ℕ)) → ((u : List ℕ) × (o ≡ Some u) → false ≡ true) → run_from o ≡ Err Range
 run_none None h = refl
 run_none (Some u) h = absurd (true≢false (sym (h (u, refl))))

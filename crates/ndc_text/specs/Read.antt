@@ -1,4 +1,4 @@
--- The batch that a text is, or why it is none.
+-- The batch that a text is, or why it is not one.
 use Rattle.std.specs.Prelude.{ℕ, List, Option, Some, None, Result, Ok, Err, if◌then◌else◌}
 use Rattle.std.specs.Str.{bytes_eq, is_utf8}
 use Rattle.serde_json.specs.Data.{Data}

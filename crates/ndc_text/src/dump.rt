@@ -29,7 +29,8 @@ pub fn push_heading(
 
 /// Appends the text of a batch as a line.
 fn push_batch(alloc: Global, text: &mut Vec<u8>, batch: &Batch) -> Result<(), OutOfMemory>
-    ensures { OnOk result (text.new.items ≡ text.old.items ++ (batch_text batch.now ++ codes "\n")) }
+    ensures { OnOk result (text.new.items
+        ≡ text.old.items ++ (batch_text batch.now ++ codes "\n")) }
 {
     text.extend_from_slice(print_batch(alloc, batch)?.as_slice())?;
     text.extend_from_slice(b"\n")
@@ -56,7 +57,8 @@ fn push_branch(text: &mut Vec<u8>, branch: &BranchView) -> Result<(), OutOfMemor
 
 /// Appends branches with their states.
 fn push_branches(text: &mut Vec<u8>, branches: &[BranchView]) -> Result<(), OutOfMemory>
-    ensures { OnOk result (text.new.items ≡ text.old.items ++ flat_map branch_state_lines branches.now) }
+    ensures { OnOk result (text.new.items
+        ≡ text.old.items ++ flat_map branch_state_lines branches.now) }
 {
     for branch in branches {
         push_branch(text, branch)?;
@@ -109,7 +111,8 @@ pub fn bare_text(
     workflow: &Name,
     batches: &[&Batch],
 ) -> Result<Vec<u8>, OutOfMemory>
-    ensures { IfOk result (λ text. text.items ≡ bare_text domain.now workflow.now (map (λ b. b.now) batches.now)) }
+    ensures { IfOk result (λ text.
+        text.items ≡ bare_text domain.now workflow.now (map (λ b. b.now) batches.now)) }
 {
     let mut text = Vec::new(alloc);
     push_heading(&mut text, b"dump 2 ".as_slice(), domain, workflow)?;

@@ -18,7 +18,7 @@ pub enum TextError {
     /// An object has a key that does not belong there.
     #[error("there is a key too many")]
     ExtraKey,
-    /// An event id or a task is not 1 to 10^12, a version is above 10^13, a text is no name or no run's id, or
+    /// An event id or a task is not 1 to 10^12, a version is above 10^13, a text is not a name or not a run's id, or
     /// there is no such kind of event.
     #[error("a member is out of its range")]
     Range,

@@ -33,7 +33,8 @@ pub fn key_at(value: &Value) -> Result<BatchKey, TextError>
 
 /// One, where it is there.
 pub fn key_from(value: Option<&Value>) -> Result<Option<BatchKey>, TextError>
-    ensures { Gives Memory (λ key. key) result (key_from (option_map (λ v. view v.now) value.entry)) }
+    ensures { Gives Memory (λ key.
+        key) result (key_from (option_map (λ v. view v.now) value.entry)) }
 {
     match value {
         Some(value) => Ok(Some(key_at(value)?)),

@@ -48,7 +48,7 @@ pub fn one_batch_of_a_text()
     ensures { (b c : Batch) → InRange b → InRange c → batch_text b ≡ batch_text c → b ≡ c }
 {}
 
-/// No proper front of the text of a batch is the text of a batch.
+/// No proper prefix of the text of a batch is the text of a batch.
 pub fn no_text_goes_on()
     ensures { (b c : Batch) (rest : List ℕ) → InRange b → InRange c
         → batch_text b ++ rest ≡ batch_text c → rest ≡ [] }

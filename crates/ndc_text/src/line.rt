@@ -34,7 +34,7 @@ pub fn push_item(text: &mut Vec<u8>, item: Item) -> Result<(), OutOfMemory>
     push_number(text, item.version)
 }
 
-/// Appends items, each behind a comma.
+/// Appends items, each after a comma.
 fn push_further(text: &mut Vec<u8>, items: &[Item]) -> Result<(), OutOfMemory>
     ensures { OnOk result (text.new.items ≡ text.old.items ++ further (map item_text items.now)) }
 {
@@ -47,7 +47,8 @@ fn push_further(text: &mut Vec<u8>, items: &[Item]) -> Result<(), OutOfMemory>
 
 /// Appends items with commas between them.
 fn push_items(text: &mut Vec<u8>, items: &[Item]) -> Result<(), OutOfMemory>
-    ensures { OnOk result (text.new.items ≡ text.old.items ++ with_commas (map item_text items.now)) }
+    ensures { OnOk result (text.new.items
+        ≡ text.old.items ++ with_commas (map item_text items.now)) }
 {
     match items {
         [] => Ok(()),
@@ -128,7 +129,8 @@ pub fn push_branch_line(text: &mut Vec<u8>, branch: &BranchView) -> Result<(), O
 
 /// Appends the line of a state.
 pub fn push_state_line(text: &mut Vec<u8>, state: &State) -> Result<(), OutOfMemory>
-    ensures { OnOk result (text.new.items ≡ text.old.items ++ codes "state " ++ state_text state.now ++ codes "\n") }
+    ensures { OnOk result (text.new.items ≡ text.old.items ++ codes "state " ++ state_text state.now
+        ++ codes "\n") }
 {
     text.extend_from_slice(b"state ")?;
     text.extend_from_slice(state.text()?.as_slice())?;

@@ -103,7 +103,8 @@ pub fn text_at<'v>(value: &'v Value, key: &str) -> Result<&'v str, TextError>
 
 /// The items of the array at the key.
 pub fn items_at<'v>(value: &'v Value, key: &str) -> Result<&'v [Value], TextError>
-    ensures { Gives Memory (λ items. items_view items.now) result (items_at key.now (view value.now)) }
+    ensures { Gives Memory (λ items. items_view items.now) result
+        (items_at key.now (view value.now)) }
 {
     match value.get(key).and_then(Value::as_array) {
         Some(items) => Ok(items.as_slice()),

@@ -177,7 +177,8 @@ fn read_of(alloc: Global, form: TextForm, bytes: &[u8]) -> Result<Batch, TextErr
 #[tactic(auto, using(crate::proofs::Exact::found, crate::proofs::Exact::text_again))]
 pub fn read_batch(alloc: Global, bytes: &[u8]) -> Result<Batch, TextError>
     ensures gives { Gives Memory (λ batch. batch) result (read_of Two bytes.now) }
-    ensures found { IfOk result (λ b. InRange b × (bytes.now ≡ batch_text b) × (fault_of b ≡ None)) }
+    ensures found { IfOk result (λ b.
+        InRange b × (bytes.now ≡ batch_text b) × (fault_of b ≡ None)) }
     ensures only { (b : Batch) → InRange b → bytes.now ≡ batch_text b → fault_of b ≡ None
         → Gives Memory (λ batch. batch) result (Ok b) }
 {

@@ -9,7 +9,7 @@ use std::process::ExitCode;
 use std::thread::Threads;
 use std::{env, io};
 
-/// The words behind the program's name.
+/// The words after the program's name.
 fn words_of(rt: &HostRuntime) -> io::Result<Vec<String>> {
     let mut words = Vec::new(rt.alloc());
     for word in env::args(rt)?.skip(1) {
@@ -24,7 +24,7 @@ fn run<R: Threads + Sync>(rt: &HostRuntime, threads: &R) -> io::Result<u8> {
     let words = match words_of(rt) {
         Ok(words) => words,
         Err(error) if error.kind() == io::ErrorKind::OutOfMemory => return Err(error),
-        // Words that are no UTF-8 are refused like wrong ones.
+        // Words that are not UTF-8 are refused like wrong ones.
         Err(_) => Vec::new(alloc),
     };
     let mut indexers: Vec<Box<dyn Indexer>> = Vec::new(alloc);

@@ -42,7 +42,7 @@ if_demo (Some Inspect) P p = tt
 if_demo (Some (Make count seed)) P p = tt
 if_demo (Some (Demo count)) P p = p count
 
--- where nothing was written, what was written is a front of whatever was asked for
+-- where nothing was written, what was written is a prefix of whatever was asked for
 module _ (left before after : Option (List ℕ)) (n : ℕ) (same : after ≡ before) where
   pub run_front : (all : List IndexerValue) (asked : Option Asked) → IfRun asked (λ index late. n ≢ 0 → FrontOfReport all index late left before after)
   run_front all asked = if_run asked (λ index late. n ≢ 0 → FrontOfReport all index late left before after) (λ index late _. inl same)

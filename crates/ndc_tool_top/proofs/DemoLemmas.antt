@@ -36,7 +36,7 @@ totals-bare header w =
     (map-same (λ shard. totals_in (cells_of (bare w) shard)) (λ shard. totals_in (cells_of w shard))
     (λ shard. ap (λ (cells : List Cell). totals_in cells) (map-bare (λ cluster. cell_for shard cluster.cells) (λ cluster. refl) w.clusters)) (shards_of header))
 
--- and so do clusters that stand for it
+-- and so do clusters that represent it
 pub totals_stand : (header : Header) (v w : World) (reports : List (List Report)) → StandFor v reports w → totals_of header v ≡ totals_of header w
 totals_stand header v w reports stand = ap (totals_of header) stand.clusters ∙ totals-bare header w
 

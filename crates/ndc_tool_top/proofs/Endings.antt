@@ -23,7 +23,7 @@ some_weaker (Some bytes) P Q step p = step bytes p
 known-ok : {T E : Type 0} (r : Result T E) (x : T) (Q : T → Type 0) → r ≡ Ok x → Q x → IsOkAnd r Q
 known-ok r x Q is q = subst (λ (s : Result _ _). IsOkAnd s Q) (sym is) q
 
--- where nothing was written, a front of any text was
+-- where nothing was written, a prefix of any text was
 pub nothing_written : (before after : Option (List ℕ)) (text : List ℕ) → after ≡ before → AppendsFront before after text
 nothing_written before after text same = subst (λ (w : Option (List ℕ)). AppendsFront before w text) (sym same) (Sent_stop before before text text (Sent_start before text))
 
@@ -39,7 +39,7 @@ module _ (all : List IndexerValue) (index late : List Name) where
   read_fault old new fault.Limit same r = (r, same)
   read_fault old new fault.Memory same r = inl same
 
-  -- whatever the fault, a front of the report was written
+  -- whatever the fault, a prefix of the report was written
   pub front_end : (old new : Streams) (f : Fault) → RunFault all index late old new f → FrontOfReport all index late old.left old.written new.written
   front_end old new fault.Words r = inl r.1
   front_end old new (fault.Script line cause) r = inl r.1
@@ -63,7 +63,7 @@ module _ (all : List IndexerValue) (index late : List Name) where
         both None P Q R step p q = tt
         both (Some bytes) P Q R step p q = step bytes p q
 
-    -- a front of it was
+    -- a prefix of it was
     pub stops_within : ReportsFront script all index late before after → KeepsPromises script → StopsWithin all index late left before after
     stops_within front keeps =
         some_weaker left (λ bytes. (length bytes ≤ most_bytes) × (script_of bytes ≡ Ok script)) (λ bytes. (length bytes ≤ most_bytes) × IsOkAnd (script_of bytes) (λ s. ReportsFront s all index late before after × KeepsPromises s))

@@ -24,7 +24,7 @@ use Rattle.ndc_tool_top.specs.Asking.{IfDemo, IfMade}
 use Rattle.ndc_tool_top.specs.Demo.{SaysNumbers, SaysSame, answer_of, summary_line}
 use Rattle.ndc_tool_top.proofs.PlainLemmas.{generated_plain, is_burst}
 
--- a line that is no burst is one line in print, and has no numbers but its own
+-- a line that is not a burst is one line in print, and has no numbers but its own
 plain-numbers : (n : ℕ) (asked : Act) → is_burst asked ≡ false → act_numbered n asked ≡ asked
 plain-numbers n (act.Burst cluster jobs) e = absurd (cc)
 plain-numbers n other e = refl

@@ -13,12 +13,12 @@ abbrev pub is_burst : Act → Bool
 is_burst (act.Burst cluster jobs) = true
 is_burst _ = false
 
--- one of two lines that are no bursts
+-- one of two lines that are not bursts
 if-plain : (b : Bool) (one other : Act) → is_burst one ≡ false → is_burst other ≡ false → is_burst (if b then one else other) ≡ false
 if-plain true one other first second = first
 if-plain false one other first second = second
 
--- a line that is drawn is no burst
+-- a line that is drawn is not a burst
 move-plain : (draw kind : ℕ) → is_burst (drawn_move draw kind) ≡ false
 move-plain draw kind = if-plain (kind == 6) _ _ refl (if-plain (kind == 7) _ _ refl (if-plain (kind == 8) _ _ refl refl))
 

@@ -18,7 +18,7 @@ input_fault how old new (input.Line line cause) same r = (r, same)
 input_fault how old new (input.Key key cause) same r = (r, same)
 input_fault how old new input.Memory same r = same
 
--- whatever the fault, a front of what is shown was written
+-- whatever the fault, a prefix of what is shown was written
 pub shown_end : (how : ShownAs) (old new : Streams) (f : Fault) → ShowFault how old new f → ShowsFront how old.left old.written new.written
 shown_end how old new fault.Words r = absurd r
 shown_end how old new (fault.Script line cause) r = absurd r

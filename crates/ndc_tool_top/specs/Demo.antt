@@ -28,7 +28,7 @@ demo_text script = summary_line (summary_with (length (ran_of script)) (refused_
 abbrev pub SaysSame : Script → Type 0
 SaysSame script = (front : List ℕ) × (demo_text script ≡ front ++ codes " same yes\n")
 
--- its line shows so many answers, those of them that are refusals, and numbers that sum up the clusters behind the last line
+-- its line shows so many answers, those of them that are refusals, and numbers that sum up the clusters after the last line
 pub record SaysNumbers (answers : ℕ) (script : Script) : Type 0 where
   pub totals : Totals
   pub sums : SumsUp script.header (last_world script) totals

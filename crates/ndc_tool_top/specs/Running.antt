@@ -19,12 +19,12 @@ abbrev pub Succeeds : List IndexerValue → List Name → List Name → Option (
 Succeeds all index late left rest before after =
     IfSome left (λ bytes. (length bytes ≤ most_bytes) × (rest ≡ Some []) × IsOkAnd (script_of bytes) (λ script. Reports script all index late before after × KeepsPromises script))
 
--- a script was read, a front of its report was written, and what is promised of every script holds of it
+-- a script was read, a prefix of its report was written, and what is promised of every script holds of it
 abbrev pub StopsWithin : List IndexerValue → List Name → List Name → Option (List ℕ) → Option (List ℕ) → Option (List ℕ) → Type 0
 StopsWithin all index late left before after =
     IfSome left (λ bytes. (length bytes ≤ most_bytes) × IsOkAnd (script_of bytes) (λ script. ReportsFront script all index late before after × KeepsPromises script))
 
--- nothing was written, or a script was read, a front of its report was written, and what is promised holds of it
+-- nothing was written, or a script was read, a prefix of its report was written, and what is promised holds of it
 abbrev pub FrontOfReport : List IndexerValue → List Name → List Name → Option (List ℕ) → Option (List ℕ) → Option (List ℕ) → Type 0
 FrontOfReport all index late left before after = (after ≡ before) ⊎ StopsWithin all index late left before after
 
@@ -51,7 +51,7 @@ RunFault all index late old new fault.Write = Rose old.out_faults new.out_faults
 RunFault all index late old new fault.Limit = IfSome old.left (λ bytes. most_bytes < length bytes) × (new.written ≡ old.written)
 RunFault all index late old new fault.Memory = FrontOfReport all index late old.left old.written new.written
 
--- the line on a faulty script was written, or a front of it and a fault came
+-- the line on a faulty script was written, or a prefix of it and a fault came
 abbrev pub TellsError : Option (List ℕ) → Option (List ℕ) → ℕ → ℕ → ScriptError → Type 0
 TellsError before after faults_before faults_after (Refused line cause) = Tells before after faults_before faults_after (script_line line cause)
 TellsError before after faults_before faults_after Memory = ⊥

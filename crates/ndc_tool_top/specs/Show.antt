@@ -26,12 +26,12 @@ abbrev pub Shows : ShownAs → Option (List ℕ) → Option (List ℕ) → Optio
 Shows how left rest before after =
     IfSome left (λ bytes. (length bytes ≤ most_bytes) × (rest ≡ Some []) × IsOkAnd (dump_of bytes) (λ dump. Appends before after (shown_text how dump)))
 
--- a dump was read, and a front of what is shown of it was written
+-- a dump was read, and a prefix of what is shown of it was written
 abbrev pub StopsShowing : ShownAs → Option (List ℕ) → Option (List ℕ) → Option (List ℕ) → Type 0
 StopsShowing how left before after =
     IfSome left (λ bytes. (length bytes ≤ most_bytes) × IsOkAnd (dump_of bytes) (λ dump. AppendsFront before after (shown_text how dump)))
 
--- nothing was written, or a dump was read and a front of what is shown of it was written
+-- nothing was written, or a dump was read and a prefix of what is shown of it was written
 abbrev pub ShowsFront : ShownAs → Option (List ℕ) → Option (List ℕ) → Option (List ℕ) → Type 0
 ShowsFront how left before after = (after ≡ before) ⊎ StopsShowing how left before after
 

@@ -70,20 +70,20 @@ status_line status =
     else if status == 8 then Some (fault_line fault.Memory)
     else None
 
--- whatever the script was, a line on a faulty script was written, or a front of it and a fault came
+-- whatever the script was, a line on a faulty script was written, or a prefix of it and a fault came
 abbrev pub TellsSomeLine : Option (List ℕ) → Option (List ℕ) → ℕ → ℕ → Type 0
 TellsSomeLine before after faults_before faults_after = (line : ℕ) × (cause : ScriptCause) × Tells before after faults_before faults_after (script_line line cause)
 
--- the line on a faulty dump was written, or a front of it and a fault came
+-- the line on a faulty dump was written, or a prefix of it and a fault came
 abbrev pub TellsDumpError : Option (List ℕ) → Option (List ℕ) → ℕ → ℕ → DumpError → Type 0
 TellsDumpError before after faults_before faults_after error = TellsErrorAs (codes "ndc") before after faults_before faults_after error
 
--- whatever the dump was, a line on a faulty dump was written, or a front of it and a fault came
+-- whatever the dump was, a line on a faulty dump was written, or a prefix of it and a fault came
 abbrev pub TellsSomeCause : Option (List ℕ) → Option (List ℕ) → ℕ → ℕ → Type 0
 TellsSomeCause before after faults_before faults_after = (error : DumpError) × TellsDumpError before after faults_before faults_after error
 
--- what a fault leaves in the source: nothing is read for words that are refused; what is behind the limit and one byte more, where the input is too
--- long; what is behind a front within the limit, where reading failed or memory ran out; and else nothing is left
+-- what a fault leaves in the source: nothing is read for words that are refused; what is after the limit and one byte more, where the input is too
+-- long; what is after a prefix within the limit, where reading failed or memory ran out; and else nothing is left
 abbrev pub LeavesAfter : Fault → Option (List ℕ) → Option (List ℕ) → Type 0
 LeavesAfter fault.Words before after = after ≡ before
 LeavesAfter (fault.Script line cause) before after = IfSome before (λ _. after ≡ Some [])

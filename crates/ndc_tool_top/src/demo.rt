@@ -11,7 +11,7 @@ use ndc_world::{Summary, last_world};
 use std::alloc::Global;
 use std::thread::Threads;
 
-/// Appends a word and a number behind it.
+/// Appends a word and a number after it.
 fn push_count(text: &mut Vec<u8>, word: &[u8], number: u64) -> Result<(), OutOfMemory>
     ensures { OnOk result (text.new.items ≡ text.old.items ++ word.now ++ decimal number) }
 {

@@ -13,11 +13,11 @@ use ndc_script::ScriptCause;
 pub enum Fault {
     /// The program does not take these words, or an indexer that they name is not there.
     Words,
-    /// The input is no script: the first faulty line, from 1, and its cause.
+    /// The input is not a script: the first faulty line, from 1, and its cause.
     Script { line: u64, cause: ScriptCause },
-    /// The input is no dump: the first faulty line, from 1, and its cause.
+    /// The input is not a dump: the first faulty line, from 1, and its cause.
     DumpLine { line: u64, cause: LineCause },
-    /// The input is no dump: the first batch that does not fit the others, and its cause.
+    /// The input is not a dump: the first batch that does not fit the others, and its cause.
     DumpBatch { key: BatchKey, cause: KeyCause },
     /// Reading the input failed.
     Read,
@@ -85,7 +85,7 @@ impl Fault {
         }
     }
 
-    /// Writes the line that tells of the fault, without memory. Where writing fails, a front of the line is
+    /// Writes the line that tells of the fault, without memory. Where writing fails, a prefix of the line is
     /// written, and the sink's count of faults has risen.
     pub fn tell<E: Sink>(self, err: &mut E) -> Result<(), Failed>
         ensures whole { OnOk result (Appends (E.written err.old) (E.written err.new) (fault_line self)) }

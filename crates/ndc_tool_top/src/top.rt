@@ -69,7 +69,7 @@ fn perform<R: Threads + Sync, S: Source, K: Sink, E: Sink, G: Gate>(
     ensures script_line { result ≡ 3 → TellsSomeLine (E.written err.old) (E.written err.new) (E.faults err.old) (E.faults err.new) }
     ensures from_run { result ≡ 3 → is_run (Some asked) ≡ true }
 
-    // Status 7 tells the first cause why the input is no dump, and comes from `rebuild` and `inspect` alone.
+    // Status 7 tells the first cause why the input is not a dump, and comes from `rebuild` and `inspect` alone.
     ensures dump { result ≡ 7 → IfSome (S.left source.old) (λ bytes. (length bytes ≤ most_bytes)
         × IsErrAnd (dump_of bytes) (TellsDumpError (E.written err.old) (E.written err.new) (E.faults err.old) (E.faults err.new))) }
     ensures dump_line { result ≡ 7 → TellsSomeCause (E.written err.old) (E.written err.new) (E.faults err.old) (E.faults err.new) }
@@ -95,7 +95,7 @@ fn perform<R: Threads + Sync, S: Source, K: Sink, E: Sink, G: Gate>(
     ensures whole_made { IfMade (Some asked) (λ _ _. IsAmong result (0 ∷ 5 ∷ 8 ∷ [])) }
     ensures whole_demo { IfDemo (Some asked) (λ _. IsAmong result (0 ∷ 5 ∷ 8 ∷ [])) }
 
-    // What is written: nothing before the output begins or where the input is none, and never more than a front of it.
+    // What is written: nothing before the output begins or where the input is none, and never more than a prefix of it.
     ensures early { IsAmong result (2 ∷ 3 ∷ 4 ∷ 6 ∷ 7 ∷ []) → K.written out.new ≡ K.written out.old }
     ensures unwritten { is_run (Some asked) ≡ false → result ≡ 8 → K.written out.new ≡ K.written out.old }
     ensures stopped { IfRun (Some asked) (λ index late. result ≡ 5 → StopsWithin (map (λ b. shown (title b) (failing b) (list b)) indexers.items) index late (S.left source.old) (K.written out.old) (K.written out.new)) }
@@ -125,16 +125,18 @@ fn perform<R: Threads + Sync, S: Source, K: Sink, E: Sink, G: Gate>(
 }
 
 /// Runs the program on its words, which do not hold its name, with the indexers that it may tell, and answers the status
-/// that it ends with. `run` reads a script, runs it and writes the report, behind the gate where it has several workers;
-/// `rebuild` reads a dump and prints it again from its batches, `inspect` prints its trees; `make` prints a script that
-/// is drawn from a seed, and `demo` shows what becomes of one. The indexers were told nothing yet.
+/// that it ends with. `run` reads a script, runs it and writes the report, through the gate where it has several
+/// workers; `rebuild` reads a dump and prints it again from its batches, `inspect` prints its trees; `make` prints a
+/// script that is drawn from a seed, and `demo` shows what becomes of one. The indexers were told nothing yet.
 ///
 /// 0 where the input was read to its end and all was written; 2 only where the words are refused or name an indexer that
-/// is not there; 3 only where the input of `run` is no script; 4 only where reading failed; 5 only where writing failed; 6
-/// only where the input has more than 16,777,216 bytes; 7 only where the input of `rebuild` or `inspect` is no dump; 8
-/// where memory ran out, which may be at any time. The order of the statuses is 2, 4, 6, 3, 7, 5, so where memory suffices
-/// and reading does not fail, 2, 3, 6 and 7 come exactly where they may. After a fault a line on `err` tells of it. Refused words read and write nothing, and `make` and `demo` read nothing. Whatever the status, `out` has what
-/// it had, followed by a front of what is to be written; by nothing where the input is no script or no dump.
+/// is not there; 3 only where the input of `run` is not a script; 4 only where reading failed; 5 only where writing
+/// failed; 6 only where the input has more than 16,777,216 bytes; 7 only where the input of `rebuild` or `inspect` is
+/// not a dump; 8 where memory ran out, which may be at any time. The order of the statuses is 2, 4, 6, 3, 7, 5, so
+/// where memory suffices and reading does not fail, 2, 3, 6 and 7 come exactly where they may. After a fault a line on
+/// `err` tells of it. Refused words read and write nothing, and `make` and `demo` read nothing. Whatever the status,
+/// `out` has what it had, followed by a prefix of what is to be written; by nothing where the input is neither a script
+/// nor a dump.
 pub fn ndc_top<R: Threads + Sync, S: Source, K: Sink, E: Sink, G: Gate>(
     rt: &R,
     alloc: Global,
@@ -172,7 +174,7 @@ pub fn ndc_top<R: Threads + Sync, S: Source, K: Sink, E: Sink, G: Gate>(
     ensures script_line { result ≡ 3 → TellsSomeLine (E.written err.old) (E.written err.new) (E.faults err.old) (E.faults err.new) }
     ensures from_run { result ≡ 3 → is_run (asked_of (map string_bytes words.now)) ≡ true }
 
-    // Status 7 tells the first cause why the input is no dump, and comes from `rebuild` and `inspect` alone.
+    // Status 7 tells the first cause why the input is not a dump, and comes from `rebuild` and `inspect` alone.
     ensures dump { result ≡ 7 → IfSome (S.left source.old) (λ bytes. (length bytes ≤ most_bytes)
         × IsErrAnd (dump_of bytes) (TellsDumpError (E.written err.old) (E.written err.new) (E.faults err.old) (E.faults err.new))) }
     ensures dump_line { result ≡ 7 → TellsSomeCause (E.written err.old) (E.written err.new) (E.faults err.old) (E.faults err.new) }
@@ -198,7 +200,7 @@ pub fn ndc_top<R: Threads + Sync, S: Source, K: Sink, E: Sink, G: Gate>(
     ensures whole_made { IfMade (asked_of (map string_bytes words.now)) (λ _ _. IsAmong result (0 ∷ 5 ∷ 8 ∷ [])) }
     ensures whole_demo { IfDemo (asked_of (map string_bytes words.now)) (λ _. IsAmong result (0 ∷ 5 ∷ 8 ∷ [])) }
 
-    // What is written: nothing before the output begins or where the input is none, and never more than a front of it.
+    // What is written: nothing before the output begins or where the input is none, and never more than a prefix of it.
     ensures early { IsAmong result (2 ∷ 3 ∷ 4 ∷ 6 ∷ 7 ∷ []) → K.written out.new ≡ K.written out.old }
     ensures unwritten { is_run (asked_of (map string_bytes words.now)) ≡ false → result ≡ 8 → K.written out.new ≡ K.written out.old }
     ensures stopped { IfRun (asked_of (map string_bytes words.now)) (λ index late. result ≡ 5 → StopsWithin (map (λ b. shown (title b) (failing b) (list b)) indexers.items) index late (S.left source.old) (K.written out.old) (K.written out.new)) }

@@ -23,7 +23,7 @@ same-none : {X : Type 0} (t : Bool) → ◌≡◌ {A = Option X} (cond t None No
 same-none true = refl
 same-none false = refl
 
--- a word that begins with `-` is no number
+-- a word that begins with `-` is not a number
 pub no_number : (least most : ℕ) (word : List ℕ) → begins_with_dash word ≡ true → number_within least most word ≡ None
 no_number least most [] e = refl
 no_number least most (x ∷ word) e = ap (λ byte. number_within least most (byte ∷ word)) (eqb-true x 45 e) ∙ go (nat_lt 0 (length (45 ∷ word)))

@@ -29,13 +29,13 @@ none-at p (name ∷ names) (suc i) d below none = none-at p names i d (omega (ar
 unlike : (one two : List ℕ) → bytes_eq one two ≡ false → one ≢ two
 unlike one two not_so same = true≢false (sym ((bytes_eq-Decides one two).1 same) ∙ not_so)
 
--- a name that does not stand in a list, behind it
+-- a name that does not stand in a list, after it
 pub Differ-push : (names : List (List ℕ)) (name : List ℕ) → Differ names → stands_in names name ≡ false → Differ (names ++ name ∷ [])
 Differ-push names name differ new =
     all_pairs_push (λ one two. one ≢ two) names name differ
     (λ i d below. unlike (get_or names i d) name (none-at (λ other. bytes_eq other name) names i d below new))
 
--- two lists of names that share none, one behind the other
+-- two lists of names that share none, one after the other
 pub Differ-append : (names others : List (List ℕ)) → Differ names → Differ others → share_a_name names others ≡ false → Differ (names ++ others)
 Differ-append names others one two apart i j d lt within =
     ⊎_elim
@@ -64,7 +64,7 @@ taken true false o found e = (refl, e)
 taken true true o found e = absurd (cc)
 taken false b o found e = absurd (cc)
 
--- the names of texts behind names that differ
+-- the names of texts after names that differ
 names_on-differ : (names texts found : List (List ℕ)) → Differ names → names_on names texts ≡ Some found → Differ found
 names_on-differ names [] found differ e = subst Differ (same_Some names found e) differ
 names_on-differ names (text ∷ texts) found differ e =

@@ -1,4 +1,4 @@
--- What clap finds in the words behind each word that the program is called with, and what the table makes of them.
+-- What clap finds in the words after each word that the program is called with, and what the table makes of them.
 use Rattle.std.proofs.Common.{◌≡◌, ◌≢◌, ◌∙◌, ◌||◌, ℕ, Bool, true, false, cond, List, [], ◌∷◌, map, codes, Option, Some, None, inl, inr, refl, sym, ap, ap₂, fold}
 use Rattle.std.specs.List.{list_all, list_any}
 use Rattle.std.specs.Option.{option_map_or}
@@ -30,7 +30,7 @@ use Rattle.ndc_tool_words.proofs.Runs.{Agree, next-value-at, no-dashes, run-agre
 abbrev pub leaf : Text → List Rule → Shape
 leaf name arguments = record shape { name = name; rules = arguments }
 
--- what clap refuses in the words behind the name
+-- what clap refuses in the words after the name
 abbrev pub level : Shape → List Text → Kinds
 level s words = level_fault s [] nothing_held words false []
 

@@ -57,12 +57,12 @@ has-value f (p ∷ ps) = go (bytes_eq (name_of p.0) (name_of f)) (has-value f ps
     go true e = refl
     go false e = e
 
--- a value, or the one behind it
+-- a value, or the one after it
 abbrev pub or_value : Option Text → Option Text → Option Text
 or_value None more = more
 or_value (Some value) more = Some value
 
--- the value with one more option behind all others
+-- the value with one more option after all others
 pub value-behind : (g f : Flag) (v : Text) (ps : List Pair) → value_in g (ps ++ (f, v) ∷ []) ≡ or_value (value_in g ps) (cond (bytes_eq (name_of f) (name_of g)) (Some v) None)
 value-behind g f v [] = refl
 value-behind g f v (p ∷ ps) = go (bytes_eq (name_of p.0) (name_of g)) (value-behind g f v ps)

@@ -1,4 +1,4 @@
--- What clap finds in the words behind `run`, and what the table makes of them.
+-- What clap finds in the words after `run`, and what the table makes of them.
 use Rattle.std.proofs.Common.{◌≡◌, ◌≢◌, ◌⊎◌, ◌∙◌, ◌||◌, ◌&&◌, ℕ, Bool, true, false, cond, is_some, List, [], ◌∷◌, ◌++◌, map, codes, Option, Some, None, inl, inr, refl, sym, ap, ap₂, subst, fold, append-nil}
 use Rattle.std.proofs.lemmas.List.{map-append}
 use Rattle.std.specs.List.{list_any}
@@ -67,7 +67,7 @@ answer ps p words = state ps p >>= asked_on words
 abbrev faults : Walk → List Text → Kinds
 faults w words = or_else (walk_fault shape [] w words) (settle_fault rules false (fold (walked rules []) w words).held)
 
--- the rows behind further words
+-- the rows after further words
 abbrev rows_behind : Walk → List Text → List Row
 rows_behind w words = (settled rules (fold (walked rules []) w words).held).rows
 
@@ -120,7 +120,7 @@ no-row id change missing (r ∷ rows) e =
     go true e rest = absurd (cc)
     go false e rest = ap (λ more. r ∷ more) (rest e)
 
--- a new option has its row behind all others
+-- a new option has its row after all others
 new-row : (f : Flag) (v : Text) (ps : List Pair) → has_row (name_of f) (map row ps) ≡ false → used (rule f) (v ∷ []) (map row ps) ≡ map row (ps ++ (f, v) ∷ [])
 new-row f v ps new =
     let gone : without (name_of f) (map row ps) ≡ map row ps = no-row (name_of f) (λ r. []) [] (map row ps) new ∙ append-nil (map row ps) in
@@ -287,7 +287,7 @@ turn-refused s names position waiting word rows pending none apart refused =
     (step_fault s position (word_met s.rules names false waiting position word (held rows pending)).0 (word_met s.rules names false waiting position word (held rows pending)).1)
     (ap (λ o. other_fault s o word (held rows pending)) none ∙ (ap (λ t. cond t [] (flag_word_fault s.rules s.args_override_self (long_of word) word (held rows pending))) apart ∙ refused rows pending))
 
--- a word that is no option
+-- a word that is not an option
 value-fault : (s : Shape) (names : Names) (waiting : Waiting) (word : Text) (rows : List Row) (pending : Option (Text × List Text)) → subcommand_met names waiting word ≡ None
     → bytes_eq word (codes "--") ≡ false → IsValueBy s word → word_fault s names false waiting word (held rows pending) ≡ []
 value-fault s names waiting word rows pending none apart is =
@@ -398,7 +398,7 @@ at-joined f v words ps (holds g u) rest =
     (next-joined f v (map row ps) (Some (name_of g, u ∷ [])) ∙ ap (λ (rs : List Row). walk_by idle (used (rule f) (v ∷ []) rs) None) rows)
     (table-new g u ps ((joined_text f ++ v) ∷ words) new ∙ table-joined f v (ps ++ (g, u) ∷ []) words))
 
--- a word that is no option, where nothing waits for a value, is none to the table
+-- a word that is not an option, where nothing waits for a value, is none to the table
 table-stray : (word : Text) (f : Flag) (v : Text) (ps : List Pair) (words : List Text) → IsNone word → answer ps (holds f v) (word ∷ words) ≡ None
 table-stray word f v ps words none =
     either-way (has_row (name_of f) (map row ps))
@@ -446,7 +446,7 @@ agree (word ∷ words) apart =
     let parts = no-dashes (bytes_eq word (codes "--")) (list_any (λ word. bytes_eq word (codes "--")) words) apart in
     λ ps p. at-word word words ps p parts.0 (agree words parts.1) (sort word parts.0)
 
--- clap and the table agree on all words behind `run`
+-- clap and the table agree on all words after `run`
 pub run-agrees : (words : List Text) → list_any (λ word. bytes_eq word (codes "--")) words ≡ false
     → Agree (or_else (walk_fault shape [] (walk_from nothing_held) words) (settle_fault rules false (walk rules [] nothing_held words).held)) (settled rules (walk rules [] nothing_held words).held).rows (run_of words)
 unfolding run_of

@@ -42,7 +42,7 @@ make_in rows =
 unfoldable pub demo_in : List Row → Option Asked
 demo_in rows = number_in 1 99000 (codes "count") rows >>= (λ count. Some (Demo count))
 
--- what the word that was found asks for, with the values behind it
+-- what the word that was found asks for, with the values after it
 abbrev pub asked_in : Option (Text × List Row) → Option Asked
 asked_in None = None
 asked_in (Some (word, rows)) =

@@ -8,7 +8,7 @@ use Rattle.ndc_event.specs.Name.{is_name}
 abbrev pub stands_in : List (List ℕ) → List ℕ → Bool
 stands_in names name = list_any (λ other. bytes_eq other name) names
 
--- names and these texts behind them, where each text is a name that stands nowhere before it
+-- names and these texts after them, where each text is a name that stands nowhere before it
 abbrev pub names_on : List (List ℕ) → List (List ℕ) → Option (List (List ℕ))
 names_on names [] = Some names
 names_on names (text ∷ texts) = if is_name text && not (stands_in names text) then names_on (names ++ text ∷ []) texts else None

@@ -22,21 +22,24 @@ const MAX_COUNT: u64 = 99_000;
 
 /// The value of this name, where it was given.
 fn value_in<'a>(matches: &ArgMatches<'a>, name: &str) -> Option<&'a str>
-    ensures { option_map (λ value. value.now) result ≡ first_of name.now (rows_of (found_of matches.now)) }
+    ensures { option_map (λ value. value.now) result
+        ≡ first_of name.now (rows_of (found_of matches.now)) }
 {
     matches.get_str(name)
 }
 
-/// The word that the program is called with, and the values behind it.
+/// The word that the program is called with, and the values after it.
 fn word_in<'a, 'm>(matches: &'m ArgMatches<'a>) -> Option<(&'a str, &'m ArgMatches<'a>)>
-    ensures { option_map (λ found. (found.0.now, rows_of (found_of found.1.now))) result ≡ subcommand_rows_of matches.now }
+    ensures { option_map (λ found. (found.0.now, rows_of (found_of found.1.now))) result
+        ≡ subcommand_rows_of matches.now }
 {
     matches.subcommand()
 }
 
 /// The number of workers, where it was given.
 fn workers_in(matches: &ArgMatches<'_>) -> Result<Option<u32>, WordsError>
-    ensures { Reads result (given_by (number_within 1 64) (first_of (codes "workers") (rows_of (found_of matches.now)))) }
+    ensures { Reads result (given_by (number_within 1 64)
+        (first_of (codes "workers") (rows_of (found_of matches.now)))) }
 {
     let Some(value) = value_in(matches, "workers") else {
         return Ok(None);
@@ -53,7 +56,8 @@ fn names_in(
     matches: &ArgMatches<'_>,
     option: &str,
 ) -> Result<Option<Names>, WordsError>
-    ensures { Reads result (given_by names_of (first_of option.now (rows_of (found_of matches.now)))) }
+    ensures { Reads result (given_by names_of
+        (first_of option.now (rows_of (found_of matches.now)))) }
 {
     match value_in(matches, option) {
         Some(value) => {
@@ -71,7 +75,8 @@ fn run_with(
     index: Option<Names>,
     late: Option<Names>,
 ) -> Result<Asked, WordsError>
-    ensures { Reads result (run_with (record no_options { workers = workers; index = index; late = late })) }
+    ensures { Reads result (run_with
+        (record no_options { workers = workers; index = index; late = late })) }
 {
     let index = index.unwrap_or(Names::new(Vec::new(alloc)));
     let late = late.unwrap_or(Names::new(Vec::new(alloc)));
@@ -128,7 +133,7 @@ fn demo_in(matches: &ArgMatches<'_>) -> Result<Asked, WordsError>
     Ok(Asked::Demo { count })
 }
 
-/// What this word asks for, with these values behind it.
+/// What this word asks for, with these values after it.
 fn asked_by(alloc: Global, word: &str, matches: &ArgMatches<'_>) -> Result<Asked, WordsError>
     ensures { Reads result (asked_in (Some (word.now, rows_of (found_of matches.now)))) }
 {

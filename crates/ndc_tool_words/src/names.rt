@@ -25,7 +25,7 @@ pub fn share_a_name(names: &[Name], others: &[Name]) -> bool
     names.iter().any(|name| stands_in(others, name.as_bytes()))
 }
 
-/// The name of this text; refused where it is none.
+/// The name of this text; refused where it is not a name.
 fn name_of(alloc: Global, text: &[u8]) -> Result<Name, WordsError>
     ensures { Reads result (if is_name text.now then Some text.now else None) }
 {
@@ -48,7 +48,8 @@ fn begins_with_dash(text: &[u8]) -> bool
 
 /// What stands between the commas of a text.
 pub fn parts_of<'a>(alloc: Global, text: &'a [u8]) -> Result<Vec<&'a [u8]>, OutOfMemory>
-    ensures { IfOk result (λ parts. map (λ part. part.now) parts.items ≡ slice_split (λ byte. byte == 44) text.now) }
+    ensures { IfOk result (λ parts.
+        map (λ part. part.now) parts.items ≡ slice_split (λ byte. byte == 44) text.now) }
 {
     text.split(|byte| *byte == b',').collect(alloc)
 }

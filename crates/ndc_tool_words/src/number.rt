@@ -15,7 +15,8 @@ fn is_written(word: &[u8]) -> bool
 /// The value of a number, where it is not above the greatest.
 fn value_to(most: u64, word: &[u8]) -> Option<u64>
     requires digits { list_all is_digit word.now ≡ true }
-    ensures { result ≡ (if nat_le (value_on 0 word.now) most then Some (value_on 0 word.now) else None) }
+    ensures { result ≡ (if nat_le (value_on 0 word.now) most then Some
+        (value_on 0 word.now) else None) }
 {
     let mut value = 0;
     for byte in word {

@@ -58,9 +58,12 @@ fn has_dashes(words: &[String]) -> bool
 
 /// What the command finds in the words. Refused with [`WordsError::Refused`] exactly where it takes no such words.
 fn found_in<'a>(alloc: Global, words: &'a [String]) -> Result<ArgMatches<'a>, WordsError>
-    ensures found { IfOk result (λ matches. subcommand_rows_of matches ≡ subcommand_of whole_app (map string_bytes words.entry.now)) }
-    ensures taken { IfOk result (λ matches. fault_of whole_app (map string_bytes words.entry.now) ≡ []) }
-    ensures refused { result ≡ Err Refused → fault_of whole_app (map string_bytes words.entry.now) ≢ [] }
+    ensures found { IfOk result (λ matches.
+        subcommand_rows_of matches ≡ subcommand_of whole_app (map string_bytes words.entry.now)) }
+    ensures taken { IfOk result (λ matches.
+        fault_of whole_app (map string_bytes words.entry.now) ≡ []) }
+    ensures refused { result ≡ Err Refused
+        → fault_of whole_app (map string_bytes words.entry.now) ≢ [] }
 {
     match command(alloc)?.try_get_matches_from(words) {
         Ok(matches) => Ok(matches),
@@ -71,7 +74,7 @@ fn found_in<'a>(alloc: Global, words: &'a [String]) -> Result<ArgMatches<'a>, Wo
     }
 }
 
-/// Reads the words that stand behind the program's name. Refused with [`WordsError::Refused`] exactly where they are
+/// Reads the words that stand after the program's name. Refused with [`WordsError::Refused`] exactly where they are
 /// none of the program's, with [`WordsError::Memory`] where memory runs out.
 pub fn read(alloc: Global, words: &[String]) -> Result<Asked, WordsError>
     ensures asked { IfOk result (λ asked. asked_of (map string_bytes words.now) ≡ Some asked) }

@@ -32,7 +32,7 @@ pub last_place : (n : ℕ) → (n == 0) ≡ false → n - 1 + 1 ≡ n
 last_place zero some = absurd (cc)
 last_place (suc n) some = omega arith
 
--- a key behind the last one goes last
+-- a key after the last one goes last
 pub behind_last : (key : BatchKey) (batches : List Batch) (last : ℕ) → InOrder comes_before batches → last + 1 ≡ length batches → (d : Batch) → key_lt (get_or batches last d).key key ≡ true
     → IsGap batches key (length batches)
 behind_last key batches last order many d before =
@@ -45,7 +45,7 @@ behind_last key batches last order many d before =
       (λ k d from below. absurd (omega (arith, from, below))),
     ))).absent
 
--- a key that is neither before nor behind the last one is there
+-- a key that is neither before nor after the last one is there
 pub at_last : (key : BatchKey) (batches : List Batch) (last : ℕ) → InOrder comes_before batches → last + 1 ≡ length batches → (d : Batch) → key_lt (get_or batches last d).key key ≡ false → key_lt key (get_or batches last d).key ≡ false
     → IsAt batches key last
 at_last key batches last order many d before behind =

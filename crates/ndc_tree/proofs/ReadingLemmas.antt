@@ -60,7 +60,7 @@ pub items-less : (run : RunId) (batches : List Batch) (b : Batch) (next up : Opt
 items-less run batches b next up done whole tree at w e =
     subst (λ (o : Option Batch). rank up < rank o) (sym at) (subst (λ (o : Option Batch). rank o < rank (Some b)) (sym e) (elder-less run batches tree b (subst (IsOf batches) at w.has)))
 
--- what is no item is none
+-- what is not an item is none
 pub none-of : {Y : Type 0} (o : Option Y) → ((y : Y) → o ≡ Some y → ⊥) → o ≡ None
 none-of None h = refl
 none-of (Some y) h = absurd (h y refl)

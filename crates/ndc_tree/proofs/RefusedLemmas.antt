@@ -30,7 +30,7 @@ use Rattle.ndc_tree.proofs.FitLemmas.{before-start}
 use Rattle.ndc_tree.proofs.PathLemmas.{there, path_is, path-rise, on-own-path, chain}
 use Rattle.ndc_tree.proofs.VersionLemmas.{first-among}
 
--- the key behind a parent is of the version
+-- the key after a parent is of the version
 behind-version : (version : ℕ) (parent : Option BatchKey) → (key_behind version parent).version ≡ version
 behind-version version None = refl
 behind-version version (Some key) = by (key.version == version) (key_behind version (Some key)) refl
@@ -39,7 +39,7 @@ behind-version version (Some key) = by (key.version == version) (key_behind vers
     by true k e = ap (λ (x : BatchKey). x.version) e
     by false k e = ap (λ (x : BatchKey). x.version) e
 
--- a parent of no later version comes before the key behind it
+-- a parent of no later version comes before the key after it
 before-behind : (version : ℕ) (key : BatchKey) → key.version ≤ version → key_lt key (key_behind version (Some key)) ≡ true
 before-behind version key le = by (key.version == version) refl
   where
@@ -67,7 +67,7 @@ first-of-version version None h = absurd (cc)
 first-of-version version (Some f) h = (f, refl, eqb-true f.key.version version h)
 
 module _ (run : RunId) (batches : List Batch) (tree : IsTree run batches) where
-  -- all that is on the path to a parent comes before the key behind it
+  -- all that is on the path to a parent comes before the key after it
   on-path-before : (key start : BatchKey) (one : Batch) → has_key (Some key) batches ≡ true → key_lt key start ≡ true → Has (path_to key batches) one → key_lt one.key start ≡ true
   on-path-before key start one reached less on =
       let p = there (batch_at key batches) reached in
@@ -94,7 +94,7 @@ module _ (run : RunId) (batches : List Batch) (tree : IsTree run batches) where
           subst (λ (x : Batch). Among x (path_to p.key batches)) (sym same) (on-own-path run batches tree p other)
 
   module _ (new : Batch) (faultless : fault_of new ≡ None) (reached : has_key new.parent batches ≡ true) where
-    -- what comes from the key behind the parent on is no ancestor
+    -- what comes from the key after the parent on is not an ancestor
     no-ancestor : (one : Batch) → key_lt one.key (key_behind new.key.version new.parent) ≡ false → IsAncestorOf batches new one → ⊥
     no-ancestor one from on = by new.parent refl from on reached
       where
@@ -111,7 +111,7 @@ module _ (run : RunId) (batches : List Batch) (tree : IsTree run batches) where
         let at = first-among batches start f.0 f.1 in
         record { one = f.0; has = among-has batches f.0 tree.set.ordered at.0; version = f.2; apart = no-ancestor f.0 at.1 }
 
-    -- a batch of the version that comes before the key behind the parent is an ancestor
+    -- a batch of the version that comes before the key after the parent is an ancestor
     is-ancestor : (one : Batch) → Has batches one → one.key.version ≡ new.key.version → key_lt one.key (key_behind new.key.version new.parent) ≡ true → IsAncestorOf batches new one
     is-ancestor one has version less = by new.parent less reached
       where

@@ -88,7 +88,7 @@ apart one two l = record {
   qe = numbers-qe one.version one.task two.version two.task l;
 }
 
--- batches of smaller versions in front are passed over
+-- batches of smaller versions before it are passed over
 abbrev pub AreBelow : ℕ → List Batch → Type 0
 AreBelow version batches = AllByRecursion (λ b. b.key.version < version) batches
 
@@ -105,7 +105,7 @@ skip-arrived new [] back below = refl
 skip-arrived new (b ∷ front) back below =
     let t = apart b.key new.key below.0 in rw (t.gt, t.qe) (ap (λ l. b ∷ l) (skip-arrived new front back below.1))
 
--- batches of greater versions behind are not reached
+-- batches of greater versions after it are not reached
 none-or : (o : Option Batch) → option_or o None ≡ o
 none-or None = refl
 none-or (Some b) = refl
@@ -355,7 +355,7 @@ pub last-at : (batches : List Batch) → slice_get batches (length batches - 1) 
 last-at [] = refl
 last-at (b ∷ batches) = ap (slice_get (b ∷ batches)) (before-suc (length batches)) ∙ last-at-up (b ∷ batches) (length batches) refl
 
--- no segment is left behind the last
+-- no segment is left after the last
 pub beyond : (segments : List Segment) (place : ℕ) → length segments ≤ place → flat (drop place segments) ≡ []
 beyond [] zero l = refl
 beyond [] (suc place) l = refl

@@ -1,4 +1,4 @@
--- The version history of a path in a tree: behind that of the path to the parent of the version's first batch comes one item.
+-- The version history of a path in a tree: after that of the path to the parent of the version's first batch comes one item.
 use Rattle.std.proofs.Common.{◌≡◌, ℕ, zero, suc, ◌+◌, ◌<◌, ◌≤◌, Bool, true, false, not, ◌==◌, nat_lt, List, [], ◌∷◌, ◌++◌, ◌⊎◌, inl, inr, Option, Some, None, refl, sym, ◌∙◌, subst, ap, true≢false, arith, cond}
 use Rattle.std.specs.Prelude.{IfSome}
 use Rattle.std.specs.List.{AllByRecursion}
@@ -47,7 +47,7 @@ before-push i x (n ∷ items) other = by (i.version == n.version) refl
     by true e = rw e refl
     by false e = rw e refl
 
--- events of other versions, and behind them those of one
+-- events of other versions, and after them those of one
 versions-append : (x : Item) (es fs : List Event) → versions_of fs ≡ x ∷ [] → AllByRecursion (λ e. (e.version == x.version) ≡ false) es → versions_of (es ++ fs) ≡ versions_of es ++ x ∷ []
 versions-append x [] fs h all = h
 versions-append x (e ∷ es) fs h all = ap (before_items (item_of e)) (versions-append x es fs h all.1) ∙ before-push (item_of e) x (versions_of es) all.0
@@ -81,7 +81,7 @@ first-among (b ∷ batches) start f h = by (key_lt b.key start) refl h (λ g. fi
     by false g k rest = let same : b ≡ f = cc in (inl (sym same), subst (λ (z : Batch). key_lt z.key start ≡ false) same g)
     by true g k rest = let r = rest k in (inr r.0, r.1)
 
--- each other one that does not come before the key comes behind the first
+-- each other one that does not come before the key comes after the first
 pub first-least : (batches : List Batch) (start : BatchKey) (f x : Batch) → Rise batches → first_from start batches ≡ Some f → Among x batches → key_lt x.key start ≡ false
     → (x ≡ f) ⊎ (key_lt f.key x.key ≡ true)
 first-least [] start f x rise h among e = absurd among
@@ -231,7 +231,7 @@ module _ (run : RunId) (batches : List Batch) (tree : IsTree run batches) where
             let v : before.key.version ≡ b.key.version = omega (arith, l, fit, order.0, ap (λ (k : BatchKey). k.version) own) in
             absurd (none (behind before (found-has batches key before there) v))
 
-    -- the version history of the path: one item behind that of the path to the parent of the version's first batch
+    -- the version history of the path: one item after that of the path to the parent of the version's first batch
     pub history-step : versions_of (events_to b.key batches) ≡ versions_of (history_of (path_from f.parent batches)) ++ end_of (Some b) ∷ []
     history-step = by (version-within (suc b.key.task) f b (omega arith) first-has has order.0 order.1)
       where
@@ -272,7 +272,7 @@ module _ (run : RunId) (batches : List Batch) (tree : IsTree run batches) (b : B
   begun : (f : Batch) × (first_from (start_of b.key.version) batches ≡ Some f)
   begun = first-some batches (start_of b.key.version) b (has-among batches b has) (from-start b.key b.key.version refl)
 
-  -- the version history of a path: one item behind that of the path to the last batch of a smaller version
+  -- the version history of a path: one item after that of the path to the last batch of a smaller version
   pub elder-step : items_of (Some b) batches ≡ items_of (elder_of b batches) batches ++ end_of (Some b) ∷ []
   elder-step = history-step run batches tree begun.0 b has begun.1 ∙ ap (λ (l : List Item). l ++ end_of (Some b) ∷ []) (by begun.0.parent refl)
     where
@@ -305,7 +305,7 @@ module _ (run : RunId) (batches : List Batch) (tree : IsTree run batches) (b : B
           subst (λ (x : Option Batch). rank x < rank (Some b)) (sym (elder-is (Some key) e ∙ p.1))
           (omega (arith, parent-less run batches tree begun.0 p.0 key f e p.1, (order run batches tree begun.0 b has begun.1).1))
 
-  -- the path: the batch behind the path to its parent
+  -- the path: the batch after the path to its parent
   pub parent-step : path_of (Some b) batches ≡ path_of (named b.parent batches) batches ++ b ∷ []
   parent-step = by b.parent refl
     where

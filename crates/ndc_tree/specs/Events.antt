@@ -22,11 +22,11 @@ event_at version id batches = find (is_event version id) (history_of batches)
 abbrev pub event_of : ℕ → List Event → Option Event
 event_of id events = find (λ event. event.id == id) events
 
--- how the ids of a batch's events stand to this id: all come before it, all behind it, or it is one of them
+-- how the ids of a batch's events stand to this id: all come before it, all after it, or it is one of them
 abbrev pub against_id : ℕ → Batch → Ordering
 against_id id b = if nat_lt (last_id b.events) id then Less else if nat_lt id (first_id b.events) then Greater else Equal
 
--- the ids of the second batch's events come behind those of the first's, and rise
+-- the ids of the second batch's events come after those of the first's, and rise
 pub record IdsGoOn (one two : Batch) : Type 0 where
   pub behind : last_id one.events < first_id two.events
   pub rise : first_id two.events ≤ last_id two.events

@@ -11,7 +11,7 @@ use Rattle.ndc_model_sets.specs.Paths.{first_id, last_id, path_from}
 abbrev pub IsAncestorOf : List Batch → Batch → Batch → Type 0
 IsAncestorOf batches new one = Has (path_from new.parent batches) one
 
--- a batch of a new one's version is there, and is no ancestor of it
+-- a batch of a new one's version is there, and is not an ancestor of it
 pub record SplitsVersion (batches : List Batch) (new : Batch) : Type 0 where
   pub one : Batch
   pub has : Has batches one
@@ -19,7 +19,7 @@ pub record SplitsVersion (batches : List Batch) (new : Batch) : Type 0 where
   pub apart : IsAncestorOf batches new one → ⊥
 
 -- a batch does not fit a tree of a run: it is of another run, its key is there, it is without a parent and there is a batch, its
--- first event does not come just behind its parent's last one, or a batch of its version is no ancestor
+-- first event does not come just after its parent's last one, or a batch of its version is not an ancestor
 pub data DoesNotFit (run : RunId) (batches : List Batch) (new : Batch) : Type 0 where
   other_run : new.run ≢ run → DoesNotFit run batches new
   same_key : has_key (Some new.key) batches ≡ true → DoesNotFit run batches new

@@ -62,7 +62,8 @@ fn first_at(segments: &[Segment], place: usize) -> Option<&Batch>
 
 /// Adds these batches to the list.
 fn add_all<'b>(list: &mut Vec<&'b Batch>, batches: &'b [Batch]) -> Result<(), OutOfMemory>
-    ensures { OnOk result (map (λ b. b.now) list.new.items ≡ map (λ b. b.now) list.old.items ++ batches.now) }
+    ensures { OnOk result (map (λ b. b.now) list.new.items ≡ map (λ b. b.now) list.old.items
+        ++ batches.now) }
 {
     for batch in batches {
         list.push(batch)?;

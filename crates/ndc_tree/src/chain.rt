@@ -41,7 +41,7 @@ fn search(batches: &[Batch], key: BatchKey) -> Result<usize, usize>
 }
 
 /// Where the batch of the key stands, or where it would go. The last batch is looked at first: what is sought is most often
-/// this one, or goes behind it.
+/// this one, or goes after it.
 fn place_of(batches: &[Batch], key: BatchKey) -> Result<usize, usize>
     requires { InOrder comes_before batches.now }
     ensures found { IfOk result (IsAt batches.now key) }
@@ -61,7 +61,7 @@ fn place_of(batches: &[Batch], key: BatchKey) -> Result<usize, usize>
     search(batches, key)
 }
 
-/// How the ids of the batch's events stand to this one: all come before it, all behind it, or it is one of them.
+/// How the ids of the batch's events stand to this one: all come before it, all after it, or it is one of them.
 fn against_id(batch: &Batch, id: u64) -> Ordering
     ensures { result ≡ against_id id batch.now }
 {

@@ -19,18 +19,21 @@ ghost use Rattle.ndc_tree.specs.Tree.{IsTree, Joins};
 
 /// A tree with a batch that joins it is a tree.
 pub fn a_tree_stays_a_tree()
-    ensures { (run : Run) (batches : List Batch) (new : Batch) → IsTree run batches → Joins run batches new → IsTree run (arrived new batches) }
+    ensures { (run : Run) (batches : List Batch) (new : Batch) → IsTree run batches
+        → Joins run batches new → IsTree run (arrived new batches) }
 {}
 
 /// In a tree each batch has its path: following parents upwards from it one meets the batches of the path, up to one
 /// without a parent.
 pub fn paths_follow_parents()
-    ensures { (run : Run) (batches : List Batch) (b : Batch) → IsTree run batches → Has batches b → IsPath batches b (path_to b.key batches) }
+    ensures { (run : Run) (batches : List Batch) (b : Batch) → IsTree run batches → Has batches b
+        → IsPath batches b (path_to b.key batches) }
 {}
 
 /// Where a tree is a part of another one, each of its batches has the same path there.
 pub fn paths_of_a_part_are_those_of_the_whole()
-    ensures { (run : Run) (part batches : List Batch) (b : Batch) → IsTree run part → IsTree run batches → IsPart part batches → Has part b
+    ensures { (run : Run) (part batches : List Batch) (b : Batch) → IsTree run part
+        → IsTree run batches → IsPart part batches → Has part b
         → path_to b.key batches ≡ path_to b.key part }
 {}
 
@@ -48,13 +51,15 @@ pub fn an_event_is_found_by_its_version_and_id()
 /// The current branch of a tree ends with the greatest of its batches.
 #[tactic(auto, using(crate::proofs::LastLemmas::current_is_greatest))]
 pub fn current_branch_ends_with_the_greatest_batch()
-    ensures { (run : Run) (batches : List Batch) → IsTree run batches → current_tip run batches ≡ greatest_key batches }
+    ensures { (run : Run) (batches : List Batch) → IsTree run batches → current_tip run batches
+        ≡ greatest_key batches }
 {}
 
-/// A batch whose parent is in the tree splits a version exactly where a batch of its version in the tree is no ancestor of
-/// it.
+/// A batch whose parent is in the tree splits a version exactly where a batch of its version in the tree is not an
+/// ancestor of it.
 pub fn a_version_is_split_where_a_batch_of_it_is_no_ancestor()
-    ensures { (run : Run) (batches : List Batch) (new : Batch) → IsTree run batches → fault_of new ≡ None → has_key new.parent batches ≡ true
+    ensures { (run : Run) (batches : List Batch) (new : Batch) → IsTree run batches
+        → fault_of new ≡ None → has_key new.parent batches ≡ true
         → (splits_version batches new.key.version new.parent ≡ true) ↔ SplitsVersion batches new }
 {}
 
@@ -62,6 +67,7 @@ pub fn a_version_is_split_where_a_batch_of_it_is_no_ancestor()
 /// has no parent and the tree has a batch, its first id is not one past the parent's last, or a batch of its version is no
 /// ancestor. That an equal batch is known and not refused, [`Tree::insert`](crate::Tree::insert) tests first.
 pub fn what_does_not_fit_is_refused()
-    ensures { (run : Run) (batches : List Batch) (new : Batch) → IsTree run batches → fault_of new ≡ None → has_key new.parent batches ≡ true
+    ensures { (run : Run) (batches : List Batch) (new : Batch) → IsTree run batches
+        → fault_of new ≡ None → has_key new.parent batches ≡ true
         → (inserted run batches new ≡ Err (NotWellFormed new.key)) ↔ DoesNotFit run batches new }
 {}

@@ -125,13 +125,18 @@ impl Tree {
     /// Takes the batch in. [`Inserted::Known`] exactly where an equal one is there. Refused with
     /// [`TreeError::MissingParent`] where its parent is not there; then with [`TreeError::NotWellFormed`] where it is
     /// of another run, or its key is there with another batch, or it has no parent and the tree has a batch, or its
-    /// first id is not one past the parent's last, or a batch of its version is no ancestor. After an error the tree
-    /// is as it was. In time of the logarithm of its batches, and of the batch's copy.
+    /// first id is not one past the parent's last, or a batch of its version is not an ancestor. After an error the
+    /// tree is as it was. In time of the logarithm of its batches, and of the batch's copy.
     pub fn insert(&mut self, batch: &Batch) -> Result<Inserted, TreeError>
         requires { fault_of batch.now ≡ None }
         ensures known { Has self.old.batches batch.now ↔ (result ≡ Ok Known) }
-        ensures answer { result ≢ Ok Known → Gives Memory (λ done. done) result (inserted self.old.run self.old.batches batch.now) }
-        ensures grown { result ≢ Ok Known → OnOk result (self.new ≡ record self.old { batches = arrived batch.now self.old.batches }) }
+        ensures answer { result ≢ Ok Known
+            → Gives Memory (λ done. done) result
+            (inserted self.old.run self.old.batches batch.now) }
+        ensures grown { result ≢ Ok Known
+            → OnOk result (self.new ≡ record self.old {
+              batches = arrived batch.now self.old.batches;
+            }) }
         ensures same { result ≡ Ok Known → self.new ≡ self.old }
         ensures err { OnErr result (self.new ≡ self.old) }
     {
@@ -150,8 +155,10 @@ impl Tree {
     pub fn judge(&self, batch: &Batch) -> Result<Inserted, TreeError>
         requires { fault_of batch.now ≡ None }
         ensures known { Has self.now.batches batch.now ↔ (result ≡ Ok Known) }
-        ensures answer { result ≢ Ok Known → result ≡ inserted self.now.run self.now.batches batch.now }
-        ensures joins { result ≢ Ok Known → OnOk result (Joins self.now.run self.now.batches batch.now) }
+        ensures answer { result ≢ Ok Known
+            → result ≡ inserted self.now.run self.now.batches batch.now }
+        ensures joins { result ≢ Ok Known
+            → OnOk result (Joins self.now.run self.now.batches batch.now) }
     {
         let key = batch.key;
         if is_known(&self.batches, batch) {
@@ -171,7 +178,8 @@ impl Tree {
     /// from the current branch with a further version, also of the versions on its path.
     pub fn join(&mut self, batch: &Batch) -> Result<(), OutOfMemory>
         requires { Joins self.old.run self.old.batches batch.now }
-        ensures ok { OnOk result (self.new ≡ record self.old { batches = arrived batch.now self.old.batches }) }
+        ensures ok { OnOk result
+            (self.new ≡ record self.old { batches = arrived batch.now self.old.batches }) }
         ensures err { OnErr result (self.new ≡ self.old) }
     {
         let goes_on = batch.parent == self.current();
@@ -185,7 +193,8 @@ impl Tree {
     /// Takes in a batch that joins the tree.
     fn take_in(&mut self, batch: &Batch) -> Result<(), OutOfMemory>
         requires { Joins self.old.run self.old.batches batch.now }
-        ensures ok { OnOk result (self.new ≡ record self.old { batches = arrived batch.now self.old.batches }) }
+        ensures ok { OnOk result
+            (self.new ≡ record self.old { batches = arrived batch.now self.old.batches }) }
         ensures err { OnErr result (self.new ≡ self.old) }
     {
         let copy = batch.try_copy()?;
@@ -257,7 +266,8 @@ impl Tree {
         alloc: Global,
         key: BatchKey,
     ) -> Result<Option<Vec<&Batch>>, OutOfMemory>
-        ensures { IfOk result (λ path. option_map (λ list. map (λ b. b.now) list.items) path ≡ path_at key self.now.batches) }
+        ensures { IfOk result (λ path.
+            option_map (λ list. map (λ b. b.now) list.items) path ≡ path_at key self.now.batches) }
     {
         match self.get(key) {
             None => Ok(None),
@@ -268,7 +278,8 @@ impl Tree {
     /// The keys of the path to the batch of this key, from the run's first on; none exactly where it is not there. A
     /// look-up for each batch of the path.
     pub fn path(&self, alloc: Global, key: BatchKey) -> Result<Option<Vec<BatchKey>>, OutOfMemory>
-        ensures { IfOk result (λ path. option_map (λ list. list.items) path ≡ path_keys key self.now.batches) }
+        ensures { IfOk result (λ path.
+            option_map (λ list. list.items) path ≡ path_keys key self.now.batches) }
     {
         match self.path_batches(alloc, key)? {
             None => Ok(None),
@@ -298,7 +309,8 @@ impl Tree {
     /// The batches of the path to this one, from the run's first on.
     fn ancestors(&self, alloc: Global, batch: &Batch) -> Result<Vec<&Batch>, OutOfMemory>
         requires { Has self.now.batches batch.now }
-        ensures { IfOk result (λ list. map (λ b. b.now) list.items ≡ path_to batch.now.key self.now.batches) }
+        ensures { IfOk result (λ list.
+            map (λ b. b.now) list.items ≡ path_to batch.now.key self.now.batches) }
     {
         let mut path = Vec::new(alloc);
         let mut next = self.batches.get(batch.key);
@@ -315,7 +327,8 @@ impl Tree {
     fn items_to(&self, alloc: Global, batch: &Batch, room: usize) -> Result<Vec<Item>, OutOfMemory>
         requires has { Has self.now.batches batch.now }
         requires room { 0 < room }
-        ensures items { IfOk result (λ list. list.items ≡ items_of (Some batch.now) self.now.batches) }
+        ensures items { IfOk result (λ list.
+            list.items ≡ items_of (Some batch.now) self.now.batches) }
         ensures rise { IfOk result (λ list. IsTrue (rises list.items)) }
     {
         match self.noted_before(batch) {
@@ -327,8 +340,11 @@ impl Tree {
     /// The items that stand before the batch's version on its path, where there is none or they are noted.
     fn noted_before(&self, batch: &Batch) -> Option<&[Item]>
         requires { Has self.now.batches batch.now }
-        ensures items { IfSome result (λ front. items_of (Some batch.now) self.now.batches ≡ front.now ++ end_of (Some batch.now) ∷ []) }
-        ensures rise { IfSome result (λ front. IsTrue (rises (front.now ++ end_of (Some batch.now) ∷ []))) }
+        ensures items { IfSome result (λ front.
+            items_of (Some batch.now) self.now.batches ≡ front.now ++ end_of (Some batch.now)
+            ∷ []) }
+        ensures rise { IfSome result (λ front.
+            IsTrue (rises (front.now ++ end_of (Some batch.now) ∷ []))) }
     {
         let place = self
             .batches
@@ -346,7 +362,8 @@ impl Tree {
     /// a version's segment is most often that before the last one's.
     fn items_by_walk(&self, alloc: Global, batch: &Batch) -> Result<Vec<Item>, OutOfMemory>
         requires { Has self.now.batches batch.now }
-        ensures items { IfOk result (λ list. list.items ≡ items_of (Some batch.now) self.now.batches) }
+        ensures items { IfOk result (λ list.
+            list.items ≡ items_of (Some batch.now) self.now.batches) }
         ensures rise { IfOk result (λ list. IsTrue (rises list.items)) }
     {
         let mut items = Vec::new(alloc);
@@ -439,7 +456,7 @@ impl Tree {
         }
     }
 
-    /// Whether a batch of the key's version is no ancestor of one with this key and this parent.
+    /// Whether a batch of the key's version is not an ancestor of one with this key and this parent.
     fn splits_version(&self, key: BatchKey, parent: Option<BatchKey>) -> bool
         requires { IfSome parent (λ before. before.task < key.task) }
         ensures { result ≡ splits_version self.now.batches key.version parent }
@@ -485,7 +502,7 @@ fn end_of(batch: Option<&Batch>) -> Item
     }
 }
 
-/// Whether the batch's first event comes just behind the last one of the other.
+/// Whether the batch's first event comes just after the last one of the other.
 fn goes_on(batch: &Batch, before: &Batch) -> bool
     ensures { result ≡ goes_on batch.now (Some before.now) }
 {
@@ -493,7 +510,7 @@ fn goes_on(batch: &Batch, before: &Batch) -> bool
     first.checked_sub(1) == Some(last_id(before.events.as_slice()))
 }
 
-/// The key of this key's version behind the parent's, where this is of the version, or else the least one.
+/// The key of this key's version after the parent's, where this is of the version, or else the least one.
 fn key_behind(key: BatchKey, parent: Option<BatchKey>) -> BatchKey
     requires { IfSome parent (λ before. before.task < key.task) }
     ensures { result ≡ key_behind key.version parent }

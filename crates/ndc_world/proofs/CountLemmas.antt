@@ -36,7 +36,7 @@ count-ran : (header : Header) (w : World) (lines : List Line) → length (ran_fr
 count-ran header w [] = refl
 count-ran header w (line ∷ lines) = let rest = count-ran header (act_step header line.act w).world lines in omega (arith, rest)
 
--- behind the last line
+-- after the last line
 pub record IsCountedAll (script : Script) (running : Running) (answers refused : ℕ) : Type 0 where
   pub header : running.header ≡ script.header
   pub answered : answers ≡ length (ran_of script)
@@ -80,7 +80,7 @@ counted_next script running behind answers refused more_answers more_refused lin
     (subst (λ (n : ℕ). IsCounted script (behind_line running line) (answers + length (lines_of_act line.number line.act)) n (drop (i + 1) lines)) (sym count)
     (counted-line script running answers refused line (drop (i + 1) lines) (subst (IsCounted script running answers refused) next before))))
 
--- behind the last line
+-- after the last line
 pub counted_all : (script : Script) (running : Running) (answers refused : ℕ) (lines : List Line) (i : ℕ) → length lines ≤ i → IsCounted script running answers refused (drop i lines) → IsCountedAll script running answers refused
 counted_all script running answers refused lines i most before = counted-end script running answers refused (subst (IsCounted script running answers refused) (at_drop_all (λ l. l) lines i most) before)
 

@@ -66,7 +66,7 @@ module _ (running : Running) (line : Line) (rest : List Line) where
   room : MayRun running.header running.lines (line ∷ rest) → running.lines + length (lines_of_act line.number line.act) + length (plain_lines rest) ≤ 100000
   room may = omega (arith, may.few, length-append (lines_of_act line.number line.act) (plain_lines rest))
 
--- the lines that are left behind a place
+-- the lines that are left after a place
 module _ (running behind : Running) (lines : List Line) (i : ℕ) (line : Line) (within : i < length lines) (is : line ≡ get_or lines i line) (moved : behind ≡ behind_line running line) where
   abbrev rest : List Line
   rest = drop (i + 1) lines
@@ -103,7 +103,7 @@ module _ (running behind : Running) (lines : List Line) (i : ℕ) (line : Line) 
       → Sent before after bytes (answers_of (left_of behind rest))
   sent_line before now after bytes sent taken = Sent_piece before now after bytes (answers_of (ran_at running line)) (answers_of (left_of behind rest)) (subst (Sent before now bytes) answers-next sent) taken
 
-  -- of the answers of a line only a front is written
+  -- of the answers of a line only a prefix is written
   pub sent_part : (before now after : Option (List ℕ)) (bytes : List ℕ) → Sent before now bytes (answers_of (left_of running (drop i lines))) → AppendsFront now after (answers_of (ran_at running line))
       → AppendsFront before after bytes
   sent_part before now after bytes sent part = Sent_part before now after bytes (answers_of (ran_at running line)) (answers_of (left_of behind rest)) (subst (Sent before now bytes) answers-next sent) part
@@ -167,7 +167,7 @@ module _ (script : Script) (running : Running) (lines : List Line) (opened : run
   pub asked_opening : (seats : List SeatValue) → map (after_all (seen_in (left_of running lines))) seats ≡ map (after_all (seen_in (ran_of script))) seats
   asked_opening seats = ap (λ (l : List AnsweredLine). map (after_all (seen_in l)) seats) left-all
 
--- behind the last line nothing is left
+-- after the last line nothing is left
 module _ (script : Script) (running : Running) (lines : List Line) (i : ℕ) (most : length lines ≤ i) where
   no-more : {Y : Type 0} (F : List AnsweredLine → Y) → F (left_of running (drop i lines)) ≡ F []
   no-more F = at_drop_all (λ l. F (left_of running l)) lines i most
@@ -193,12 +193,12 @@ none_kept value (x ∷ late) n is_empty count tests none =
     let same : n ≡ 0 = eqb-true n 0 (sym tests ∙ true-from is_empty none) in
     absurd (omega (arith, count, same))
 
--- clusters that stand for the opening world, before the first line
+-- clusters that represent the opening world, before the first line
 pub opened_at : (script : Script) (standing : WorldValue) → standing.header ≡ script.header → standing.lines ≡ 0 → at_world standing (opening_world script.header) ≡ opening_of script
 opened_at script standing headed none =
     ap (λ (h : Header). record { header = h; lines = standing.lines; world = opening_world script.header }) headed ∙ ap (λ (n : ℕ). record { header = script.header; lines = n; world = opening_world script.header }) none
 
--- and behind a line
+-- and after a line
 pub moved_at : (standing behind : WorldValue) (w v : World) (line : Line) → behind.header ≡ standing.header → behind.lines ≡ standing.lines + length (lines_of_act line.number line.act) → v ≡ world_behind w (ran_at (at_world standing w) line)
     → at_world behind v ≡ behind_line (at_world standing w) line
 moved_at standing behind w v line headed count left =

@@ -1,4 +1,4 @@
--- What a script that runs may ask, and what runs behind it.
+-- What a script that runs may ask, and what runs after it.
 use Rattle.std.proofs.Common.{◌≡◌, ℕ, ◌+◌, ◌≤◌, ◌<◌, List, [], ◌∷◌, ◌++◌, append-nil, length, map, ap, sym, subst, ◌∙◌, arith}
 use Rattle.std.specs.Prelude.{codes, decimal}
 use Rattle.std.specs.List.{All}
@@ -61,7 +61,7 @@ module _ (header : Header) (lines : ℕ) (w : World) (well : IsWellFormedHeader 
       refused = counted ∙ sym burst-ran.refused;
     }
 
--- a line that stands for itself is run
+-- a line that is run as itself alone
 pub one_run : (header : Header) (w : World) (number : ℕ) (asked : Act) (v : World) (answer : AnswerValue) (told : List ℕ) (shown : List Seen) (count : ℕ) → lines_of_act number asked ≡ record { number = number; act = asked } ∷ []
     → leaving v answer ≡ act_step header asked w → told ≡ decimal number ++ codes " " ++ answer.text → shown ≡ answer.seen → count ≡ one_if (is_refusal answer.text)
     → HaveRun (ran_from header w (lines_of_act number asked)) w v told shown count

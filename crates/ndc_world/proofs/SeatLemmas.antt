@@ -1,4 +1,4 @@
--- What the lines of indexers are behind a script, by what was asked for.
+-- What the lines of indexers are after a script, by what was asked for.
 use Rattle.std.proofs.Common.{◌≡◌, ◌≢◌, ℕ, Bool, true, false, List, [], ◌∷◌, ◌++◌, length, map, drop, get_or, Option, Some, None, refl, ap, sym, subst, ◌∙◌, arith}
 use Rattle.std.specs.Prelude.{AllPairs, ◌||◌, codes, decimal, if◌then◌else◌, is_some}
 use Rattle.std.specs.List.{flat_map}
@@ -44,7 +44,7 @@ line-shown : (all : List IndexerValue) (name : Name) (own : List ℕ) (seen : Li
 line-shown all name own seen new some =
     ap (λ (s : SeatValue). seat_line (after_all seen s) own) (new-seat name all new some) ∙ lines_are_index_lines name (failing_of (indexer_of name all)) own seen
 
--- the lines of seats, as they are shown behind what was told
+-- the lines of seats, as they are shown after what was told
 pub lines_shown : {X : Type 0} (value : X → SeatValue) (own : X → List ℕ) (seen : List Seen) (xs : List X) (seats : List SeatValue) → map value xs ≡ map (after_all seen) seats
     → flat_map (λ x. seat_line (value x) (own x)) xs ≡ seat_lines seen seats (map own xs)
 lines_shown value own seen [] [] same = refl
@@ -171,13 +171,13 @@ module _ (all : List IndexerValue) (script : Script) (names late : List Name) (a
   pub reports_front : (before after : Option (List ℕ)) → WritesFront script asked behind before after → ReportsFront script all names late before after
   reports_front before after given = (given.0, given.1, subst (AppendsFront before after) (is-report given.0 given.1) given.2)
 
--- a front of the answers is a front of all that is written
+-- a prefix of the answers is a prefix of all that is written
 pub front_answers : (script : Script) (asked late : List SeatValue) (before after : Option (List ℕ)) → AppendsFront before after (answers_of (ran_of script)) → WritesFront script asked late before after
 front_answers script asked late before after part =
     let more = seat_lines (seen_in (ran_of script)) asked [] ++ seat_lines (seen_in (ran_of script)) late [] in
     ([], [], (part.0 ++ more, (part.1.0, ap (λ (l : List ℕ). l ++ more) part.1.1 ∙ append_assoc part.1.0 part.0 more, part.1.2)))
 
--- seats that stand for others
+-- seats that represent others
 pub same_seats : {V X : Type 0} (items : V → List X) (value : X → SeatValue) (now old : V) (all : List SeatValue) → now ≡ old → map value (items old) ≡ all → map value (items now) ≡ all
 same_seats items value now old all same is = ap (λ v. map value (items v)) same ∙ is
 
@@ -187,7 +187,7 @@ pub late_told : {V X : Type 0} (items : V → List X) (value : X → SeatValue) 
 late_told items value new now old keeps told seen is same kept none =
     is ∙ ap (λ v. map (after_all told) (map value (items v))) same ∙ ap (λ (l : List Seen). map (after_all l) (map value (items old))) kept ∙ kept_serves (map value (items old)) keeps seen none
 
--- behind the answers the lines of all seats are written
+-- after the answers the lines of all seats are written
 module _ {X : Type 0} (value : X → SeatValue) (own : X → List ℕ) (script : Script) (asked late : List SeatValue) (xs ys : List X)
     (told : map value xs ≡ map (after_all (seen_in (ran_of script))) asked) (late_are : map value ys ≡ map (after_all (seen_in (ran_of script))) late)
     (before now after : Option (List ℕ)) (lines : List ℕ) (shows : lines ≡ flat_map (λ x. seat_line (value x) (own x)) xs ++ flat_map (λ x. seat_line (value x) (own x)) ys) (answered : Appends before now (answers_of (ran_of script))) where
@@ -217,6 +217,6 @@ module _ {X : Type 0} (value : X → SeatValue) (own : X → List ℕ) (script :
     Sent_part before now after (answers_of (ran_of script) ++ text) text [] (subst (Sent before now (answers_of (ran_of script) ++ text)) (sym (append-nil text)) sent) (subst (AppendsFront now after) lines-are front),
   )
 
--- what was put behind nothing
+-- what was put after nothing
 pub from_nothing : (bytes front more : List ℕ) → front ≡ [] → bytes ≡ front ++ more → bytes ≡ more
 from_nothing bytes front more none is = is ∙ ap (λ (l : List ℕ). l ++ more) none

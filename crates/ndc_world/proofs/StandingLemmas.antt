@@ -1,4 +1,4 @@
--- Clusters and reports that stand for a world, and stand for what a line of the text leaves.
+-- Clusters and reports that represent a world, and represent what a line of the text leaves.
 use Rattle.std.proofs.Common.{◌≡◌, ℕ, suc, ◌+◌, ◌≤◌, ◌<◌, ◌^◌, Bool, true, false, List, [], ◌∷◌, ◌++◌, length, map, slice_index_or, refl, ap, sym, subst, ◌∙◌, arith}
 use Rattle.std.specs.Prelude.{codes, decimal, sum}
 use Rattle.std.specs.List.{AllByRecursion}
@@ -46,7 +46,7 @@ one-line number (act.Sync to from) on = refl
 one-line number (act.ProgressOf cluster domain workflow id) on = refl
 one-line number _ on = absurd (cc)
 
--- the lines that stand for one that is not on reports are none either
+-- the lines of one that is not on reports are not on reports either
 all-plain : (cluster : ClusterNo) (jobs : List BurstJob) → AllByRecursion (λ (l : Line). is_on_reports l.act ≡ false) (map (job_line cluster) jobs)
 all-plain cluster [] = tt
 all-plain cluster (one ∷ jobs) = (refl, all-plain cluster jobs)
@@ -136,7 +136,7 @@ module _ (header : Header) (lines : ℕ) (v : World) (reports : List (List Repor
   pub clusters_reached : IsReached header lines v
   clusters_reached = subst (IsReached header lines) (sym is.stands.clusters) (bare-reached header lines is.whole is.reached)
 
-  -- what stands for a world goes on to stand for one
+  -- what represents a world goes on to represent one
   pub standing_behind : (line : Line) (u : World) (held : List (List Report)) (told : List ℕ) (shown : List Seen) (count : ℕ) → IsWellFormedAct header line.act → lines + length (lines_of_act line.number line.act) ≤ 100000
       → ((w : World) → StandFor v reports w → IsBehind header line w u held told shown count) → IsStanding header (lines + length (lines_of_act line.number line.act)) u held
   standing_behind line u held told shown count asked few does = record {
@@ -249,7 +249,7 @@ settled_world before is u learned applied shown below does left = record {
       (settled-world before.header before.lines before.world is.standing.fit below (clusters_reached before.header before.lines before.world before.reports is.standing));
 }
 
--- what stands for a world stands for no other, so where a line is refused all is as it was
+-- what represents a world represents no other, so where a line is refused all is as it was
 pub refused_leaves_all : (before : WorldValue) (line : Line) (u : World) (held : List (List Report)) (told : List ℕ) (shown : List Seen) (count : ℕ)
     → ((w : World) → StandFor before.world before.reports w → IsBehind before.header line w u held told shown count)
     → (w : World) → StandFor before.world before.reports w → lines_of_act line.number line.act ≡ line ∷ []

@@ -4,7 +4,7 @@ use Rattle.ndc_script_types.specs.declared.script.BurstJob.{BurstJob}
 use Rattle.ndc_model_cells.specs.declared.job.JobReply.{JobReply}
 use Rattle.ndc_model.specs.Steps.{outcome_answer}
 
--- each answer behind the number of its line, by the replies to the jobs
+-- each answer after the number of its line, by the replies to the jobs
 abbrev pub burst_text : List BurstJob → List JobReply → List ℕ
 burst_text [] replies = []
 burst_text (job ∷ jobs) [] = []

@@ -19,7 +19,7 @@ at_world value w = record { header = value.header; lines = value.lines; world = 
 abbrev pub left_of : Running → List Line → List AnsweredLine
 left_of running lines = ran_from running.header running.world (plain_lines lines)
 
--- these lines may run behind so many: they are as they should be, and no more than 100,000 lines run with them
+-- these lines may run after so many: they are as they should be, and no more than 100,000 lines run with them
 pub record MayRun (header : Header) (count : ℕ) (lines : List Line) : Type 0 where
   pub fit : AllByRecursion (λ line. IsWellFormedAct header line.act) lines
   pub few : count + length (plain_lines lines) ≤ 100000
@@ -32,6 +32,6 @@ kept_where keeps seen = if keeps then seen else []
 abbrev pub opening_of : Script → Running
 opening_of script = record { header = script.header; lines = 0; world = opening_world script.header }
 
--- the world behind the last line of a script
+-- the world after the last line of a script
 abbrev pub last_world : Script → World
 last_world script = world_behind (opening_world script.header) (ran_of script)

@@ -7,17 +7,17 @@ use Rattle.ndc_model.specs.Lines.{AnsweredLine, answers_of, lines_of_act, ran_fr
 use Rattle.ndc_model.specs.World.{World}
 use Rattle.ndc_world.specs.Counts.{refused_in}
 
--- the header, how many lines were run, and the world behind them
+-- the header, how many lines were run, and the world after them
 pub record Running : Type 0 where
   pub header : Header
   pub lines : ℕ
   pub world : World
 
--- what runs where a line of the text does: the lines that stand for it
+-- what runs where a line of the text does: its lines
 abbrev pub ran_at : Running → Line → List AnsweredLine
 ran_at running line = ran_from running.header running.world (lines_of_act line.number line.act)
 
--- the script behind it
+-- the script after it
 abbrev pub behind_line : Running → Line → Running
 behind_line running line = record running {
   lines = running.lines + length (lines_of_act line.number line.act);

@@ -1,4 +1,4 @@
--- What indexers that were asked for show behind a script.
+-- What indexers that were asked for show after a script.
 use Rattle.std.specs.Prelude.{◌≡◌, ℕ, Bool, true, ◌||◌, List, [], ◌∷◌, ◌++◌, codes, Option, Some, None}
 use Rattle.std.specs.List.{AllByRecursion}
 use Rattle.std.specs.Str.{bytes_eq}
@@ -44,7 +44,7 @@ told_text script asked late owns late_owns = answers_of (ran_of script) ++ (seat
 abbrev pub WritesAll : Script → List SeatValue → List SeatValue → Option (List ℕ) → Option (List ℕ) → Type 0
 WritesAll script asked late before after = (owns : List (List ℕ)) × (late_owns : List (List ℕ)) × Appends before after (told_text script asked late owns late_owns)
 
--- a front of it was written
+-- a prefix of it was written
 abbrev pub WritesFront : Script → List SeatValue → List SeatValue → Option (List ℕ) → Option (List ℕ) → Type 0
 WritesFront script asked late before after = (owns : List (List ℕ)) × (late_owns : List (List ℕ)) × AppendsFront before after (told_text script asked late owns late_owns)
 
@@ -64,7 +64,7 @@ pub record Reports (script : Script) (all : List IndexerValue) (names late : Lis
   pub written : Appends before after (report_of script (all_asked all names owns) (all_asked all late late_owns))
   pub one_text : AreShipped names → AreShipped late → Appends before after (report_of script (all_asked all names []) (all_asked all late []))
 
--- a front of the report of a script was written, for some texts of the indexers' own
+-- a prefix of the report of a script was written, for some texts of the indexers' own
 abbrev pub ReportsFront : Script → List IndexerValue → List Name → List Name → Option (List ℕ) → Option (List ℕ) → Type 0
 ReportsFront script all names late before after =
     (owns : List (List ℕ)) × (late_owns : List (List ℕ)) × AppendsFront before after (report_of script (all_asked all names owns) (all_asked all late late_owns))

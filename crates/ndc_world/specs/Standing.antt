@@ -17,7 +17,7 @@ use Rattle.ndc_progress.specs.declared.report.Report.{Report}
 use Rattle.ndc_world.specs.Counts.{refused_in}
 
 -- whether memory ran out in it; the header; how many lines were run, how many answers they gave, and how many of these are refusals; the
--- clusters behind them without progress reports, and the greatest report of each activity that each cluster has
+-- clusters after them without progress reports, and the greatest report of each activity that each cluster has
 pub record WorldValue : Type 0 where
   pub spent : Bool
   pub header : Header
@@ -27,20 +27,20 @@ pub record WorldValue : Type 0 where
   pub world : World
   pub reports : List (List Report)
 
--- the header is as it should be, and clusters and reports stand for a world that so many lines lead to
+-- the header is as it should be, and clusters and reports represent a world that so many lines lead to
 pub record IsStanding (header : Header) (lines : ℕ) (v : World) (reports : List (List Report)) : Type 0 where
   pub fit : IsWellFormedHeader header
   pub whole : World
   pub reached : IsReached header lines whole
   pub stands : StandFor v reports whole
 
--- a world that is not spent: it stands for one that its lines lead to, and no more is counted than was run
+-- a world that is not spent: it represents one that its lines lead to, and no more is counted than was run
 pub record IsUnspent (value : WorldValue) : Type 0 where
   pub standing : IsStanding value.header value.lines value.world value.reports
   pub answers_most : value.answers ≤ value.lines
   pub refused_most : value.refused ≤ value.answers
 
--- clusters and reports stand for a world that is as it should be after so many lines; and so are the clusters by themselves, which are as promised
+-- clusters and reports represent a world that is as it should be after so many lines; and so are the clusters by themselves, which are as promised
 pub record IsReachedWorld (value : WorldValue) : Type 0 where
   pub whole : World
   pub stands : StandFor value.world value.reports whole
@@ -53,7 +53,7 @@ pub record IsSettledWorld (value : WorldValue) : Type 0 where
   pub is : IsReachedWorld value
   pub settled : IsSettled value.header value.world
 
--- they stand for the world that a line of the text leaves, and what was told is what it tells: each answer behind the number of its line,
+-- they represent the world that a line of the text leaves, and what was told is what it tells: each answer after the number of its line,
 -- what became learned, and how many of the answers are refusals
 pub record IsBehind (header : Header) (line : Line) (w v : World) (reports : List (List Report)) (told : List ℕ) (shown : List Seen) (count : ℕ) : Type 0 where
   pub stands : StandFor v reports (world_behind w (ran_from header w (lines_of_act line.number line.act)))
@@ -69,7 +69,7 @@ LeavesAllWhereRefused before line after =
     → (after.world ≡ before.world) × (after.reports ≡ before.reports)
 
 -- a line of the text was run: it is counted, each line in a burst as one, with its answers and its refusals, and in each world for which
--- the clusters stood before it, they stand for what it leaves, and this was told
+-- the clusters represented before it, they represent what it leaves, and this was told
 pub record IsStepped (before : WorldValue) (line : Line) (after : WorldValue) (told : List ℕ) (shown : List Seen) : Type 0 where
   pub unspent : after.spent ≡ false
   pub header : after.header ≡ before.header
@@ -79,7 +79,7 @@ pub record IsStepped (before : WorldValue) (line : Line) (after : WorldValue) (t
   pub refused : after.refused ≡ before.refused + refusals
   pub behind : (w : World) → StandFor before.world before.reports w → IsBehind before.header line w after.world after.reports told shown refusals
 
--- they stand for the world that a settlement leaves, with how many batches it made learned, how many were applied again, and what became
+-- they represent the world that a settlement leaves, with how many batches it made learned, how many were applied again, and what became
 -- learned
 pub record IsBehindSettlement (header : Header) (w v : World) (reports : List (List Report)) (learned applied : ℕ) (shown : List Seen) : Type 0 where
   pub stands : StandFor v reports (after_settlement header w).world
@@ -87,7 +87,7 @@ pub record IsBehindSettlement (header : Header) (w v : World) (reports : List (L
   pub applied_count : applied ≡ sum (map applied_by (after_settlement header w).notes)
   pub seen : shown ≡ seen_of (after_settlement header w).notes
 
--- the clusters were settled: that is one line without an answer, and in each world for which the clusters stood before it, they stand for
+-- the clusters were settled: that is one line without an answer, and in each world that the clusters represented before it, they represent
 -- what it leaves, and this was told
 pub record IsSettledBy (before after : WorldValue) (learned applied : ℕ) (shown : List Seen) : Type 0 where
   pub unspent : after.spent ≡ false

@@ -19,7 +19,7 @@ use ndc_world_steps::{Told, answered, domains, handovers, lanes, letters, moving
 use std::alloc::Global;
 use std::thread::Threads;
 
-/// What a line asks for is done: a line that is no burst.
+/// What a line asks for is done: a line that is not a burst.
 #[tactic(auto, unfolding(ndc_model::specs::Lines::act_step))]
 pub(crate) fn act<R: Threads + Sync, G: Gate, C: Reads + Drop + Send>(
     replication: &mut Replication<C>,

@@ -4,7 +4,7 @@ use std::marker::Model;
 /// What a line answers, and what it makes learned.
 #[derive(Drop)]
 pub struct Answer {
-    /// The text of its answer, behind its number; of a burst, the answers of all its lines.
+    /// The text of its answer, after its number; of a burst, the answers of all its lines.
     pub text: Vec<u8>,
     /// What became learned, in the order of being told.
     pub seen: Vec<Seen>,

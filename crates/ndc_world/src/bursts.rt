@@ -51,7 +51,7 @@ fn jobs_of(alloc: Global, header: &Header, burst: &[BurstJob]) -> Result<Vec<Sha
     Ok(jobs)
 }
 
-/// Each answer behind the number of its line, in order.
+/// Each answer after the number of its line, in order.
 fn answers_of(
     alloc: Global,
     burst: &[BurstJob],
@@ -94,7 +94,7 @@ fn refusals(replies: &[JobReply]) -> u64
     count
 }
 
-/// The commands of a burst are done side by side, and their answers are given together, each behind its number;
+/// The commands of a burst are done side by side, and their answers are given together, each after its number;
 /// and how many of these are refusals.
 pub(crate) fn burst<R: Threads + Sync, G: Gate, C: Reads + Drop + Send>(
     replication: &mut Replication<C>,

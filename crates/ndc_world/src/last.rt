@@ -13,7 +13,7 @@ use ndc_script_types::Script;
 use std::alloc::Global;
 use std::thread::Threads;
 
-/// Runs a script on so many workers at most, behind the gate, and writes nothing; gives the world that its last line
+/// Runs a script on so many workers at most, through the gate, and writes nothing; gives the world that its last line
 /// leaves.
 pub fn last_world<'a, R: Threads + Sync, G: Gate, C: Reads + Drop + Send>(
     rt: &R,

@@ -33,7 +33,7 @@ use ndc_world_steps::Told;
 use std::alloc::Global;
 use std::thread::Threads;
 
-/// How many lines stand for what a line of the text asks for.
+/// How many lines what a line of the text asks for has: those of a burst, or one.
 pub(crate) fn line_count(asked: &Act) -> u64
     ensures { (number : ℕ) → result ≡ length (lines_of_act number asked.now) }
 {
@@ -43,7 +43,7 @@ pub(crate) fn line_count(asked: &Act) -> u64
     }
 }
 
-/// The answer of a line that is no burst, behind its number; and how many answers are refusals, none or one.
+/// The answer of a line that is not a burst, after its number; and how many answers are refusals, none or one.
 fn one_answer(alloc: Global, number: u64, told: Told) -> Result<(Answer, u64), OutOfMemory>
     ensures text { IfOk result (λ answer. answer.0.text ≡ decimal number ++ codes " " ++ told.text) }
     ensures seen { IfOk result (λ answer. answer.0.seen ≡ told.seen) }
@@ -55,7 +55,7 @@ fn one_answer(alloc: Global, number: u64, told: Told) -> Result<(Answer, u64), O
     Ok((Answer { text, seen }, refused))
 }
 
-/// Runs a line that is no burst and not on progress reports.
+/// Runs a line that is not a burst and not on progress reports.
 fn run_one<R: Threads + Sync, G: Gate, C: Reads + Drop + Send>(
     replication: &mut Replication<C>,
     rt: &R,
@@ -181,7 +181,8 @@ fn run_report<C: Reads + Drop>(
 }
 
 /// Runs a line of the text; gives its answer, and how many of its answers are refusals. In each world for which clusters
-/// and reports stand, the line answers this and makes this learned, and behind it they stand for the world that it leaves.
+/// and reports stand, the line answers this and makes this learned, and after it they represent the world that it
+/// leaves.
 pub(crate) fn run_line<R: Threads + Sync, G: Gate, C: Reads + Drop + Send>(
     replication: &mut Replication<C>,
     reports: &mut Reports,

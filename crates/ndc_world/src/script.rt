@@ -52,7 +52,7 @@ fn run_line<R: Threads + Sync, G: Gate, K: Sink, C: Reads + Drop + Send>(
     Ok(seen)
 }
 
-/// Puts these behind what was kept.
+/// Puts these after what was kept.
 fn keep(told: &mut Vec<Seen>, seen: Vec<Seen>) -> Result<(), OutOfMemory>
     ensures { OnOk result (told.new.items ≡ told.old.items ++ seen.items) }
 {
@@ -72,12 +72,11 @@ fn keep_where(keeps: bool, told: &mut Vec<Seen>, seen: Vec<Seen>) -> Result<(), 
     Ok(())
 }
 
-/// Runs a script on so many workers at most, behind the gate. The answers of each line are written in one piece as soon
-/// as it has run, and then those indexers are told of what it made learned that are told as a script runs. Behind the
-/// last line the late ones are told of all of it, and the lines of all indexers are written in one piece. The program ends
-/// then, so what the world holds by that time is not given back piece by piece.
-/// [`RunError::Write`] where a write failed, and only there, [`RunError::Memory`] where memory ran out: then a front of
-/// this was written.
+/// Runs a script on so many workers at most, through the gate. The answers of each line are written in one piece as
+/// soon as it has run, and then those indexers are told of what it made learned that are told as a script runs. After
+/// the last line the late ones are told of all of it, and the lines of all indexers are written in one piece. The
+/// program ends then, so what the world holds by that time is not given back piece by piece. [`RunError::Write`] where
+/// a write failed, and only there, [`RunError::Memory`] where memory ran out: then a prefix of this was written.
 pub fn run_script<R: Threads + Sync, G: Gate, K: Sink, C: Reads + Drop + Send>(
     rt: &R,
     alloc: Global,

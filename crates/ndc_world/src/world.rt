@@ -44,9 +44,9 @@ fn kept_queue<C: Reads + Drop>(
 }
 
 /// The world of a script that runs: all clusters with the links between them, and the greatest progress report of each
-/// activity that each cluster was told or took over. They stand for the world that the lines lead to. It counts the lines
-/// that were run, their answers and how many of these are refusals. After want of memory in a line or a settlement it is
-/// spent: it still counts its lines, and all other calls but `has_room` ask for one that is not.
+/// activity that each cluster was told or took over. They represent the world that the lines lead to. It counts the
+/// lines that were run, their answers and how many of these are refusals. After want of memory in a line or a
+/// settlement it is spent: it still counts its lines, and all other calls but `has_room` ask for one that is not.
 pub struct World<'a, C: Reads + Drop> {
     header: &'a Header,
     replication: Replication<C>,
@@ -118,7 +118,7 @@ impl<'a, C: Reads + Drop> World<'a, C> {
         })
     }
 
-    /// It stands for a world that its lines lead to: one that is as it should be after so many lines, in which what is
+    /// It represents a world that its lines lead to: one that is as it should be after so many lines, in which what is
     /// promised of clusters holds. Takes no time.
     pub fn is_reached(&self)
         requires { self.now.spent ≡ false }
@@ -209,8 +209,8 @@ impl<'a, C: Reads + Drop> World<'a, C> {
         publisher_of(&self.replication, cluster).letters().list()
     }
 
-    /// Runs a line of the text, on so many workers at most, behind the gate. The lines in a burst run side by side. No more
-    /// than 100,000 lines are run. After want of memory the world is spent.
+    /// Runs a line of the text, on so many workers at most, through the gate. The lines in a burst run side by side. No
+    /// more than 100,000 lines are run. After want of memory the world is spent.
     pub fn step<R: Threads + Sync, G: Gate>(
         &mut self,
         rt: &R,
@@ -250,8 +250,9 @@ impl<'a, C: Reads + Drop> World<'a, C> {
         Ok(answer)
     }
 
-    /// Settles all clusters, on so many workers at most, behind the gate: all that was written arrives everywhere where it
-    /// is due. It counts as one line. No more than 100,000 lines are run. After want of memory the world is spent.
+    /// Settles all clusters, on so many workers at most, through the gate: all that was written arrives everywhere
+    /// where it is due. It counts as one line. No more than 100,000 lines are run. After want of memory the world is
+    /// spent.
     pub fn settle<R: Threads + Sync, G: Gate>(
         &mut self,
         rt: &R,

@@ -58,7 +58,7 @@ next-name clusters members number done new all less made e =
     by true h = rw h refl
     by false h = rw h refl
 
--- behind the last number the names are those of the members
+-- after the last number the names are those of the members
 pub all-names : (clusters : ClusterList) (members : List ℕ) (number : ℕ) (done : List (List ℕ)) → number ≡ 8 → AreMembers members → done ++ names_from clusters members number ≡ names_from clusters members 0
     → done ≡ map (λ n. name_of clusters (cluster_no n)) members
 unfolding numbers numbers_where

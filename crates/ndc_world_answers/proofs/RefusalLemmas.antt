@@ -5,7 +5,7 @@ use Rattle.ndc_command.specs.declared.refusal.Refusal.TheVariants.{UnknownDomain
 use Rattle.ndc_model.specs.Texts.{refusal_words, refused}
 use Rattle.ndc_world_answers.specs.Refusals.{carried_version, refusal_name_of}
 
--- a name, and the version behind it, where there is one
+-- a name, and the version after it, where there is one
 abbrev pub with_version : List ℕ → Option ℕ → List (List ℕ)
 with_version name None = name ∷ []
 with_version name (Some version) = name ∷ decimal version ∷ []

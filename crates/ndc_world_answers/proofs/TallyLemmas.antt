@@ -10,7 +10,7 @@ use Rattle.ndc_model.specs.Steps.{applied_by, arrived_by, known_by, learned_by, 
 use Rattle.ndc_world_answers.specs.Tallies.{seen_by, with_notes, with_replies, with_reply}
 use Rattle.ndc_world_answers.specs.declared.tally.Tally.{Tally}
 
--- one more note in front
+-- one more note at the beginning
 more : (f : Note → ℕ) (note : Note) (notes : List Note) (before : ℕ) → before + sum (map f (note ∷ notes)) ≡ before + f note + sum (map f notes)
 more f note notes before = let whole : sum (map f (note ∷ notes)) ≡ f note + sum (map f notes) = sum_by-cons (λ n. n) (f note) (map f notes) in omega (arith, whole)
 
@@ -21,7 +21,7 @@ tally learned known put_off arrived applied = record { learned = learned; known 
 pub same-tally : (a b c d e v w x y z : ℕ) → a ≡ v → b ≡ w → c ≡ x → d ≡ y → e ≡ z → tally a b c d e ≡ tally v w x y z
 same-tally a b c d e v w x y z p q r s t = cc
 
--- a note in front is counted first
+-- a note at the beginning is counted first
 pub with-note : (note : Note) (notes : List Note) (t : Tally) → with_notes (note ∷ notes) t ≡ with_notes notes (with_reply note.job note.reply t)
 unfolding tally
 with-note note notes t =

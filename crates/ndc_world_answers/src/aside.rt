@@ -50,7 +50,8 @@ pub fn letters(
     header: &Header,
     letters: &[Letter],
 ) -> Result<AnswerText, OutOfMemory>
-    requires { AllByRecursion (λ letter. letter.source.number < count_of header.now.clusters) letters.now }
+    requires { AllByRecursion (λ letter.
+        letter.source.number < count_of header.now.clusters) letters.now }
     ensures { IfOk result (λ text. text ≡ letters_answer header.now letters.now) }
 {
     let mut text = count_line(alloc, letters.len() as u64)?;

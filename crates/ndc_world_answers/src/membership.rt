@@ -22,7 +22,9 @@ fn push_member<'a>(
     number: u32,
 ) -> Result<(), OutOfMemory>
     requires { AllByRecursion (λ number. number < count_of clusters.now) members }
-    ensures name { OnOk result (map (λ name. name.now) names.new.items ≡ map (λ name. name.now) names.old.items ++ names_at clusters.now members number) }
+    ensures name { OnOk result
+        (map (λ name. name.now) names.new.items ≡ map (λ name. name.now) names.old.items
+        ++ names_at clusters.now members number) }
     ensures ascending { AreMembers members }
 {
     let cluster = ClusterNo { number };
@@ -39,7 +41,9 @@ fn names<'a>(
     members: Members,
 ) -> Result<Vec<&'a Name>, OutOfMemory>
     requires { AllByRecursion (λ number. number < count_of clusters.now) members }
-    ensures { IfOk result (λ names. map (λ name. name.now) names.items ≡ map (λ number. name_of clusters.now (cluster_no number)) members) }
+    ensures { IfOk result (λ names.
+        map (λ name. name.now) names.items
+        ≡ map (λ number. name_of clusters.now (cluster_no number)) members) }
 {
     let mut names = Vec::new(alloc);
     for number in 0..8 {
@@ -48,9 +52,10 @@ fn names<'a>(
     Ok(names)
 }
 
-/// Appends names, each behind a comma.
+/// Appends names, each after a comma.
 fn push_further(text: &mut Vec<u8>, names: &[&Name]) -> Result<(), OutOfMemory>
-    ensures { OnOk result (text.new.items ≡ text.old.items ++ further (map (λ name. name.now) names.now)) }
+    ensures { OnOk result (text.new.items
+        ≡ text.old.items ++ further (map (λ name. name.now) names.now)) }
 {
     for name in names {
         text.extend_from_slice(b",")?;
@@ -77,7 +82,8 @@ pub fn members(
     header: &Header,
     known: Option<&DomainRecord>,
 ) -> Result<AnswerText, OutOfMemory>
-    requires { IfSome (option_copied known) (λ one. AllByRecursion (λ number. number < count_of header.now.clusters) one.members) }
+    requires { IfSome (option_copied known) (λ one.
+        AllByRecursion (λ number. number < count_of header.now.clusters) one.members) }
     ensures { IfOk result (λ text. text ≡ members_answer header.now (option_copied known.entry)) }
 {
     let Some(one) = known else {

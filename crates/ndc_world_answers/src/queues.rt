@@ -27,8 +27,10 @@ pub fn levels(
     levels: Levels,
     flight: u64,
 ) -> Result<AnswerText, OutOfMemory>
-    ensures { IfOk result (λ text. text ≡ ok (codes "queue" ∷ decimal queue ∷ codes "trimmed" ∷ decimal trimmed
-        ∷ codes "read" ∷ decimal levels.read ∷ codes "done" ∷ decimal levels.done ∷ codes "flight" ∷ decimal flight ∷ [])) }
+    ensures { IfOk result (λ text.
+        text ≡ ok (codes "queue" ∷ decimal queue ∷ codes "trimmed" ∷ decimal trimmed
+        ∷ codes "read" ∷ decimal levels.read ∷ codes "done" ∷ decimal levels.done ∷ codes "flight"
+        ∷ decimal flight ∷ [])) }
 {
     ok(
         alloc,
@@ -49,8 +51,10 @@ pub fn levels(
 
 /// What came of `work`.
 pub fn worked(alloc: Global, tally: Tally) -> Result<AnswerText, OutOfMemory>
-    ensures { IfOk result (λ text. text ≡ ok (codes "learned" ∷ decimal tally.learned ∷ codes "known" ∷ decimal tally.known
-        ∷ codes "putoff" ∷ decimal tally.put_off ∷ codes "reapplied" ∷ decimal tally.applied ∷ [])) }
+    ensures { IfOk result (λ text.
+        text ≡ ok (codes "learned" ∷ decimal tally.learned ∷ codes "known" ∷ decimal tally.known
+        ∷ codes "putoff" ∷ decimal tally.put_off ∷ codes "reapplied" ∷ decimal tally.applied
+        ∷ [])) }
 {
     ok(
         alloc,
@@ -69,7 +73,9 @@ pub fn worked(alloc: Global, tally: Tally) -> Result<AnswerText, OutOfMemory>
 
 /// What came of messages that arrived: `resend` and `mergeletters`.
 pub fn arrived(alloc: Global, tally: Tally) -> Result<AnswerText, OutOfMemory>
-    ensures { IfOk result (λ text. text ≡ ok (codes "arrived" ∷ decimal tally.arrived ∷ codes "learned" ∷ decimal tally.learned ∷ [])) }
+    ensures { IfOk result (λ text.
+        text ≡ ok (codes "arrived" ∷ decimal tally.arrived ∷ codes "learned" ∷ decimal tally.learned
+        ∷ [])) }
 {
     ok(
         alloc,
@@ -84,7 +90,8 @@ pub fn arrived(alloc: Global, tally: Tally) -> Result<AnswerText, OutOfMemory>
 
 /// What came of `bootstrap`, of so many domains.
 pub fn brought(alloc: Global, domains: u64, tally: Tally) -> Result<AnswerText, OutOfMemory>
-    ensures { IfOk result (λ text. text ≡ ok (codes "domains" ∷ decimal domains ∷ codes "arrived" ∷ decimal tally.arrived
+    ensures { IfOk result (λ text.
+        text ≡ ok (codes "domains" ∷ decimal domains ∷ codes "arrived" ∷ decimal tally.arrived
         ∷ codes "learned" ∷ decimal tally.learned ∷ [])) }
 {
     ok(
@@ -102,7 +109,9 @@ pub fn brought(alloc: Global, domains: u64, tally: Tally) -> Result<AnswerText, 
 
 /// What came of `settle`.
 pub fn settled(alloc: Global, tally: Tally) -> Result<AnswerText, OutOfMemory>
-    ensures { IfOk result (λ text. text ≡ ok (codes "learned" ∷ decimal tally.learned ∷ codes "reapplied" ∷ decimal tally.applied ∷ [])) }
+    ensures { IfOk result (λ text.
+        text ≡ ok (codes "learned" ∷ decimal tally.learned ∷ codes "reapplied"
+        ∷ decimal tally.applied ∷ [])) }
 {
     ok(
         alloc,
@@ -150,7 +159,8 @@ fn push_gap(text: &mut Vec<u8>, gap: &GapOf) -> Result<(), OutOfMemory>
 
 /// How many batches are put off, and a line for each.
 pub fn gaps(alloc: Global, gaps: &[GapOf]) -> Result<AnswerText, OutOfMemory>
-    ensures { IfOk result (λ text. text ≡ ok (decimal (length gaps.now) ∷ []) ++ flat_map gap_text gaps.now) }
+    ensures { IfOk result (λ text.
+        text ≡ ok (decimal (length gaps.now) ∷ []) ++ flat_map gap_text gaps.now) }
 {
     let mut text = count_line(alloc, gaps.len() as u64)?;
     for gap in gaps {

@@ -64,7 +64,8 @@ fn count_events(path: &[&Batch]) -> Result<u64, OutOfMemory>
 /// How many events the batches of a path have, and a line for each event.
 pub fn history(alloc: Global, path: &[&Batch]) -> Result<AnswerText, OutOfMemory>
     ensures { IfOk result (λ text. text
-        ≡ ok (decimal (length (history_of (map (λ b. b.now) path.now))) ∷ []) ++ flat_map event_line (history_of (map (λ b. b.now) path.now))) }
+        ≡ ok (decimal (length (history_of (map (λ b. b.now) path.now))) ∷ [])
+        ++ flat_map event_line (history_of (map (λ b. b.now) path.now))) }
 {
     let mut text = count_line(alloc, count_events(path)?)?;
     for batch in path {
@@ -93,7 +94,8 @@ fn push_run(alloc: Global, text: &mut Vec<u8>, run: &RunView) -> Result<(), OutO
 
 /// How many runs there are, and their lines with those of their branches.
 pub fn branches(alloc: Global, runs: &[RunView]) -> Result<AnswerText, OutOfMemory>
-    ensures { IfOk result (λ text. text ≡ ok (decimal (length runs.now) ∷ []) ++ flat_map run_lines runs.now) }
+    ensures { IfOk result (λ text.
+        text ≡ ok (decimal (length runs.now) ∷ []) ++ flat_map run_lines runs.now) }
 {
     let mut text = count_line(alloc, runs.len() as u64)?;
     for run in runs {
@@ -110,7 +112,8 @@ pub fn current(
     status: RunStatus,
     close: Option<CloseKind>,
 ) -> Result<AnswerText, OutOfMemory>
-    ensures { IfOk result (λ text. text ≡ ok (run_text run ∷ key_text tip ∷ status_text status close ∷ [])) }
+    ensures { IfOk result (λ text.
+        text ≡ ok (run_text run ∷ key_text tip ∷ status_text status close ∷ [])) }
 {
     let name = run.text(alloc)?;
     ok(
@@ -138,7 +141,9 @@ pub fn dump(
     workflow: &Name,
     view: &View,
 ) -> Result<AnswerText, OutOfMemory>
-    ensures { IfOk result (λ text. text ≡ ok (decimal (length view.now.batches) ∷ []) ++ dump_text domain.now workflow.now view.now) }
+    ensures { IfOk result (λ text.
+        text ≡ ok (decimal (length view.now.batches) ∷ [])
+        ++ dump_text domain.now workflow.now view.now) }
 {
     let mut text = count_line(alloc, view.batches.as_slice().len() as u64)?;
     text.extend_from_slice(dump_text(alloc, domain, workflow, view)?.as_slice())?;
@@ -147,7 +152,8 @@ pub fn dump(
 
 /// Whether two clusters show the same.
 pub fn compared(alloc: Global, is_same: bool) -> Result<AnswerText, OutOfMemory>
-    ensures { IfOk result (λ text. text ≡ ok ((if is_same then codes "same" else codes "differ") ∷ [])) }
+    ensures { IfOk result (λ text.
+        text ≡ ok ((if is_same then codes "same" else codes "differ") ∷ [])) }
 {
     if is_same {
         ok(alloc, &[Word::Plain("same")])

@@ -158,7 +158,8 @@ impl Tally {
     /// above 2^64 - 1, for which there is no memory, are said to be want of it.
     #[tactic(auto, using(crate::proofs::TallyLemmas::replies_as_notes))]
     pub fn add(&mut self, jobs: &[ShardJob], replies: &[JobReply]) -> Result<(), OutOfMemory>
-        ensures { OnOk result ((cluster : ClusterNo) → self.new ≡ with_notes (notes_of cluster jobs.now replies.now) self.old) }
+        ensures { OnOk result ((cluster : ClusterNo)
+            → self.new ≡ with_notes (notes_of cluster jobs.now replies.now) self.old) }
     {
         self.add_all(jobs, replies)?;
         Ok(())
@@ -216,7 +217,8 @@ pub fn add_seen(
     jobs: &[ShardJob],
     replies: Vec<JobReply>,
 ) -> Result<(), OutOfMemory>
-    ensures { OnOk result (seen.new.items ≡ seen.old.items ++ seen_of (notes_of cluster jobs.now replies.items)) }
+    ensures { OnOk result (seen.new.items
+        ≡ seen.old.items ++ seen_of (notes_of cluster jobs.now replies.items)) }
 {
     let mut answered = replies;
     answered.truncate(jobs.len());

@@ -6,7 +6,7 @@ use std::alloc::Global;
 use std::marker::Model;
 
 /// The text of an answer, which knows whether it is a refusal. Seen as its bytes. That of a line that wrote is made of the
-/// keys where it goes, behind its number.
+/// keys where it goes, after its number.
 #[derive(Drop)]
 pub struct AnswerText {
     written: Option<Written>,
@@ -23,10 +23,11 @@ impl Model for AnswerText {
 
     ghost view = { λ answer. text_of answer.written answer.text.items };
 
-    ghost invariant = { λ answer. answer.refused ≡ is_refusal (text_of answer.written answer.text.items) };
+    ghost invariant = { λ answer.
+        answer.refused ≡ is_refusal (text_of answer.written answer.text.items) };
 }
 
-/// How much memory a number and the space behind it take at most.
+/// How much memory a number and the space after it take at most.
 const NUMBER_ROOM: usize = 21;
 
 /// How much memory the keys of what was written are given: most have room in it.
@@ -91,9 +92,10 @@ impl AnswerText {
         self.refused
     }
 
-    /// Appends the answer behind the number of its line.
+    /// Appends the answer after the number of its line.
     pub fn push_behind_number(&self, text: &mut Vec<u8>, number: u64) -> Result<(), OutOfMemory>
-        ensures { OnOk result (text.new.items ≡ text.old.items ++ (decimal number ++ codes " " ++ self.now)) }
+        ensures { OnOk result (text.new.items
+            ≡ text.old.items ++ (decimal number ++ codes " " ++ self.now)) }
     {
         push_number(text, number)?;
         text.extend_from_slice(b" ")?;
@@ -103,7 +105,7 @@ impl AnswerText {
         }
     }
 
-    /// The answer behind the number of its line, in memory that is asked for once.
+    /// The answer after the number of its line, in memory that is asked for once.
     pub fn behind_number(&self, alloc: Global, number: u64) -> Result<Vec<u8>, OutOfMemory>
         ensures { IfOk result (λ text. text.items ≡ decimal number ++ codes " " ++ self.now) }
     {

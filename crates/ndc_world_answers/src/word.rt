@@ -22,7 +22,7 @@ pub(crate) enum Word<'a> {
     Key(BatchKey),
 }
 
-/// Appends a word behind a space.
+/// Appends a word after a space.
 fn push_word(text: &mut Vec<u8>, word: Word) -> Result<(), OutOfMemory>
     ensures { OnOk result (text.new.items ≡ text.old.items ++ (codes " " ++ word_text word.entry)) }
 {
@@ -35,7 +35,7 @@ fn push_word(text: &mut Vec<u8>, word: Word) -> Result<(), OutOfMemory>
     }
 }
 
-/// Appends words, each behind a space.
+/// Appends words, each after a space.
 fn push_words(text: &mut Vec<u8>, words: &[Word]) -> Result<(), OutOfMemory>
     ensures { OnOk result (text.new.items ≡ text.old.items ++ spaced (map word_text words.now)) }
 {
@@ -48,9 +48,10 @@ fn push_words(text: &mut Vec<u8>, words: &[Word]) -> Result<(), OutOfMemory>
 /// How much memory the first line of an answer is given at once: most have room in it.
 const ROOM: usize = 40;
 
-/// The first line of an answer: a word, and words behind it.
+/// The first line of an answer: a word, and words after it.
 fn line(alloc: Global, first: &'static str, words: &[Word]) -> Result<Vec<u8>, OutOfMemory>
-    ensures { IfOk result (λ text. text.items ≡ first.now ++ spaced (map word_text words.now) ++ codes "\n") }
+    ensures { IfOk result (λ text.
+        text.items ≡ first.now ++ spaced (map word_text words.now) ++ codes "\n") }
 {
     let mut text = Vec::with_capacity(alloc, ROOM)?;
     text.extend_from_slice(first.as_bytes())?;

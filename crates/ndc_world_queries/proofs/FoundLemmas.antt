@@ -11,7 +11,7 @@ use Rattle.ndc_model_cells.specs.Cells.{both}
 use Rattle.ndc_event.specs.declared.batch.Batch.{Batch}
 use Rattle.ndc_world_queries.specs.Summaries.{with_workflow}
 
--- the front with the next item
+-- the prefix with the next item
 take_next : {X : Type 0} (xs : List X) (n : ℕ) (x : X) → n < length xs → slice_get xs n ≡ Some x → take (n + 1) xs ≡ take n xs ++ x ∷ []
 take_next xs n x below got = take_more xs n x below ∙ ap (λ y. take n xs ++ y ∷ []) (get_or_from_slice_get xs n x x got)
 

@@ -44,7 +44,7 @@ shards_more f shard =
     sym (map-id (range_with_len 0 (shard + 1))) ∙ map-range_with_len_more (λ (k : ℕ). k) 0 shard shard at ∙ ap (λ (ks : List ℕ). ks ++ shard ∷ []) (map-id (range_with_len 0 shard)) in
     sym (ap (flat_map f) next ∙ flat_map-append f (range_with_len 0 shard) (shard ∷ []) ∙ ap (λ l. flat_map f (range_with_len 0 shard) ++ l) (append-nil (f shard)))
 
--- eight texts behind each other, and seven behind one
+-- eight texts after each other, and seven after one
 behind-one : (h x y n : List ℕ) → x ≡ h ++ y → x ++ n ≡ h ++ (y ++ n)
 behind-one h x y n e = ap (λ (l : List ℕ). l ++ n) e ∙ append_assoc h y n
 

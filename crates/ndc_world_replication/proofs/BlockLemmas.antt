@@ -11,7 +11,7 @@ use Rattle.ndc_model_cells.specs.Writing.{same_cluster}
 use Rattle.ndc_script_types.specs.Below.{clusters_below}
 use Rattle.ndc_world_replication.specs.Own.{blocks}
 
--- an item that passes, or does not, behind a list
+-- an item that passes, or does not, after a list
 kept-last : (p : ClusterNo → Bool) (xs : List ClusterNo) (x : ClusterNo) → p x ≡ true → length (filter p (xs ++ x ∷ [])) ≡ suc (length (filter p xs))
 kept-last p [] x e = rw e refl
 kept-last p (y ∷ ys) x e = by (p y) (kept-last p ys x e)
@@ -28,7 +28,7 @@ left-last p (y ∷ ys) x e = by (p y) (left-last p ys x e)
     by true rest = ap suc rest
     by false rest = rest
 
--- of the first clusters all differ from one behind them, and all but one from one of them
+-- of the first clusters all differ from one after them, and all but one from one of them
 all-others : (c : ClusterNo) (count : ℕ) → count ≤ c.number → length (filter (λ other. not (same_cluster c other)) (clusters_below count)) ≡ count
 all-others c zero most = refl
 all-others c (suc count) most =
@@ -94,7 +94,7 @@ module _ {L : Type 0} (reader_of : L → ClusterNo) (mk : ClusterNo → ClusterN
       (all-both (λ l. same_cluster (reader_of l) reader ≡ false) (flat count) (block (cluster_no count)) (flat-below reader count (omega (arith, most)))
       (block-other reader (cluster_no count) (ne_eqb count reader.number (λ same. absurd (omega (arith, same, most))))))
 
-  -- what the readers behind one have
+  -- what the readers after one have
   flat-behind : (reader : ClusterNo) (count : ℕ) → reader.number < count → (more : List L) × (flat count ≡ flat (suc reader.number) ++ more) × Others reader more
   flat-behind reader zero below = absurd (omega (arith, below))
   flat-behind reader (suc count) below = by (reader.number == count) refl (flat-behind reader count)
@@ -122,7 +122,7 @@ module _ {L : Type 0} (reader_of : L → ClusterNo) (mk : ClusterNo → ClusterN
         ∙ take-append_seam (flat reader.number) (block (cluster_no reader.number) ++ cut.0)))
         (flat-below reader reader.number (omega arith))
 
-    -- nor behind them
+    -- nor after them
     pub own_back : Others reader (drop (blocks reader.number m + m) (flat n))
     own_back =
         let cut = flat-behind reader n known in

@@ -41,7 +41,7 @@ module _ (desk : Desk) where
   chosen-same (suc count) shard cells others (asked ∷ jobs) same (inr (idle, chosen)) =
       inr (subst (IsIdle desk) (same shard (omega arith)) idle, chosen-same count (shard + 1) cells others (asked ∷ jobs) (λ at le. same at (omega (arith, le))) chosen)
 
-  -- behind the job of a shard, those of later shards are chosen as before
+  -- after the job of a shard, those of later shards are chosen as before
   chosen-behind : (count shard : ℕ) (cells : List Cell) (jobs : List ShardJob) → AreChosen desk cells count (shard + 1) jobs → AreChosen desk (cells_behind desk (reapplies shard) cells) count (shard + 1) jobs
   chosen-behind count shard cells jobs =
       chosen-same count (shard + 1) cells (cells_behind desk (reapplies shard) cells) jobs (λ at le. sym (other-there cells shard at (after_job desk Reapply (cell_for shard cells)) empty_cell (omega (arith, le))))
@@ -111,7 +111,7 @@ module _ (desk : Desk) where
     first-note : (shard : ℕ) (cells : List Cell) → IsIdle desk (cell_for shard cells) → record { cluster = cluster; job = Reapply; reply = reply_to desk Reapply (cell_for shard cells) } ≡ idle_note cluster
     first-note shard cells idle = ap (λ (reply : JobReply). record { cluster = cluster; job = Reapply; reply = reply }) idle.reply
 
-    -- what all later ones reply behind an idle cell
+    -- what all later ones reply after an idle cell
     behind : (shard count : ℕ) (cells : List Cell) → IsIdle desk (cell_for shard cells)
         → notes_of cluster (map reapplies (range_with_len (shard + 1) count)) (replies_to desk (map reapplies (range_with_len (shard + 1) count)) cells)
         ≡ notes_of cluster (map reapplies (range_with_len (shard + 1) count)) (replies_to desk (map reapplies (range_with_len (shard + 1) count)) (cells_behind desk (reapplies shard) cells))

@@ -78,7 +78,7 @@ due_there header w place link publisher queues it shard table same =
 pub none_other : (w : World) (reader : ClusterNo) (link : Link) (shard : ℕ) → same_cluster link.reader reader ≡ false → own_part (due w) reader shard link ≡ []
 none_other w reader link shard other = rw other refl
 
--- what is brought over the next link, and over those behind it
+-- what is brought over the next link, and over those after it
 next-part : (w : World) (reader : ClusterNo) (shard : ℕ) (links : List Link) (i : ℕ) (link : Link) → i < length links → link ≡ get_or links i link
     → by_link reader (due w) (drop i links) shard ≡ own_part (due w) reader shard link ++ by_link reader (due w) (drop (i + 1) links) shard
 next-part w reader shard links i link below is =

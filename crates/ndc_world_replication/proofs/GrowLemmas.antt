@@ -76,7 +76,7 @@ written-jobs home [] cell = stays cell.written
 written-jobs home (asked ∷ jobs) cell =
     goes-on cell.written (after_job home asked cell).written (cell_after home jobs (after_job home asked cell)).written (written-job home asked cell) (written-jobs home jobs (after_job home asked cell))
 
--- what is kept of a queue is the front of what goes on from the whole
+-- what is kept of a queue is the prefix of what goes on from the whole
 front-grown : (kept : QueueValue) (whole after : List Message) → IsRestOf kept whole → GoesOn whole after → IsFrontOf kept after
 front-grown kept whole after it grown =
     let same : take (queue_len kept) after ≡ whole =
@@ -84,7 +84,7 @@ front-grown kept whole after it grown =
     ∙ take-append-le (length whole) whole grown.0 (omega arith) ∙ take_all (length whole) whole (omega arith) in
     subst (IsRestOf kept) (sym same) it
 
--- behind jobs a cell has written no less
+-- after jobs a cell has written no less
 pub written_more : (home : Desk) (jobs : List ShardJob) (cells : List Cell) (shard : ℕ) → shard < length cells
     → length (cell_for shard cells).written ≤ length (cell_for shard (cells_after home jobs cells)).written
 written_more home jobs cells shard below =
@@ -93,7 +93,7 @@ written_more home jobs cells shard below =
     ap length grown.1 ∙ length-append (cell_for shard cells).written grown.0 in
     omega (arith, more, ap (λ (cell : Cell). length cell.written) (cell_by_itself home jobs cells shard below))
 
--- behind jobs what is kept of each queue is the front of what its cell has written
+-- after jobs what is kept of each queue is the prefix of what its cell has written
 pub fronts_after : (home : Desk) (jobs : List ShardJob) (cells : List Cell) (queues : List QueueValue) → AreTied cells queues
     → AreFronts queues (λ shard. (cell_for shard (cells_after home jobs cells)).written)
 fronts_after home jobs cells queues tied shard below =
@@ -122,7 +122,7 @@ module _ (queues new : List QueueValue) (at : ℕ) (whole : ℕ → List Message
   pub firsts_then : (queue_at new at).first ≡ (queue_at queues at).first → map (λ (queue : QueueValue). queue.first) new ≡ map (λ (queue : QueueValue). queue.first) queues
   firsts_then same = ap (map (λ (queue : QueueValue). queue.first)) other ∙ map-set_same (λ (queue : QueueValue). queue.first) queues at (queue_at new at) new_queue same
 
-  -- what is kept of each queue is still a front
+  -- what is kept of each queue is still a prefix
   pub fronts_then : length new ≡ length queues → AreFronts queues whole → AreFronts new whole
   fronts_then many fronts k below = by (k == at) refl
     where

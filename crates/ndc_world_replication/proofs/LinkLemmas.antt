@@ -185,13 +185,13 @@ holds_there header reader source w publishers links handovers place link publish
     }
 
 module _ (reader source : ClusterNo) (w : World) (place : ℕ) (link : Link) (it : IsFound reader source w.links place link) where
-  -- the world behind a pull
+  -- the world after a pull
   pub pulled_world : (new : Link) → new ≡ pulled_link w link → record w { links = set w.links place new } ≡ pulled_all reader source w
   unfolding pulled_all
   pulled_world new same =
       ap (λ (links : List Link). record w { links = links }) (ap (set w.links place) same ∙ sym (changed_there reader source w place link it (pulled_link w)))
 
-  -- the world behind a pull for one shard
+  -- the world after a pull for one shard
   pub pulled_some_world : (shard count : ℕ) (new : Link) → new ≡ with_lane_in shard (pulled_lane w (Some count) link shard (lane_in link shard)) link
       → record w { links = set w.links place new } ≡ pulled_shard reader source shard count w
   unfolding pulled_shard
@@ -258,7 +258,7 @@ not_nowhere header w reader source shaped two none =
 pub other_link : (w : World) (reader : ClusterNo) (link : Link) → same_cluster link.reader reader ≡ false → renewed_link w reader link ≡ link
 other_link w reader link other = rw other refl
 
--- behind the last link, all levels of the reader are renewed
+-- after the last link, all levels of the reader are renewed
 pub renewed_all : (reader : ClusterNo) (w : World) (publishers : List PublisherValue) (links : List Link) (handovers : List Handover) (place : ℕ) → world_of publishers w.links handovers ≡ w
     → links ≡ map (renewed_link w reader) (take place w.links) ++ drop place w.links → length w.links ≤ place → world_of publishers links handovers ≡ renewed w reader
 unfolding renewed

@@ -19,7 +19,7 @@ use Rattle.ndc_world_replication.proofs.QuietLemmas.{no_domain_jobs}
 use Rattle.ndc_world_replication.proofs.WorkLemmas.{no_job_done}
 use Rattle.ndc_world_replication.specs.OnTime.{IsOnTime}
 
--- what is dropped behind a front that passes does not begin with one that passes
+-- what is dropped after a prefix that passes does not begin with one that passes
 front-once : {X : Type 0} (p : X → Bool) (xs : List X) → prefix_len p (drop (prefix_len p xs) xs) ≡ 0
 front-once p [] = refl
 front-once p (x ∷ xs) = by (p x) refl (front-once p xs)

@@ -52,7 +52,7 @@ module _ (header : Header) (w : World) (shaped : IsShaped header w) (reader : Cl
       (subst (λ (n : ℕ). AreOthers reader (take n (opening_world header).links)) (sym is)
       (own_front (λ (link : Link). link.reader) (new_link header) (λ a b. refl) (count_of header.clusters) reader known others one))
 
-  -- nor behind them
+  -- nor after them
   pub back_others : (place : ℕ) → place ≡ blocks reader.number others + others → AreOthers reader (drop place w.links)
   back_others place is =
       others-by reader (drop place w.links) (drop place (opening_world header).links)
@@ -81,7 +81,7 @@ pub front_stays : (w : World) (reader : ClusterNo) (place : ℕ) (links : List L
 front_stays w reader place links others =
     sym (ap (λ (front : List Link). front ++ drop place links) (others_stay w reader (take place links) others) ∙ take-append-drop place links)
 
--- behind the last of them all levels of the reader are renewed
+-- after the last of them all levels of the reader are renewed
 pub own_renewed : (reader : ClusterNo) (w : World) (publishers : List PublisherValue) (links : List Link) (handovers : List Handover) (place : ℕ) → world_of publishers w.links handovers ≡ w
     → links ≡ map (renewed_link w reader) (take place w.links) ++ drop place w.links → AreOthers reader (drop place w.links) → world_of publishers links handovers ≡ renewed w reader
 unfolding renewed

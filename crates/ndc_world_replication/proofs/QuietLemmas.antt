@@ -31,7 +31,7 @@ emptied_quiet reader link quiet = by (same_cluster link.reader reader) refl
     by true own = rw own quiet
     by false other = rw other refl
 
--- the next link stays, and those behind it
+-- the next link stays, and those after it
 pub quiet_links_more : (reader : ClusterNo) (links : List Link) (i : ℕ) (link : Link) → i < length links → link ≡ get_or links i link → emptied reader link ≡ link
     → map (emptied reader) (drop (i + 1) links) ≡ drop (i + 1) links → map (emptied reader) (drop i links) ≡ drop i links
 quiet_links_more reader links i link below is still rest =

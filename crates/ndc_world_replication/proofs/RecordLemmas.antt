@@ -38,7 +38,7 @@ pub record Quiet (before after : List DomainRecord) : Type 0 where
   pub put : after ≡ put_record new before
   pub stays : (reader : ClusterNo) (old : DomainRecord) → record_of before new.name ≡ Some old → has_member new.members reader.number ≡ true → has_member old.members reader.number ≡ true
 
--- what an answer behind two tests tells of the second
+-- what an answer after two tests tells of the second
 second_test : {X E : Type 0} (a b : Bool) (e1 e2 : E) (r : Result X E) (y : X) → cond a (Err e1) (cond b (Err e2) r) ≡ Ok y → b ≡ false
 second_test true b e1 e2 r y h = absurd (cc)
 second_test false true e1 e2 r y h = absurd (cc)
@@ -108,7 +108,7 @@ module _ (publishers : List PublisherValue) (links : List Link) (handovers : Lis
       (quiet_links cluster publisher.cluster.table quiet.new table.ordered quiet.stays links ∙ ap (λ (records : List DomainRecord). map (with_late cluster publisher.cluster.table records) links) (sym quiet.put))
       ∙ table_change publishers links handovers cluster publisher below at after
 
-  -- the world behind an answer, by the cluster whose records are changed
+  -- the world after an answer, by the cluster whose records are changed
   behind : (old new : World) (after : PublisherValue) → w ≡ old → after ≡ with_publisher_table after.cluster.table publisher → new ≡ world_of (set publishers cluster.number after) links handovers
       → IsTable publisher.cluster.table → Quiet publisher.cluster.table after.cluster.table → new ≡ with_table cluster after.cluster.table old
   behind old new after same rest is table quiet =

@@ -74,7 +74,7 @@ emptied_own reader shard link own = rw own refl
 
 -- ---- shard by shard
 
--- in the beginning nothing is emptied, and behind the last shard all is
+-- in the beginning nothing is emptied, and after the last shard all is
 pub emptied_none : (reader : ClusterNo) (link : Link) → link ≡ emptied_below reader 0 link
 emptied_none reader link = by (same_cluster link.reader reader) refl
   where

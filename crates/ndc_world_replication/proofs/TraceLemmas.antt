@@ -28,7 +28,7 @@ pub step_more : {Y : Type 0} (step : Y → ClusterNo → Y) (y z : Y) (xs : List
 step_more {Y = Y} step y z xs i below new =
     ap (λ (v : Y). fold step v (drop (i + 1) xs)) new ∙ sym (at_drop_more (fold step y) xs i (record { number = 0 }) below)
 
--- behind the last step all are done
+-- after the last step all are done
 pub step_all : {X Y : Type 0} (step : Y → X → Y) (y z : Y) (xs : List X) (i : ℕ) → fold step y (drop i xs) ≡ z → length xs ≤ i → y ≡ z
 step_all step y z xs i kept past = sym (ap (fold step y) (drop_all i xs past)) ∙ kept
 
@@ -103,7 +103,7 @@ module _ (header : Header) (reader source : ClusterNo) (w v u : World) (jobs : L
 
 -- ---- settlement
 
--- two rounds behind a world in which nothing is in flight, and then all levels are renewed
+-- two rounds after a world in which nothing is in flight, and then all levels are renewed
 pub settled_trace : (header : Header) (w emptied first second last : World) (none once twice : List Done) → emptied ≡ without_flights w → none ≡ [] → trace_of first once ≡ settled_once header (trace_of emptied none)
     → trace_of second twice ≡ settled_once header (trace_of first once) → last ≡ fold renewed second (all_clusters header) → trace_of last twice ≡ after_settlement header w
 unfolding after_settlement

@@ -29,7 +29,7 @@ use Rattle.ndc_world_replication.specs.Replications.{StandsAt, world_of}
 use Rattle.ndc_world_replication.specs.Orderly.{AreLevelsKept, IsOrderly}
 use Rattle.ndc_world_replication.specs.Trims.{dropped_now, raised_level, with_trimmed}
 
--- the least of levels that do not lie behind a queue's end
+-- the least of levels that do not lie beyond a queue's end
 least-of : (queue : List Message) (levels : List ℕ) → AllByRecursion (λ done. done ≤ length queue) levels → fold min (length queue) levels ≡ trim_level queue levels
 least-of queue [] most = refl
 least-of queue (done ∷ levels) most = let same : min (length queue) done ≡ done = omega (arith, most.0) in ap (λ (n : ℕ). fold min n levels) same
@@ -48,7 +48,7 @@ places-from {Y = Y} f from (x ∷ xs) all same =
     ∙ places-from f (from + 1) xs all (λ i below. let place : from + 1 + i ≡ from + suc i = omega arith in ap (λ (n : ℕ). slice_index_or all n 0) place ∙ same (suc i) (omega (arith, below))))
 
 module _ (header : Header) (w : World) (source : ClusterNo) (known : IsCluster header source) (it : IsOrderly header w) where
-  -- the readers of a source are not done behind its queue's end
+  -- the readers of a source are not done beyond its queue's end
   levels-most : (shard : ℕ) → shard < header.shards → (links : List Link) → AllByRecursion (λ link. (k : ℕ) → k < header.shards → AreLevelsKept w link k (lane_in link k)) links
       → AllByRecursion (λ done. done ≤ length (world.queue_at source shard w)) (done_levels source shard links)
   levels-most shard below [] each = tt

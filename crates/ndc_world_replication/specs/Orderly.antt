@@ -6,7 +6,7 @@ use Rattle.ndc_model.specs.Queues.{Lane}
 use Rattle.ndc_model.specs.World.{Link, World, queue_at, trimmed_at}
 use Rattle.ndc_queue.specs.Levels.{AreLevels}
 
--- nothing is trimmed that is not done, nothing is done that was not read, and nothing was read behind the queue's end
+-- nothing is trimmed that is not done, nothing is done that was not read, and nothing was read beyond the queue's end
 pub record AreLevelsKept (w : World) (link : Link) (shard : ℕ) (lane : Lane) : Type 0 where
   pub trimmed_most : trimmed_at link.source w shard ≤ lane.levels.done
   pub levels : AreLevels (queue_at link.source shard w) lane.levels

@@ -70,7 +70,8 @@ impl<C: Cell + Drop> Replication<C> {
     }
 
     /// Takes the message at one place in flight from a source to a reader, for a shard, out and puts it back so that it
-    /// stands at another. Refused exactly where one of both is no place, and then all stays as it was. Takes no memory.
+    /// stands at another. Refused exactly where one of the two is not a place, and then all stays as it was. Takes no
+    /// memory.
     pub fn move_to(
         &mut self,
         reader: ClusterNo,

@@ -47,9 +47,10 @@ pub struct Worked {
 }
 
 impl<C: Cell + Drop> Replication<C> {
-    /// The cells of a cluster do jobs side by side, on so many workers at most, behind the gate; where there is no job, no
-    /// worker enters it. The cells and the replies are those of the jobs done one after the other. The shard of each job is that of a cell, and each job may be done
-    /// by the cell that the jobs before it leave. After want of memory the cluster has no cells.
+    /// The cells of a cluster do jobs side by side, on so many workers at most, through the gate; where there is no
+    /// job, no worker enters it. The cells and the replies are those of the jobs done one after the other. The shard of
+    /// each job is that of a cell, and each job may be done by the cell that the jobs before it leave. After want of
+    /// memory the cluster has no cells.
     pub fn do_jobs<R: Threads + Sync, G: Gate>(
         &mut self,
         rt: &R,
@@ -77,8 +78,8 @@ impl<C: Cell + Drop> Replication<C> {
         publisher.round(rt, alloc, gate, workers, &home, jobs)
     }
 
-    /// A cell of a cluster does one job, behind the gate, as [`Replication::do_jobs`] says. After want of memory the cluster has no
-    /// cells.
+    /// A cell of a cluster does one job, through the gate, as [`Replication::do_jobs`] says. After want of memory the
+    /// cluster has no cells.
     pub fn do_one<R: Threads + Sync, G: Gate>(
         &mut self,
         rt: &R,

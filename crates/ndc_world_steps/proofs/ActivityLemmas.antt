@@ -44,7 +44,7 @@ abbrev first-id : List Item → ℕ
 first-id [] = 0
 first-id (item ∷ items) = item.id
 
--- what comes first in the version history of events that follow an id is behind it
+-- what comes first in the version history of events that follow an id is after it
 first-behind : (last : ℕ) (events : List Event) (item : Item) (items : List Item) → follow_from last events ≡ true → versions_of events ≡ item ∷ items → last < item.id
 first-behind last [] item items f e = absurd (cc)
 first-behind last (event ∷ events) item items f e = by (versions_of events) (first-behind event.id events) e

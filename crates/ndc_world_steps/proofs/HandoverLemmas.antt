@@ -1,4 +1,4 @@
--- Handovers that are found, and worlds behind them.
+-- Handovers that are found, and worlds after them.
 use Rattle.std.proofs.Common.{◌≡◌, Bool, true, false, List, [], ◌∷◌, Option, Some, find, length, is_some, refl, sym, ◌∙◌, ap, subst, if◌then◌else◌}
 use Rattle.std.specs.Prelude.{codes}
 use Rattle.std.specs.List.{AllByRecursion}
@@ -18,7 +18,7 @@ use Rattle.ndc_model.specs.World.{Link, World, cluster_at, is_link, link_at, lin
 use Rattle.ndc_model_sets.proofs.Lists.{all-among, find-among}
 use Rattle.ndc_world_steps.specs.Links.{is_handover_to}
 
--- there are as many clusters behind a handover
+-- there are as many clusters after a handover
 pub over_length : (handover : Handover) (w : World) → length (handed_over handover w).clusters ≡ length w.clusters
 unfolding with_table
 over_length handover w = set-length w.clusters handover.to.number _

@@ -61,7 +61,7 @@ orderly-letters header w reader letters it known = record {
         set-cases (λ (c : Cluster). length (cell_for shard c.cells).written ≡ length (queue_at source shard w)) w.clusters reader.number source.number (record (cluster_at reader w) { letters = letters }) (new_cluster 0)
         (λ own. ap (λ (n : ℕ). length (cell_for shard (slice_index_or w.clusters n (new_cluster 0)).cells).written) (sym own)) refl
 
--- behind the arrival of their messages
+-- after the arrival of their messages
 pub merged_orderly : (header : Header) (w v : World) (reader : ClusterNo) (jobs : List ShardJob) → IsOrderly header w → IsCluster header reader → v ≡ with_letters reader [] (jobs_done header reader jobs (from_world w)).world
     → IsOrderly header v
 merged_orderly header w v reader jobs it known e =

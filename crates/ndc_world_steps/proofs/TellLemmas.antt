@@ -1,4 +1,4 @@
--- Counts of jobs, one list of notes behind another.
+-- Counts of jobs, one list of notes after another.
 use Rattle.std.proofs.Common.{◌≡◌, ℕ, ◌+◌, List, [], ◌∷◌, ◌++◌, map, sum, refl, ◌∙◌, ap, arith}
 use Rattle.std.specs.List.{flat_map}
 use Rattle.std.proofs.lemmas.Grind.{flat_map-append}
@@ -26,7 +26,7 @@ tally learned known put_off arrived applied = record { learned = learned; known 
 same-tally : (a b c d e v w x y z : ℕ) → a ≡ v → b ≡ w → c ≡ x → d ≡ y → e ≡ z → tally a b c d e ≡ tally v w x y z
 same-tally a b c d e v w x y z p q r s t = cc
 
--- of jobs that were done, counted behind others
+-- of jobs that were done, counted after others
 pub counts_more : (done : Done) (dones : List Done) (t : Tally) → with_notes (flat_map notes_in (done ∷ dones)) t ≡ with_notes (flat_map notes_in dones) (with_notes (notes_in done) t)
 unfolding tally
 counts_more done dones t =

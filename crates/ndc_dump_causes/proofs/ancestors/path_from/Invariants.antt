@@ -6,7 +6,7 @@ use Rattle.ndc_tree.proofs.VersionLemmas.{rank}
 use Rattle.ndc_tree.proofs.ReadingLemmas.{Walks}
 use Rattle.ndc_dump_causes.proofs.ancestors.path_from.Given as goal
 
--- the path to the next batch, and behind it the batches gone over, newest first
+-- the path to the next batch, and after it the batches gone over, newest first
 abbrev pub invariant-loop-next : goal.invariant-loop-next
 invariant-loop-next l = Walks l.batches path_of (option_copied l.next) (map (λ b. b.now) l.path.items) (path_from l.fn.wanted l.batches)
 

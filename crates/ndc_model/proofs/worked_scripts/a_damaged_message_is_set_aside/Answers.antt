@@ -25,7 +25,7 @@ use Rattle.ndc_text.specs.Read.{read_of}
 use Rattle.ndc_text.specs.Text.{batch_text, with_attributes}
 use Rattle.ndc_model.proofs.worked_scripts.a_damaged_message_is_set_aside.Goals as goal
 
--- the first thirty bytes of the message hold no number, and are no JSON
+-- the first thirty bytes of the message hold no number, and are not JSON
 pub returns-clause-again : goal.returns-clause-again
 unfolding taken_of act_step command_step reset_step with_table pulled_all pulled_shard renewed rewound trimmed_all jobs_done flights_arrived reapplied_all worked resent bootstrapped due_arrived settled_once after_settlement letters_merged shard_of may_write command_of reapplication_of reset_at arrival_of arrived_at learned_by after_job outcome_of learned_in cells_after replies_to row plan_of start_of plan_below written judged_at within refuse numbers numbers_where kind_name refusal_words read_of batch_text with_attributes escape_byte content lex punctuate value chars is_utf8 encode_utf8
 returns-clause-again c = refl

@@ -54,7 +54,7 @@ line_text-requires-clause-lines g c κs inside =
 pub returns-in_err-text-clause-front : goal.returns-in_err-text-clause-front
 returns-in_err-text-clause-front g c = on_err _ c.from_residual-in_err-text.result (Sent_stop _ _ _ _ c.loop-line.invariant.way.sent)
 
--- of what belongs to a line a front was written
+-- of what belongs to a line a prefix was written
 pub returns-in_err-write_all-clause-front : goal.returns-in_err-write_all-clause-front
 returns-in_err-write_all-clause-front g c =
     let written = g.K.Sink.written in
@@ -109,7 +109,7 @@ loop-line-preserved g c =
 pub returns-in_err-push_answers-clause-front : goal.returns-in_err-push_answers-clause-front
 returns-in_err-push_answers-clause-front g c = on_err _ c.from_residual-in_err-push_answers.result (Sent_stop _ _ _ _ c.loop-line.invariant.way.sent)
 
--- of the answers behind the last line a front was written
+-- of the answers after the last line a prefix was written
 pub returns-in_err-write_all-2-clause-front : goal.returns-in_err-write_all-2-clause-front
 returns-in_err-write_all-2-clause-front g c =
     let written = g.K.Sink.written in

@@ -4,7 +4,7 @@ use Rattle.ndc_reapply.proofs.StrayLemmas.{strays_of-put, strays_of-skip}
 use Rattle.ndc_reapply.proofs.order.unsettled.Goals as goal
 use Rattle.ndc_reapply.proofs.order.unsettled.Goals.{then-not-is_settled+in_ok-try_copy+in_ok-put, else-not-is_settled}
 
--- the signal at the place goes to those behind it, unless its origin is settled
+-- the signal at the place goes to those after it, unless its origin is settled
 pub loop-taken-preserved : goal.loop-taken-preserved
 loop-taken-preserved c =
     let count = length c.args.signals.now in

@@ -26,7 +26,7 @@ returns-in-Err-clause-unknown g c = λ e.
     let seated = seated_chosen _ c.args.index.now c.args.late.now _ _ c.requires.differ c.in-Ok.ensures.chosen in
     absurd (false≢true (sym e ∙ seated.both_known))
 
--- behind the choice of indexers none was refused
+-- after the choice of indexers none was refused
 pub returns-in-Ok-run_script-clause-unknown : goal.returns-in-Ok-run_script-clause-unknown
 returns-in-Ok-run_script-clause-unknown g c = λ e.
     let seated = seated_chosen _ c.args.index.now c.args.late.now _ _ c.requires.differ c.in-Ok.ensures.chosen in

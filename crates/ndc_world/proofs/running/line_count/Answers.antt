@@ -6,7 +6,7 @@ use Rattle.ndc_script_types.specs.declared.script.Act.TheVariants as act
 use Rattle.ndc_script_types.specs.declared.script.BurstJob.{BurstJob}
 use Rattle.ndc_world.proofs.running.line_count.Goals as goal
 
--- what is no burst stands for one line
+-- what is not a burst is one line
 one-line : (number : ℕ) (asked : Act) → ((cluster : ClusterNo) (jobs : List BurstJob) → asked ≡ act.Burst cluster jobs → ⊥) → 1 ≡ length (lines_of_act number asked)
 one-line number (act.Command cluster domain workflow command) other = refl
 one-line number (act.Burst cluster jobs) other = absurd (other cluster jobs refl)

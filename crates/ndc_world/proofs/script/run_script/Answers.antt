@@ -39,7 +39,7 @@ loop-line-init g c =
       faults = omega arith;
     }
 
--- of the answers of a line a front was written
+-- of the answers of a line a prefix was written
 pub returns-in_err-seen-clause-front : goal.returns-in_err-seen-clause-front
 returns-in_err-seen-clause-front g c =
     let written = g.K.Sink.written in
@@ -131,7 +131,7 @@ returns-in_err-lines-clause-front g c =
     let written = g.K.Sink.written in
     on_err _ c.from_residual-in_err-lines.result (front_answers c.args.script.now _ _ (written c.args.out.now) (written c.loop-line.out) (Sent_stop _ _ _ _ c.loop-line.invariant.way.sent))
 
--- a front of the lines of seats was written
+-- a prefix of the lines of seats was written
 pub returns-in_err-write_all-clause-front : goal.returns-in_err-write_all-clause-front
 returns-in_err-write_all-clause-front g c =
     let written = g.K.Sink.written in

@@ -5,7 +5,7 @@ use Rattle.ndc_model_cells.specs.Jobs.{cells_behind}
 use Rattle.ndc_cluster.proofs.TurnLemmas.{one_done}
 use Rattle.ndc_cluster.proofs.cells.Cells.do_one.Goals as goal
 
--- the cell at the shard is the one behind the job, and all others stay
+-- the cell at the shard is the one after the job, and all others stay
 pub returns-clause-cells : goal.returns-clause-cells
 returns-clause-cells g c =
     let below : c.args.asked.now.shard < length c.self.inside.cells.items =

@@ -5,7 +5,7 @@ use Rattle.ndc_rebuild.specs.Kept.{kept_at}
 use Rattle.ndc_rebuild.proofs.PathLemmas.{IsFoundAt-place, lent-at, lent-none}
 use Rattle.ndc_rebuild.proofs.checkpoints.Checkpoints.last_kept.Goals as goal
 
--- the batch before the place is kept, and none behind it
+-- the batch before the place is kept, and none after it
 pub returns-in-Some : goal.returns-in-Some
 returns-in-Some c =
     let at = lent-at (λ b. b.now) c.args.path.now (c.loop-count.count - 1) c.index-path-count.result c.index-path-count.is in

@@ -7,7 +7,7 @@ use Rattle.ndc_rebuild.specs.Rebuilt.{HaveSmallIds}
 use Rattle.ndc_rebuild.proofs.PathLemmas.{HaveSmallIds-drop, replay-parts, steps-parts, events_behind-none, CountsWithin-le, allowed_count-le}
 use Rattle.ndc_rebuild.proofs.checkpoints.Checkpoints.restore_along.Goals as goal
 
--- those behind have small ids, since all have
+-- those after it have small ids, since all have
 pub replay_batches-requires : goal.replay_batches-requires
 replay_batches-requires g c =
     subst HaveSmallIds (drop-map (λ b. b.now) c.in-Some.found.0 c.args.path.now ∙ ap (map (λ b. b.now)) (sym c.split_at.ensures.back))
@@ -41,7 +41,7 @@ returns-in-Err-clause-most_steps g c =
     c.args.steps.now c.replay_batches.new.steps (map (λ b. b.now) c.split_at.result.1.now) c.in_ok-state.state
     (ap (map (λ b. b.now)) c.split_at.ensures.back ∙ sym (drop-map (λ b. b.now) c.in-Some.found.0 c.args.path.now)) c.in-Err.ensures.most_steps
 
--- nothing is kept, so all events are behind
+-- nothing is kept, so all events come after it
 pub returns-in-None-clause-most_steps : goal.returns-in-None-clause-most_steps
 returns-in-None-clause-most_steps g c =
     subst (λ (es : List Event). CountsWithin c.args.steps.now (length es) c.rebuild_along.new.steps) (sym (events_behind-none c.args.self.now.states (map (λ b. b.now) c.args.path.now) c.in-None.ensures))

@@ -5,7 +5,7 @@ use Rattle.ndc_tree.proofs.VersionLemmas.{rank}
 use Rattle.ndc_tree.proofs.ReadingLemmas.{Walks}
 use Rattle.ndc_tree.proofs.tree.Tree.items_by_walk.Given as goal
 
--- the items up to the next batch, and behind them those gone over, newest first
+-- the items up to the next batch, and after them those gone over, newest first
 abbrev pub invariant-loop-next : goal.invariant-loop-next
 invariant-loop-next l = Walks l.self.batches items_of (option_copied l.next) l.items.items (items_of (Some l.batch) l.self.batches)
 
